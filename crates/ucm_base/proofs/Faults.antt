@@ -1,0 +1,43 @@
+-- Faults of texts.
+use Rattle.std.proofs.Common.{◌≡◌, ◌<◌, ◌↔◌, ℕ, zero, suc, List, [], ◌∷◌, Bool, true, false, cond, Some, None, Result, Ok, Err, refl, sym, ◌∙◌, ap, true≢false, arith}
+use Rattle.std.specs.Prelude.{slice_index}
+use Rattle.std.specs.List.{list_all}
+use Rattle.std.specs.Result.{is_ok}
+use Rattle.std.specs.Str.{IsUtf8}
+use Rattle.std.proofs.lemmas.Str.{IsUtf8-from_ascii}
+use Rattle.semver.specs.declared.error.Error.{Error}
+use Rattle.semver.specs.Parse.{IsRefused, memory_error}
+use Rattle.semver.proofs.Segments.{and-left, and-right}
+use Rattle.ucm_base.specs.Short.{is_short, is_visible}
+use Rattle.ucm_base.specs.declared.versions.TextFault.{TextFault}
+use Rattle.ucm_base.specs.declared.versions.TextFault.TheVariants.{BadText, OutOfMemory}
+use Rattle.ucm_base.proofs.Memory.{Plain, not_memory}
+
+visible-ascii : (x : ℕ) → is_visible x ≡ true → x < 128
+visible-ascii x h = grind arith
+
+ascii : (xs : List ℕ) → list_all is_visible xs ≡ true → (i : ℕ) → slice_index xs i < 128
+ascii [] h i = omega arith
+ascii (x ∷ xs) h zero = visible-ascii x (and-left (is_visible x) (list_all is_visible xs) h)
+ascii (x ∷ xs) h (suc i) = ascii xs (and-right (is_visible x) (list_all is_visible xs) h) i
+
+pub short-utf8 : (xs : List ℕ) → is_short xs ≡ true → IsUtf8 xs
+short-utf8 xs h = IsUtf8-from_ascii xs (ascii xs (and-right _ (list_all is_visible xs) h))
+
+some_only : (b : Bool) (t xs : List ℕ) → Some t ≡ cond b (Some xs) None → b ≡ true
+some_only true t xs h = refl
+some_only false t xs h = cc h
+
+pub short-found : (t xs : List ℕ) → Some t ≡ cond (is_short xs) (Some xs) None → is_short xs ≡ true
+short-found t xs h = some_only (is_short xs) t xs h
+
+same_error : {T : Type 0} (e k : Error) → ◌≡◌ {A = Result T Error} (Err e) (Err k) → e ≡ k
+same_error e k h = ap (λ r. elim r [ Ok x ↦ k | Err z ↦ z ]) h
+
+no_memory : {A : Type 0} (T : Type 0) (r : Result A Error) (e : Error) → is_ok r ≡ false → Plain r → IsRefused {T = T} r (Err e) → e ≡ memory_error → ⊥
+no_memory T (Ok x) e bad plain refused m = true≢false bad
+no_memory T (Err k) e bad plain refused m = not_memory (Err k) plain (ap Err (sym (same_error e k refused) ∙ m))
+
+pub bad-fault : {A : Type 0} (T : Type 0) (r : Result A Error) (e : Error) (f : TextFault) → (f ≡ OutOfMemory) ↔ (e ≡ memory_error) → is_ok r ≡ false → Plain r → IsRefused {T = T} r (Err e) → f ≡ BadText
+bad-fault T r e BadText iff bad plain refused = refl
+bad-fault T r e OutOfMemory iff bad plain refused = absurd (no_memory T r e bad plain refused (iff.0 refl))

@@ -1,0 +1,101 @@
+//! Blocks of bytes, and what a software package says of itself.
+ghost use Rattle.std.specs.Prelude.{◌≡◌, ◌<◌, ◌≤◌, ◌^◌, length};
+ghost use Rattle.ucm_base.specs.Limits.{need_limit};
+
+use crate::{ClusterName, ReqText, VersionText};
+use std::marker::Model;
+
+/// Fewer than 2^32 bytes, seen as their list.
+#[derive(Drop)]
+pub struct Block {
+    bytes: Vec<u8>,
+}
+
+impl Model for Block {
+    ghost use Rattle.std.specs.Prelude.{ℕ, List, ◌<◌, ◌^◌, length};
+
+    ghost Value = { List ℕ };
+
+    ghost view = { λ a. a.bytes.items };
+
+    ghost invariant = { λ a. length a.bytes.items < 2 ^ 32 };
+}
+
+impl Block {
+    /// The block of these bytes. It takes no memory.
+    pub fn of(bytes: Vec<u8>) -> Block
+        requires { length bytes.items < 2 ^ 32 }
+        ensures { result ≡ bytes.items }
+    {
+        Block { bytes }
+    }
+
+    /// The bytes.
+    pub fn as_slice(&self) -> &[u8]
+        ensures bytes { result.now ≡ self.now }
+        ensures form { length self.now < 2 ^ 32 }
+    {
+        self.bytes.as_slice()
+    }
+}
+
+/// What a package does to its cluster.
+#[derive(Clone, Copy, Debug, PartialEq, Eq)]
+pub enum Action {
+    Install,
+    Update,
+    Remove,
+}
+
+/// A cluster that is needed, at a version that the requirement accepts.
+#[derive(Drop)]
+pub struct Need {
+    pub name: ClusterName,
+    pub req: ReqText,
+}
+
+/// At most 16 needs, seen as their list.
+#[derive(Drop)]
+pub struct Needs {
+    items: Vec<Need>,
+}
+
+impl Model for Needs {
+    ghost use Rattle.std.specs.Prelude.{List, ◌≤◌, length};
+    ghost use Rattle.ucm_base.specs.declared.parts.Need.{Need};
+
+    ghost Value = { List Need };
+
+    ghost view = { λ a. a.items.items };
+
+    ghost invariant = { λ a. length a.items.items ≤ 16 };
+}
+
+impl Needs {
+    /// The list of these needs. It takes no memory.
+    pub fn of(items: Vec<Need>) -> Needs
+        requires { length items.items ≤ need_limit }
+        ensures { result ≡ items.items }
+    {
+        Needs { items }
+    }
+
+    /// The needs, in order.
+    pub fn as_slice(&self) -> &[Need]
+        ensures needs { result.now ≡ self.now }
+        ensures form { length self.now ≤ need_limit }
+    {
+        self.items.as_slice()
+    }
+}
+
+/// What a software package says of itself.
+#[derive(Drop)]
+pub struct Manifest {
+    pub action: Action,
+    pub name: ClusterName,
+    pub version: VersionText,
+    pub needs: Needs,
+    /// The SHA-256 of the payload.
+    pub sha256: [u8; 32],
+}
