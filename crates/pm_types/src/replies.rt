@@ -1,0 +1,134 @@
+//! What a node answers: to a numbered call, and to a request for one unit of work.
+ghost use Rattle.std.specs.Prelude.{◌≡◌, ◌<◌, ◌≤◌, ◌++◌, ◌∷◌, [], length};
+ghost use Rattle.ucm_base.specs.Limits.{transfer_limit};
+
+use crate::{Outcome, Status};
+use std::marker::Model;
+use ucm_base::{CallNo, ClientId, ClusterName, ShortText};
+
+/// Why a call is refused; its number and its words are those that scripts print.
+#[derive(Clone, Copy)]
+pub enum Refusal {
+    InsufficientMemory,
+    IncorrectSize,
+    InvalidTransferId,
+    OperationNotPermitted,
+    IncorrectBlock,
+    InsufficientData,
+    PackageInconsistent {
+        /// The place of the first field that isn't right, in bytes from the package's start.
+        place: u64,
+    },
+    InvalidManifest,
+    ServiceBusy,
+    OldVersion,
+    MissingDependencies {
+        cluster: ClusterName,
+        needed: ClusterName,
+        req: ShortText,
+    },
+    ActionNotApplicable,
+    TooManyClusters,
+    ClusterAlreadyChanged,
+}
+
+/// The node's session, as Sync shows it.
+#[derive(Clone, Copy, Debug, PartialEq, Eq)]
+pub struct SessionMark {
+    pub owner: ClientId,
+    pub tag: u32,
+    pub status: Status,
+}
+
+/// How a client's last session ended.
+#[derive(Clone, Copy, Debug, PartialEq, Eq)]
+pub struct EndMark {
+    pub tag: u32,
+    pub outcome: Outcome,
+}
+
+/// At most 8 ids of transfers, seen as their list.
+#[derive(Clone, Copy)]
+pub struct IdList {
+    ids: [u32; 8],
+    len: usize,
+}
+
+impl Model for IdList {
+    ghost use Rattle.std.specs.Prelude.{ℕ, List, length, take};
+    ghost use Rattle.ucm_base.specs.Padding.{IsPadded, padded, padded-again};
+
+    ghost Value = { List ℕ };
+
+    ghost view = { λ s. take s.len s.ids };
+
+    ghost invariant = { λ s. IsPadded 8 s.ids s.len };
+
+    ghost inverse = { λ xs. record { ids = padded 8 xs; len = length xs } };
+
+    ghost inverse_ok = { λ s h i. record { ids = padded-again 8 s.ids s.len h i; len = h.0 i } };
+}
+
+impl IdList {
+    /// No id.
+    pub fn new() -> IdList
+        ensures { result ≡ [] }
+    {
+        IdList {
+            ids: [0; 8],
+            len: 0,
+        }
+    }
+
+    /// Adds an id behind the others.
+    pub fn push(&mut self, id: u32)
+        requires { length self.old < transfer_limit }
+        ensures { self.new ≡ self.old ++ id ∷ [] }
+    {
+        self.ids[self.len] = id;
+        self.len += 1;
+    }
+
+    /// The ids, in order.
+    pub fn as_slice(&self) -> &[u32]
+        ensures ids { result.now ≡ self.now }
+        ensures form { length self.now ≤ transfer_limit }
+    {
+        &self.ids[..self.len]
+    }
+}
+
+/// What Sync shows a client.
+#[derive(Clone, Copy)]
+pub struct Synced {
+    /// The node's session, whoever owns it.
+    pub session: Option<SessionMark>,
+    /// How this client's last session ended.
+    pub ended: Option<EndMark>,
+    /// This client's transfers, by rising ids.
+    pub transfers: IdList,
+}
+
+/// The reply to a numbered call.
+#[derive(Clone, Copy)]
+pub enum Reply {
+    Done,
+    Started { id: u32 },
+    Synced(Synced),
+    Refused(Refusal),
+}
+
+/// What became of a numbered call: it was executed, it repeats the newest one, or it is older than that.
+#[derive(Clone, Copy)]
+pub enum Reached {
+    Done(Reply),
+    Again(Reply),
+    Stale { last: CallNo },
+}
+
+/// What became of a request for one unit of work.
+#[derive(Clone, Copy, Debug, PartialEq, Eq)]
+pub enum Worked {
+    Unit { passed: bool, after: Status },
+    Nothing { status: Status },
+}

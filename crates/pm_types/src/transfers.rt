@@ -1,0 +1,18 @@
+//! Transfers of software packages, apart from their bytes.
+
+use crate::Phase;
+use ucm_base::ClientId;
+
+/// What the transfer table reads and writes of a transfer.
+#[derive(Clone, Copy, Debug, PartialEq, Eq)]
+pub struct Header {
+    pub id: u32,
+    pub client: ClientId,
+    /// The bytes that the package has.
+    pub size: u64,
+    /// The bytes that came so far.
+    pub received: u64,
+    /// The counter that the next block carries; the first is 1.
+    pub next_counter: u64,
+    pub phase: Phase,
+}
