@@ -11,6 +11,7 @@ mod history;
 mod queries;
 mod replies;
 mod status;
+mod text;
 mod transfers;
 
 pub use calls::{Call, CallName};

@@ -1,6 +1,7 @@
 //! What a node answers: to a numbered call, and to a request for one unit of work.
 ghost use Rattle.std.specs.Prelude.{◌≡◌, ◌<◌, ◌≤◌, ◌++◌, ◌∷◌, [], length};
 ghost use Rattle.ucm_base.specs.Limits.{transfer_limit};
+ghost use Rattle.pm_types.specs.Refusals.{refusal_code};
 
 use crate::{Outcome, Status};
 use std::marker::Model;
@@ -30,6 +31,30 @@ pub enum Refusal {
     ActionNotApplicable,
     TooManyClusters,
     ClusterAlreadyChanged,
+}
+
+impl Refusal {
+    /// The refusal's number, 1 to 14.
+    pub fn code(&self) -> u8
+        ensures { result ≡ refusal_code self.now }
+    {
+        match self {
+            Refusal::InsufficientMemory => 1,
+            Refusal::IncorrectSize => 2,
+            Refusal::InvalidTransferId => 3,
+            Refusal::OperationNotPermitted => 4,
+            Refusal::IncorrectBlock => 5,
+            Refusal::InsufficientData => 6,
+            Refusal::PackageInconsistent { .. } => 7,
+            Refusal::InvalidManifest => 8,
+            Refusal::ServiceBusy => 9,
+            Refusal::OldVersion => 10,
+            Refusal::MissingDependencies { .. } => 11,
+            Refusal::ActionNotApplicable => 12,
+            Refusal::TooManyClusters => 13,
+            Refusal::ClusterAlreadyChanged => 14,
+        }
+    }
 }
 
 /// The node's session, as Sync shows it.

@@ -1,28 +1,12 @@
 -- Faults of texts.
 use Rattle.std.proofs.Common.{◌≡◌, ◌<◌, ◌↔◌, ℕ, zero, suc, List, [], ◌∷◌, Bool, true, false, cond, Some, None, Result, Ok, Err, refl, sym, ◌∙◌, ap, true≢false, arith}
-use Rattle.std.specs.Prelude.{slice_index}
-use Rattle.std.specs.List.{list_all}
 use Rattle.std.specs.Result.{is_ok}
-use Rattle.std.specs.Str.{IsUtf8}
-use Rattle.std.proofs.lemmas.Str.{IsUtf8-from_ascii}
 use Rattle.semver.specs.declared.error.Error.{Error}
 use Rattle.semver.specs.Parse.{IsRefused, memory_error}
-use Rattle.semver.proofs.Segments.{and-left, and-right}
-use Rattle.ucm_base.specs.Short.{is_short, is_visible}
+use Rattle.ucm_base.specs.Short.{is_short}
 use Rattle.ucm_base.specs.declared.versions.TextFault.{TextFault}
 use Rattle.ucm_base.specs.declared.versions.TextFault.TheVariants.{BadText, OutOfMemory}
 use Rattle.ucm_base.proofs.Memory.{Plain, not_memory}
-
-visible-ascii : (x : ℕ) → is_visible x ≡ true → x < 128
-visible-ascii x h = grind arith
-
-ascii : (xs : List ℕ) → list_all is_visible xs ≡ true → (i : ℕ) → slice_index xs i < 128
-ascii [] h i = omega arith
-ascii (x ∷ xs) h zero = visible-ascii x (and-left (is_visible x) (list_all is_visible xs) h)
-ascii (x ∷ xs) h (suc i) = ascii xs (and-right (is_visible x) (list_all is_visible xs) h) i
-
-pub short-utf8 : (xs : List ℕ) → is_short xs ≡ true → IsUtf8 xs
-short-utf8 xs h = IsUtf8-from_ascii xs (ascii xs (and-right _ (list_all is_visible xs) h))
 
 some_only : (b : Bool) (t xs : List ℕ) → Some t ≡ cond b (Some xs) None → b ≡ true
 some_only true t xs h = refl

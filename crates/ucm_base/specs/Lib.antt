@@ -6,3 +6,4 @@ pub mod Short
 pub mod Versions
 pub mod Parts
 pub mod Needs
+pub mod Text

@@ -3,6 +3,7 @@ ghost use Rattle.std.specs.Prelude.{◌≡◌, ◌<◌, ◌≤◌, ◌&&◌, Som
 ghost use Rattle.ucm_base.specs.Limits.{client_limit, node_limit};
 
 use crate::limits::{CLIENT_LIMIT, NODE_LIMIT};
+use std::fmt;
 use std::marker::Model;
 
 /// A client of a node, 0 to 31, seen as its number. Client 0 is the master.
@@ -43,6 +44,18 @@ impl ClientId {
         ensures form { result < client_limit }
     {
         self.number
+    }
+}
+
+impl fmt::Display for ClientId {
+    ghost use Rattle.std.specs.Prelude.{Some};
+    ghost use Rattle.std.specs.Fmt.{decimal};
+
+    ghost output = { λ n. Some (decimal n) };
+
+    fn fmt<W: fmt::Write>(&self, f: &mut fmt::Formatter<W>) -> fmt::Result {
+        let number = self.number;
+        write!(f, "{number}")
     }
 }
 
@@ -110,5 +123,17 @@ impl CallNo {
         } else {
             None
         }
+    }
+}
+
+impl fmt::Display for CallNo {
+    ghost use Rattle.std.specs.Prelude.{Some};
+    ghost use Rattle.ucm_base.specs.Text.{call_no_text};
+
+    ghost output = { λ n. Some (call_no_text n) };
+
+    fn fmt<W: fmt::Write>(&self, f: &mut fmt::Formatter<W>) -> fmt::Result {
+        let CallNo { epoch, number } = *self;
+        write!(f, "{epoch}.{number}")
     }
 }

@@ -8,6 +8,7 @@ ghost use Rattle.ucm_base.specs.Name.{begins_with_letter, is_cluster_name, is_le
 
 use std::cmp::Ordering;
 use std::marker::Model;
+use std::{fmt, str};
 
 const LIMIT: usize = 32;
 
@@ -106,6 +107,27 @@ impl ClusterName {
         ensures form { is_cluster_name self.now ≡ true }
     {
         &self.bytes[..self.len]
+    }
+
+    /// The name.
+    pub fn as_str(&self) -> &str
+        ensures { result.now ≡ self.now }
+    {
+        match str::from_utf8(self.as_bytes()) {
+            Ok(text) => text,
+            Err(_) => unreachable!(),
+        }
+    }
+}
+
+impl fmt::Display for ClusterName {
+    ghost use Rattle.std.specs.Prelude.{Some};
+
+    ghost output = { λ text. Some text };
+
+    fn fmt<W: fmt::Write>(&self, f: &mut fmt::Formatter<W>) -> fmt::Result {
+        let text = self.as_str();
+        write!(f, "{text}")
     }
 }
 

@@ -1,4 +1,5 @@
-use Rattle.ucm_base.proofs.Faults.{short-found, short-utf8}
+use Rattle.ucm_base.proofs.Ascii.{short-utf8}
+use Rattle.ucm_base.proofs.Faults.{short-found}
 use Rattle.ucm_base.proofs.versions.VersionText.of.Goals as goal
 
 pub returns-in_default-from_utf8-clause-bad : goal.returns-in_default-from_utf8-clause-bad
