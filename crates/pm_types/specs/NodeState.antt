@@ -1,6 +1,5 @@
 -- What a node is, apart from where its bytes lie.
 use Rattle.std.specs.Prelude.{ℕ, Bool, true, false, ◌==◌, List, Option, Some, None, slice_index_or}
-use Rattle.ucm_base.specs.declared.ids.CallNo.{CallNo}
 use Rattle.ucm_base.specs.Parts.{Bytes}
 use Rattle.pm_types.specs.declared.clusters.Cluster.{Cluster}
 use Rattle.pm_types.specs.declared.clusters.Part.{Part}
@@ -12,7 +11,7 @@ use Rattle.pm_types.specs.declared.status.Phase.TheVariants.{Transferring, Trans
 use Rattle.pm_types.specs.declared.status.Outcome.{Outcome}
 use Rattle.pm_types.specs.declared.replies.EndMark.{EndMark}
 use Rattle.pm_types.specs.declared.transfers.Header.{Header}
-use Rattle.pm_types.specs.declared.replies.Reply.{Reply}
+use Rattle.pm_types.specs.declared.state.Kept.{Kept}
 use Rattle.pm_types.specs.declared.history.Line.{Line}
 
 -- a transfer; `parts` is what its bytes are a package of, from phase Transferred on, and [] before
@@ -34,11 +33,6 @@ pub record SessionOf (C : Type 0) : Type 0 where
 
 abbrev pub Session : Type 0
 Session = SessionOf Bytes
-
--- a client's last number, and the reply that is kept for it
-pub record Kept : Type 0 where
-  pub no : CallNo
-  pub reply : Reply
 
 -- a node whose clusters' contents and whose transfers are kept in some way;
 -- `last` and `ended` have a place for each client, `lines` are the newest of the history

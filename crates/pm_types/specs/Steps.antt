@@ -19,7 +19,8 @@ use Rattle.pm_types.specs.declared.replies.Reply.{Reply}
 use Rattle.pm_types.specs.declared.replies.Reply.TheVariants.{Done, Started, Synced as SyncedTo, Refused}
 use Rattle.pm_types.specs.declared.replies.Synced.{Synced}
 use Rattle.pm_types.specs.declared.history.Line.{Line}
-use Rattle.pm_types.specs.NodeState.{NodeState, Kept, of_client}
+use Rattle.pm_types.specs.declared.state.Kept.{Kept}
+use Rattle.pm_types.specs.NodeState.{NodeState, of_client}
 use Rattle.pm_types.specs.Refusals.{first_refusal, refusal_code}
 use Rattle.pm_types.specs.Sessions.{session_refusals, process_refusal, activate_refusal, cancel_refusals, begin_processing, stop_processing, led_by}
 use Rattle.pm_types.specs.Transfers.{Verdict, transfer_of, header_of, ids_of, start_refusals, data_refusals, exit_refusals, delete_refusals, verdict_refusal, started, with_block, exited, deleted}

@@ -1,33 +1,42 @@
 -- A node's state as it is stored: where the bytes lie in place of the bytes.
-use Rattle.std.specs.Prelude.{◌≡◌, ℕ, length, if◌then◌else◌, ◌<◌, ◌≤◌, Bool, true, not, ◌&&◌, ◌==◌, IsTrue, IfSome, List, [], ◌∷◌, ◌++◌, take, map, option_map, slice_index_or, Option}
+use Rattle.std.specs.Prelude.{◌≡◌, ℕ, length, if◌then◌else◌, ◌<◌, ◌≤◌, Bool, true, not, ◌&&◌, ◌==◌, IsTrue, IfSome, List, [], ◌∷◌, ◌++◌, take, map, option_map, slice_index_or, replicate, Option, None}
 use Rattle.std.specs.Bool.{beq}
 use Rattle.std.specs.List.{list_all, AllByRecursion}
 use Rattle.std.specs.Option.{option_map_or}
 use Rattle.std.specs.Str.{bytes_eq}
 use Rattle.ucm_base.specs.declared.parts.Action.{Action}
 use Rattle.ucm_base.specs.declared.parts.Action.TheVariants.{Install, Update, Remove}
-use Rattle.ucm_base.specs.Limits.{transfer_limit, cluster_limit, package_limit}
+use Rattle.ucm_base.specs.Limits.{client_limit, transfer_limit, cluster_limit, package_limit}
 use Rattle.ucm_base.specs.Parts.{Bytes}
 use Rattle.pm_types.specs.declared.clusters.Change.{Change}
 use Rattle.pm_types.specs.declared.clusters.Cluster.{Cluster}
 use Rattle.pm_types.specs.declared.clusters.Extent.{Extent}
-use Rattle.pm_types.specs.declared.transfers.Header.{Header}
+use Rattle.pm_types.specs.declared.state.StoredTransfer.{StoredTransfer}
 use Rattle.pm_types.specs.declared.clusters.Part.{Part}
 use Rattle.pm_types.specs.declared.status.Phase.TheVariants.{Transferring}
+use Rattle.pm_types.specs.declared.status.Status.TheVariants.{Idle}
 use Rattle.pm_types.specs.NodeState.{NodeOf, SessionOf, NodeState, Session, Transfer, is_in}
 use Rattle.pm_types.specs.Clusters.{cluster_at, cluster_of}
 use Rattle.pm_types.specs.Histories.{Reading}
 use Rattle.pm_types.specs.Transfers.{parts_read}
 use Rattle.pm_types.specs.Validity.{IsValid, RunsWhatItShould}
 
--- a stored transfer: its slot, and its package's parts with the lengths of their payloads
-pub record StoredTransfer : Type 0 where
-  pub header : Header
-  pub slot : ℕ
-  pub contents : List (Part ℕ)
-
 abbrev pub State : Type 0
 State = NodeOf Extent StoredTransfer
+
+-- a node on which these clusters run, and nothing has happened
+abbrev pub fresh_state : List (Cluster Extent) → State
+fresh_state clusters = record {
+  status = Idle;
+  next_id = 1;
+  running = clusters;
+  transfers = [];
+  session = None;
+  last = replicate client_limit None;
+  ended = replicate client_limit None;
+  entries = 0;
+  lines = [];
+}
 
 -- what lies in the transfer slots, and on the two sides of each place
 pub record Areas : Type 0 where

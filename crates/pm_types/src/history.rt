@@ -1,8 +1,14 @@
 //! A node's history: its entries, and the lines that it keeps of the newest.
+ghost use Rattle.std.specs.Prelude.{◌≡◌, ◌∷◌, ◌++◌, [], IfOk};
+ghost use Rattle.pm_types.specs.Steps.{newest};
 
 use crate::{Call, CallName, Reply, Status};
+use circular_buffer::HeapCircularBuffer;
+use std::alloc::{AllocError, Global};
 use std::marker::Model;
 use ucm_base::{CallNo, ClientId};
+
+const LIMIT: usize = 256;
 
 /// One event of a node's history.
 #[derive(Drop)]
@@ -54,4 +60,38 @@ impl Model for LineList {
     ghost Value = { List Line };
 
     ghost view = { λ a. a.items.items };
+}
+
+/// The newest 256 lines, seen as their list. It has room for them from its making.
+#[derive(Drop)]
+pub struct NewestLines {
+    ring: HeapCircularBuffer<Line>,
+}
+
+impl Model for NewestLines {
+    ghost use Rattle.std.specs.Prelude.{List, ◌≡◌};
+    ghost use Rattle.pm_types.specs.declared.history.Line.{Line};
+
+    ghost Value = { List Line };
+
+    ghost view = { λ s. s.ring.items };
+
+    ghost invariant = { λ s. s.ring.capacity ≡ 256 };
+}
+
+impl NewestLines {
+    /// No line.
+    pub fn new(alloc: Global) -> Result<NewestLines, AllocError>
+        ensures { IfOk result (λ s. s ≡ []) }
+    {
+        let ring = HeapCircularBuffer::with_capacity(alloc, LIMIT)?;
+        Ok(NewestLines { ring })
+    }
+
+    /// Adds a line, in place of the oldest where there are 256. It takes no memory.
+    pub fn push(&mut self, place: u64, happened: Happened)
+        ensures { self.new ≡ newest (self.old ++ record { place = place; happened = happened } ∷ []) }
+    {
+        self.ring.push_back(Line { place, happened });
+    }
 }

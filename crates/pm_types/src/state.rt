@@ -1,0 +1,219 @@
+//! A node's state as it is kept: where the bytes lie in place of the bytes.
+ghost use Rattle.std.specs.Prelude.{◌≡◌, ◌<◌, ◌++◌, ◌∷◌, [], None, length, IfOk, replicate};
+ghost use Rattle.pm_types.specs.Stored.{fresh_state};
+ghost use Rattle.ucm_base.specs.Limits.{transfer_limit};
+
+use crate::{Change, Cluster, EndMark, Extent, Header, NewestLines, Outcome, Part, Reply, Status};
+use std::alloc::{AllocError, Global};
+use std::marker::Model;
+use ucm_base::{CallNo, ClientId};
+
+/// A client's last number, and the reply that is kept for it.
+#[derive(Clone, Copy)]
+pub struct Kept {
+    pub no: CallNo,
+    pub reply: Reply,
+}
+
+/// The parts of a package with the lengths of their payloads, seen as their list.
+#[derive(Drop)]
+pub struct PartList {
+    items: Vec<Part<u32>>,
+}
+
+impl Model for PartList {
+    ghost use Rattle.std.specs.Prelude.{ℕ, List};
+    ghost use Rattle.pm_types.specs.declared.clusters.Part.{Part};
+
+    ghost Value = { List (Part ℕ) };
+
+    ghost view = { λ a. a.items.items };
+}
+
+impl PartList {
+    /// The list of these parts. It takes no memory.
+    pub fn of(items: Vec<Part<u32>>) -> PartList
+        ensures { result ≡ items.items }
+    {
+        PartList { items }
+    }
+}
+
+/// A transfer, with the slot in which its bytes lie.
+#[derive(Drop)]
+pub struct StoredTransfer {
+    pub header: Header,
+    /// 0 to 7.
+    pub slot: u8,
+    /// The parts of the package that its bytes are, once they are whole; none before.
+    pub contents: PartList,
+}
+
+/// The transfers of a node, by rising ids, seen as their list. It has room for eight from its making.
+#[derive(Drop)]
+pub struct TransferList {
+    items: Vec<StoredTransfer>,
+}
+
+impl Model for TransferList {
+    ghost use Rattle.std.specs.Prelude.{List, ◌≤◌, length, vec_capacity};
+    ghost use Rattle.pm_types.specs.declared.state.StoredTransfer.{StoredTransfer};
+
+    ghost Value = { List StoredTransfer };
+
+    ghost view = { λ a. a.items.items };
+
+    ghost invariant = { λ a. (length a.items.items ≤ 8) × (8 ≤ vec_capacity a.items) };
+}
+
+impl TransferList {
+    /// No transfer.
+    pub fn new(alloc: Global) -> Result<TransferList, AllocError>
+        ensures { IfOk result (λ list. list ≡ []) }
+    {
+        let items = Vec::with_capacity(alloc, 8)?;
+        Ok(TransferList { items })
+    }
+
+    /// Adds a transfer behind the others. It takes no memory.
+    pub fn push(&mut self, transfer: StoredTransfer)
+        requires { length self.old < transfer_limit }
+        ensures { self.new ≡ self.old ++ transfer ∷ [] }
+    {
+        self.items.push(transfer).unwrap();
+    }
+}
+
+/// Installed clusters in order of name, with where their contents lie, seen as their list.
+#[derive(Drop)]
+pub struct Clusters {
+    items: Vec<Cluster<Extent>>,
+}
+
+impl Model for Clusters {
+    ghost use Rattle.std.specs.Prelude.{List};
+    ghost use Rattle.pm_types.specs.declared.clusters.Cluster.{Cluster};
+    ghost use Rattle.pm_types.specs.declared.clusters.Extent.{Extent};
+
+    ghost Value = { List (Cluster Extent) };
+
+    ghost view = { λ a. a.items.items };
+}
+
+impl Clusters {
+    /// The list of these clusters. It takes no memory.
+    pub fn of(items: Vec<Cluster<Extent>>) -> Clusters
+        ensures { result ≡ items.items }
+    {
+        Clusters { items }
+    }
+}
+
+/// Planned changes in order, with where their payloads lie, seen as their list.
+#[derive(Drop)]
+pub struct Changes {
+    items: Vec<Change<Extent>>,
+}
+
+impl Model for Changes {
+    ghost use Rattle.std.specs.Prelude.{List};
+    ghost use Rattle.pm_types.specs.declared.clusters.Change.{Change};
+    ghost use Rattle.pm_types.specs.declared.clusters.Extent.{Extent};
+
+    ghost Value = { List (Change Extent) };
+
+    ghost view = { λ a. a.items.items };
+}
+
+/// A node's session, from an accepted ProcessSwPackage in Idle to its clean-up.
+#[derive(Drop)]
+pub struct Session {
+    pub owner: ClientId,
+    /// The campaign's number where the owner is the master, else 0.
+    pub tag: u32,
+    /// The clusters that ran at its beginning.
+    pub saved: Clusters,
+    pub changes: Changes,
+    /// The id of the transfer in processing.
+    pub processing: Option<u32>,
+    /// The units of work done of the transfer in processing, or of the one that was processed last.
+    pub units_done: u32,
+    /// The changes verified so far.
+    pub verified: u8,
+    /// How it ends, once that is known.
+    pub outcome: Option<Outcome>,
+}
+
+impl Model for Session {
+    ghost use Rattle.pm_types.specs.declared.clusters.Extent.{Extent};
+    ghost use Rattle.pm_types.specs.NodeState.{SessionOf};
+
+    ghost Value = { SessionOf Extent };
+
+    ghost view = { λ x. record {
+      owner = x.owner;
+      tag = x.tag;
+      saved = x.saved;
+      changes = x.changes;
+      processing = x.processing;
+      units_done = x.units_done;
+      verified = x.verified;
+      outcome = x.outcome;
+    } };
+}
+
+/// A node's state, without contents.
+#[derive(Drop)]
+pub struct State {
+    pub status: Status,
+    pub next_id: u32,
+    pub running: Clusters,
+    pub transfers: TransferList,
+    pub session: Option<Session>,
+    /// For each client its last number and the reply to it.
+    pub last: [Option<Kept>; 32],
+    /// For each client how its last session ended.
+    pub ended: [Option<EndMark>; 32],
+    /// The entries of the history so far.
+    pub entries: u64,
+    pub lines: NewestLines,
+}
+
+impl Model for State {
+    ghost use Rattle.pm_types.specs.declared.clusters.Extent.{Extent};
+    ghost use Rattle.pm_types.specs.declared.state.StoredTransfer.{StoredTransfer};
+    ghost use Rattle.pm_types.specs.NodeState.{NodeOf};
+
+    ghost Value = { NodeOf Extent StoredTransfer };
+
+    ghost view = { λ s. record {
+      status = s.status;
+      next_id = s.next_id;
+      running = s.running;
+      transfers = s.transfers;
+      session = s.session;
+      last = s.last;
+      ended = s.ended;
+      entries = s.entries;
+      lines = s.lines;
+    } };
+}
+
+impl State {
+    /// The state of a node on which these clusters run, and nothing has happened.
+    pub fn fresh(alloc: Global, running: Clusters) -> Result<State, AllocError>
+        ensures { IfOk result (λ s. s ≡ fresh_state running) }
+    {
+        Ok(State {
+            status: Status::Idle,
+            next_id: 1,
+            running,
+            transfers: TransferList::new(alloc)?,
+            session: None,
+            last: [None; 32],
+            ended: [None; 32],
+            entries: 0,
+            lines: NewestLines::new(alloc)?,
+        })
+    }
+}
