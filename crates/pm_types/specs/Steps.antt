@@ -147,6 +147,16 @@ abbrev pub by_last : NodeState → NodeState × Reached → CallNo → Option Ke
 by_last s done call_no None = done
 by_last s done call_no (Some kept) = by_order s done kept (call_no_cmp call_no kept.no)
 
+-- what a call gives that isn't newer than its client's last one
+abbrev pub repeat_by : Kept → Ordering → Option Reached
+repeat_by kept Less = Some (Stale kept.no)
+repeat_by kept Equal = Some (Again kept.reply)
+repeat_by kept Greater = None
+
+abbrev pub repeat_of : CallNo → Option Kept → Option Reached
+repeat_of call_no None = None
+repeat_of call_no (Some kept) = repeat_by kept (call_no_cmp call_no kept.no)
+
 -- one numbered call
 abbrev pub step : NodeState → ℕ → CallNo → Call → Verdict → NodeState × Reached
 step s client call_no call verdict = by_last s (executed s client call_no call verdict) call_no (of_client s.last client)

@@ -1,5 +1,8 @@
 //! The numbered calls of a node.
 
+ghost use Rattle.std.specs.Prelude.{◌≡◌};
+ghost use Rattle.pm_types.specs.Steps.{name_of};
+
 use ucm_base::Block;
 
 /// A numbered call.
@@ -32,4 +35,25 @@ pub enum CallName {
     Rollback,
     RevertProcessedSwPackages,
     Cancel,
+}
+
+impl Call {
+    /// Which call it is.
+    pub fn name(&self) -> CallName
+        ensures { result ≡ name_of self.now }
+    {
+        match self {
+            Call::Sync => CallName::Sync,
+            Call::TransferStart { .. } => CallName::TransferStart,
+            Call::TransferData { .. } => CallName::TransferData,
+            Call::TransferExit { .. } => CallName::TransferExit,
+            Call::DeleteTransfer { .. } => CallName::DeleteTransfer,
+            Call::ProcessSwPackage { .. } => CallName::ProcessSwPackage,
+            Call::Activate => CallName::Activate,
+            Call::Finish => CallName::Finish,
+            Call::Rollback => CallName::Rollback,
+            Call::RevertProcessedSwPackages => CallName::RevertProcessedSwPackages,
+            Call::Cancel { .. } => CallName::Cancel,
+        }
+    }
 }

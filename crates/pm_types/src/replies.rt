@@ -2,6 +2,7 @@
 ghost use Rattle.std.specs.Prelude.{◌≡◌, ◌<◌, ◌≤◌, ◌++◌, ◌∷◌, [], length};
 ghost use Rattle.ucm_base.specs.Limits.{transfer_limit};
 ghost use Rattle.pm_types.specs.Refusals.{refusal_code};
+ghost use Rattle.pm_types.specs.Steps.{reply_code};
 
 use crate::{Outcome, Status};
 use std::marker::Model;
@@ -141,6 +142,18 @@ pub enum Reply {
     Started { id: u32 },
     Synced(Synced),
     Refused(Refusal),
+}
+
+impl Reply {
+    /// The refusal's number, or 0.
+    pub fn code(&self) -> u8
+        ensures { result ≡ reply_code self.now }
+    {
+        match self {
+            Reply::Refused(refusal) => refusal.code(),
+            Reply::Done | Reply::Started { .. } | Reply::Synced(_) => 0,
+        }
+    }
 }
 
 /// What became of a numbered call: it was executed, it repeats the newest one, or it is older than that.

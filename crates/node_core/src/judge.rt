@@ -1,0 +1,53 @@
+//! The refusals of the transfer table, row by row.
+ghost use Rattle.std.specs.Prelude.{◌≡◌};
+ghost use Rattle.pm_types.specs.Refusals.{first_refusal};
+ghost use Rattle.pm_types.specs.Transfers.{start_refusals, data_refusals, delete_refusals};
+
+use pm_types::{Header, Phase, Refusal};
+use ucm_base::limits::{BLOCK_LIMIT, PACKAGE_LIMIT, TRANSFER_LIMIT};
+
+/// Why a transfer of this size doesn't begin, where so many are there.
+pub(crate) fn start_refusal(next_id: u32, count: u64, size: u64) -> Option<Refusal>
+    ensures { result ≡ first_refusal (start_refusals next_id count size) }
+{
+    if size == 0 {
+        return Some(Refusal::IncorrectSize);
+    }
+    if size > PACKAGE_LIMIT || count >= TRANSFER_LIMIT || next_id == u32::MAX {
+        return Some(Refusal::InsufficientMemory);
+    }
+    None
+}
+
+/// Why a transfer doesn't take a block of this size.
+pub(crate) fn data_refusal(found: Option<Header>, counter: u64, size: u64) -> Option<Refusal>
+    ensures { result ≡ first_refusal (data_refusals found counter size) }
+{
+    let Some(header) = found else {
+        return Some(Refusal::InvalidTransferId);
+    };
+    match header.phase {
+        Phase::Transferring => {}
+        _ => return Some(Refusal::OperationNotPermitted),
+    }
+    if size == 0 || size > BLOCK_LIMIT || header.next_counter != counter {
+        return Some(Refusal::IncorrectBlock);
+    }
+    match header.received.checked_add(size) {
+        Some(received) if received <= header.size => None,
+        _ => Some(Refusal::IncorrectSize),
+    }
+}
+
+/// Why a transfer isn't deleted.
+pub(crate) fn delete_refusal(found: Option<Header>) -> Option<Refusal>
+    ensures { result ≡ first_refusal (delete_refusals found) }
+{
+    match found {
+        None => Some(Refusal::InvalidTransferId),
+        Some(header) => match header.phase {
+            Phase::Processing | Phase::Processed => Some(Refusal::OperationNotPermitted),
+            Phase::Transferring | Phase::Transferred => None,
+        },
+    }
+}
