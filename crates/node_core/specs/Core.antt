@@ -1,5 +1,5 @@
 -- What a node in memory holds.
-use Rattle.std.specs.Prelude.{◌≡◌, ◌++◌, ◌==◌, ℕ, ⊤, if◌then◌else◌, List, [], map, length, Option, None, Ok}
+use Rattle.std.specs.Prelude.{◌≡◌, ◌++◌, ◌==◌, ℕ, Bool, true, false, ⊤, if◌then◌else◌, List, [], map, length, Option, None, Ok}
 use Rattle.std.specs.List.{All}
 use Rattle.ucm_base.specs.declared.ids.CallNo.{CallNo}
 use Rattle.ucm_base.specs.Parts.{Bytes}
@@ -37,12 +37,12 @@ node_of v = record {
 }
 
 -- the calls that are served so far
-abbrev pub IsServed : Call → Type 0
-IsServed Sync = ⊤
-IsServed (TransferStart size) = ⊤
-IsServed (TransferData id counter bytes) = ⊤
-IsServed (DeleteTransfer id) = ⊤
-IsServed _ = ⊥
+abbrev pub is_served : Call → Bool
+is_served Sync = true
+is_served (TransferStart size) = true
+is_served (TransferData id counter bytes) = true
+is_served (DeleteTransfer id) = true
+is_served _ = false
 
 -- the block is staged behind the transfer of this id
 abbrev pub IsStaged : ℕ → Bytes → List Staged → Type 0

@@ -1,9 +1,9 @@
 //! A node in memory.
-ghost use Rattle.std.specs.Prelude.{◌≡◌, ◌<◌, ◌+◌, [], None, Ok, IfOk, OnOk, slice_index_or};
+ghost use Rattle.std.specs.Prelude.{◌≡◌, ◌<◌, ◌≤◌, ◌+◌, true, [], None, Ok, IfOk, OnOk, slice_index_or};
 ghost use Rattle.ucm_base.specs.Limits.{entry_limit};
 ghost use Rattle.pm_types.specs.declared.status.Status.TheVariants.{Idle};
 ghost use Rattle.pm_types.specs.Steps.{after_call, after_reply, repeat_of, reply_code, reply_to, step, synced, with_entry, with_kept};
-ghost use Rattle.node_core.specs.Core.{IsReady, IsReserved, IsServed, node_of};
+ghost use Rattle.node_core.specs.Core.{IsReady, IsReserved, is_served, node_of};
 
 use crate::judge::{data_refusal, delete_refusal, start_refusal};
 use crate::transfers::Transfers;
@@ -136,11 +136,12 @@ impl Core {
 
     /// Executes a numbered call after `reserve` of the same. It takes no memory.
     pub fn exec(&mut self, client: ClientId, no: CallNo, call: &Call) -> Reached
-        requires served { IsServed call.now }
+        requires served { is_served call.now ≡ true }
         requires reserved { IsReserved self.old client no call.now }
         requires entries { self.old.entries < entry_limit }
         ensures reached { result ≡ (step (node_of self.old) client no call.now (Ok [])).1 }
         ensures node { node_of self.new ≡ (step (node_of self.old) client no call.now (Ok [])).0 }
+        ensures entries { self.new.entries ≤ self.old.entries + 1 }
     {
         match self.repeated(client, no) {
             Some(reached) => reached,
@@ -162,11 +163,12 @@ impl Core {
 
     /// Judges a newer call, keeps its number and reply, and writes its line.
     fn execute(&mut self, client: ClientId, no: CallNo, call: &Call) -> Reply
-        requires served { IsServed call.now }
+        requires served { is_served call.now ≡ true }
         requires ready { IsReady self.old client call.now }
         requires entries { self.old.entries < entry_limit }
         ensures reply { result ≡ reply_to (node_of self.old) client call.now (Ok []) }
         ensures node { node_of self.new ≡ after_call (node_of self.old) client no call.now (Ok []) result }
+        ensures entries { self.new.entries ≡ self.old.entries + 1 }
     {
         let reply = self.judge(client, call);
         let name = call.name();
@@ -176,7 +178,8 @@ impl Core {
 
     fn keep(&mut self, client: ClientId, no: CallNo, call: CallName, reply: &Reply)
         requires { self.old.entries < entry_limit }
-        ensures { node_of self.new ≡ with_entry (Happened.Numbered client no call (reply_code reply.now)) (with_kept client no reply.now (node_of self.old)) }
+        ensures node { node_of self.new ≡ with_entry (Happened.Numbered client no call (reply_code reply.now)) (with_kept client no reply.now (node_of self.old)) }
+        ensures entries { self.new.entries ≡ self.old.entries + 1 }
     {
         self.last[client.number() as usize] = Some(Kept { no, reply: *reply });
         let refusal = reply.code();
@@ -191,7 +194,7 @@ impl Core {
     }
 
     fn judge(&mut self, client: ClientId, call: &Call) -> Reply
-        requires served { IsServed call.now }
+        requires served { is_served call.now ≡ true }
         requires ready { IsReady self.old client call.now }
         ensures reply { result ≡ reply_to (node_of self.old) client call.now (Ok []) }
         ensures node { node_of self.new ≡ after_reply (node_of self.old) client call.now (Ok []) result }

@@ -1,5 +1,5 @@
 //! Hexadecimal text in lower case.
-ghost use Rattle.std.specs.Prelude.{◌≡◌, IfOk, option_map};
+ghost use Rattle.std.specs.Prelude.{◌≡◌, ◌*◌, IfOk, IfSome, length, option_map};
 ghost use Rattle.std.specs.List.{list_all};
 ghost use Rattle.hex.specs.Hex.{decode_of};
 ghost use Rattle.ucm_text.specs.Hexadecimal.{bytes_of_word, is_lower_digit, ok_of};
@@ -20,7 +20,8 @@ fn is_lower(word: &[u8]) -> bool
 }
 
 fn decoded(alloc: Global, word: &[u8]) -> Result<Option<Vec<u8>>, AllocError>
-    ensures { IfOk result (λ o. option_map (λ v. v.items) o ≡ ok_of (decode_of word.now)) }
+    ensures bytes { IfOk result (λ o. option_map (λ v. v.items) o ≡ ok_of (decode_of word.now)) }
+    ensures half { IfOk result (λ o. IfSome o (λ v. length word.now ≡ 2 * length v.items)) }
 {
     match hex::decode(alloc, word) {
         Ok(bytes) => Ok(Some(bytes)),
@@ -31,7 +32,8 @@ fn decoded(alloc: Global, word: &[u8]) -> Result<Option<Vec<u8>>, AllocError>
 
 /// The bytes of a word of lower-case digits, if it is one and their number is even.
 pub fn bytes_of_hex(alloc: Global, word: &[u8]) -> Result<Option<Vec<u8>>, AllocError>
-    ensures { IfOk result (λ o. option_map (λ v. v.items) o ≡ bytes_of_word word.now) }
+    ensures bytes { IfOk result (λ o. option_map (λ v. v.items) o ≡ bytes_of_word word.now) }
+    ensures half { IfOk result (λ o. IfSome o (λ v. length word.now ≡ 2 * length v.items)) }
 {
     if !is_lower(word) {
         return Ok(None);

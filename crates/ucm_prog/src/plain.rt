@@ -1,0 +1,105 @@
+//! The commands that never wait.
+ghost use Rattle.std.specs.Prelude.{◌≡◌, ◌↔◌, ◌⊎◌, IfSome, IfOk, IfErr, map, string_bytes, false};
+ghost use Rattle.ucm_ports.specs.Faults.{HasRisen};
+ghost use Rattle.ucm_prog.specs.Commands.{is_replay, usage_line};
+ghost use Rattle.ucm_prog.specs.Outcome.{IsEnded, IsPlain, IsWritten, Puts, PutsPrefix};
+ghost use Rattle.ucm_prog.specs.Replay.{IsOutput, output_of, too_long_output};
+
+use crate::replay::{Output, replay};
+use crate::status::ExitStatus;
+use std::alloc::{AllocError, Global};
+use ucm_base::limits::INPUT_LIMIT;
+use ucm_ports::{ReadFault, Sink, Source, put_all, read_all};
+
+const USAGE: &str =
+    "usage: ucm run [full] | demo <number> | replay | inspect | pack package|vehicle|script\n";
+
+/// Carries out a command that never waits; so far `replay` alone.
+///
+/// It reads the whole source, of at most 67,108,864 bytes, and writes the command's output to the sink.
+pub fn ucm_plain<S: Source, K: Sink>(
+    alloc: Global,
+    words: &[String],
+    source: &mut S,
+    sink: &mut K,
+) -> ExitStatus
+    ensures usage { (result ≡ ExitStatus.Usage) ↔ (is_replay (map string_bytes words.now) ≡ false) }
+    ensures usage_reads_nothing { result ≡ ExitStatus.Usage → source.new ≡ source.old }
+    ensures usage_is_written { result ≡ ExitStatus.Usage → IsWritten (K.written sink.old) (K.written sink.new) usage_line (K.fault_count sink.old) (K.fault_count sink.new) }
+    ensures output { IsEnded result → IfSome (S.left source.old) (λ input. (result ≡ (output_of input).status) × Puts (K.written sink.old) (K.written sink.new) (output_of input).text) }
+    ensures read_fault { result ≡ ExitStatus.ReadFault → HasRisen (S.fault_count source.old) (S.fault_count source.new) }
+    ensures read_fault_writes_nothing { result ≡ ExitStatus.ReadFault → sink.new ≡ sink.old }
+    ensures write_fault { result ≡ ExitStatus.WriteFault → HasRisen (K.fault_count sink.old) (K.fault_count sink.new) }
+    ensures write_fault_leaves_a_prefix { result ≡ ExitStatus.WriteFault → IfSome (S.left source.old) (λ input. PutsPrefix (K.written sink.old) (K.written sink.new) (output_of input).text) }
+    ensures out_of_memory_writes_nothing { result ≡ ExitStatus.OutOfMemory → sink.new ≡ sink.old }
+    ensures served { IsPlain result }
+{
+    if !is_replay_command(words) {
+        let _ = put_all(sink, USAGE.as_bytes());
+        return ExitStatus::Usage;
+    }
+    match run(alloc, source) {
+        Ok(output) => written(sink, output.text.as_bytes(), output.status),
+        Err(RunFault::Failed) => ExitStatus::ReadFault,
+        Err(RunFault::OutOfMemory) => ExitStatus::OutOfMemory,
+    }
+}
+
+/// Why a command has no output.
+enum RunFault {
+    Failed,
+    OutOfMemory,
+}
+
+/// Reads the whole source, and makes the output.
+fn run<S: Source>(alloc: Global, source: &mut S) -> Result<Output, RunFault>
+    ensures output { IfOk result (λ o. IfSome (S.left source.old) (λ input. IsOutput (output_of input) o.status (string_bytes o.text))) }
+    ensures ended { IfOk result (λ o. IsEnded o.status) }
+    ensures cause { IfErr result (λ e. e ≡ RunFault.Failed → HasRisen (S.fault_count source.old) (S.fault_count source.new)) }
+{
+    match read_all(alloc, source, INPUT_LIMIT as usize) {
+        Ok(input) => match replay(alloc, input.as_slice()) {
+            Ok(output) => Ok(output),
+            Err(AllocError) => Err(RunFault::OutOfMemory),
+        },
+        Err(ReadFault::TooLong) => match too_long(alloc) {
+            Ok(output) => Ok(output),
+            Err(AllocError) => Err(RunFault::OutOfMemory),
+        },
+        Err(ReadFault::Failed) => Err(RunFault::Failed),
+        Err(ReadFault::OutOfMemory) => Err(RunFault::OutOfMemory),
+    }
+}
+
+fn too_long(alloc: Global) -> Result<Output, AllocError>
+    ensures { IfOk result (λ o. IsOutput too_long_output o.status (string_bytes o.text)) }
+{
+    Ok(Output {
+        status: ExitStatus::InputRefused,
+        text: String::from_str(alloc, "refused too long\n")?,
+    })
+}
+
+/// Whether the words are `replay` alone.
+fn is_replay_command(words: &[String]) -> bool
+    ensures { result ≡ is_replay (map string_bytes words.now) }
+{
+    match words {
+        [word] => word.as_str() == "replay",
+        _ => false,
+    }
+}
+
+/// Writes a text, and answers the status, or that the sink failed.
+fn written<K: Sink>(sink: &mut K, text: &[u8], status: ExitStatus) -> ExitStatus
+    requires { IsEnded status }
+    ensures ended { IsEnded result → (result ≡ status) × Puts (K.written sink.old) (K.written sink.new) text.now }
+    ensures prefix { result ≡ ExitStatus.WriteFault → PutsPrefix (K.written sink.old) (K.written sink.new) text.now }
+    ensures cause { result ≡ ExitStatus.WriteFault → HasRisen (K.fault_count sink.old) (K.fault_count sink.new) }
+    ensures either { (result ≡ status) ⊎ (result ≡ ExitStatus.WriteFault) }
+{
+    match put_all(sink, text) {
+        Ok(()) => status,
+        Err(_) => ExitStatus::WriteFault,
+    }
+}

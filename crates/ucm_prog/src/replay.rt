@@ -1,0 +1,139 @@
+//! The command `replay`: the calls of a script, executed by one node in memory.
+ghost use Rattle.std.specs.Prelude.{◌≡◌, ◌<◌, ◌≤◌, ◌+◌, ◌++◌, [], true, replicate, IfOk, OnOk, Ok, string_bytes};
+ghost use Rattle.ucm_base.specs.Limits.{entry_limit};
+ghost use Rattle.pm_types.specs.Histories.{formatted};
+ghost use Rattle.pm_types.specs.Steps.{step};
+ghost use Rattle.node_core.specs.Core.{is_served, node_of};
+ghost use Rattle.ucm_prog.specs.Replay.{IsOutput, after_line, call_meant, later_text, line_text, output_of_calls, texts_of};
+ghost use Rattle.ucm_prog.specs.Script.{calls_of};
+
+use crate::script::{CallLine, ScriptCall, ScriptFault, read_script};
+use crate::status::ExitStatus;
+use node_core::{Core, Hold};
+use pm_types::{Call, Clusters, Reached, State};
+use std::alloc::{AllocError, Global};
+use ucm_base::{Block, CallNo, ClientId};
+
+/// A status, and the text that is written.
+#[derive(Drop)]
+pub struct Output {
+    pub status: ExitStatus,
+    pub text: String,
+}
+
+/// What `replay` of a whole input writes.
+pub fn replay(alloc: Global, input: &[u8]) -> Result<Output, AllocError>
+    ensures { IfOk result (λ output. IsOutput (output_of_calls (calls_of input.now)) output.status (string_bytes output.text)) }
+{
+    match read_script(alloc, input) {
+        Ok(calls) => Ok(Output {
+            status: ExitStatus::Successful,
+            text: texts(alloc, calls.as_slice())?,
+        }),
+        Err(ScriptFault::Later { line }) => Ok(Output {
+            status: ExitStatus::InputRefused,
+            text: refused_line(alloc, line)?,
+        }),
+        Err(ScriptFault::OutOfMemory) => Err(AllocError),
+    }
+}
+
+fn refused_line(alloc: Global, line: u64) -> Result<String, AllocError>
+    ensures { IfOk result (λ text. string_bytes text ≡ later_text line) }
+{
+    let mut text = String::new(alloc);
+    write!(text, "refused line {line} later\n")?;
+    Ok(text)
+}
+
+/// The lines that calls print.
+fn texts(alloc: Global, calls: &[CallLine]) -> Result<String, AllocError>
+    ensures { IfOk result (λ text. string_bytes text ≡ texts_of (formatted []) calls.now) }
+{
+    let mut core = new_node(alloc)?;
+    let mut text = String::new(alloc);
+    'calls: for call in calls {
+        let reached = reach(alloc, &mut core, call)?;
+        print_line(&mut text, call.line, &reached)?;
+    }
+    Ok(text)
+}
+
+/// A node that has just been formatted, without clusters.
+fn new_node(alloc: Global) -> Result<Core, AllocError>
+    ensures node { IfOk result (λ core. node_of core ≡ formatted []) }
+    ensures entries { IfOk result (λ core. core.entries ≡ 0) }
+{
+    let state = State::fresh(alloc, Clusters::of(Vec::new(alloc)))?;
+    let core = Core::new(alloc, state)?;
+    Ok(core)
+}
+
+/// Prints a line's number and what its call gave.
+fn print_line(text: &mut String, line: u64, reached: &Reached) -> Result<(), AllocError>
+    ensures { OnOk result (string_bytes text.new ≡ string_bytes text.old ++ line_text line reached.now) }
+{
+    write!(text, "{line} {reached}\n")
+}
+
+/// Executes the call of a line.
+fn reach(alloc: Global, core: &mut Core, line: &CallLine) -> Result<Reached, AllocError>
+    requires { core.old.entries < entry_limit }
+    ensures reached { IfOk result (λ reached. reached ≡ (after_line (node_of core.old) line.now).1) }
+    ensures node { OnOk result (node_of core.new ≡ (after_line (node_of core.old) line.now).0) }
+    ensures entries { core.new.entries ≤ core.old.entries + 1 }
+{
+    let CallLine { client, no, .. } = *line;
+    match &line.call {
+        ScriptCall::Given(call) => executed(core, client, no, call.as_call()),
+        ScriptCall::Filled {
+            id,
+            counter,
+            size,
+            byte,
+        } => {
+            let call = filled_call(alloc, *id, *counter, *size, *byte)?;
+            executed(core, client, no, &call)
+        }
+    }
+}
+
+/// A block of one byte many times.
+fn filled_block(alloc: Global, size: u32, byte: u8) -> Result<Block, AllocError>
+    ensures { IfOk result (λ block. block ≡ replicate size byte) }
+{
+    let bytes = vec![in alloc; byte; size as usize]?;
+    Ok(Block::of(bytes))
+}
+
+fn filled_call(
+    alloc: Global,
+    id: u32,
+    counter: u64,
+    size: u32,
+    byte: u8,
+) -> Result<Call, AllocError>
+    ensures call { IfOk result (λ call. call ≡ call_meant (ScriptCall.Filled id counter size byte)) }
+    ensures served { IfOk result (λ call. is_served call ≡ true) }
+{
+    let bytes = filled_block(alloc, size, byte)?;
+    Ok(Call::TransferData { id, counter, bytes })
+}
+
+fn executed(
+    core: &mut Core,
+    client: ClientId,
+    no: CallNo,
+    call: &Call,
+) -> Result<Reached, AllocError>
+    requires served { is_served call.now ≡ true }
+    requires entries { core.old.entries < entry_limit }
+    ensures reached { IfOk result (λ reached. reached ≡ (step (node_of core.old) client no call.now (Ok [])).1) }
+    ensures node { OnOk result (node_of core.new ≡ (step (node_of core.old) client no call.now (Ok [])).0) }
+    ensures entries { core.new.entries ≤ core.old.entries + 1 }
+{
+    match core.reserve(client, no, call) {
+        Ok(()) => Ok(core.exec(client, no, call)),
+        Err(Hold::OutOfMemory) => Err(AllocError),
+    }
+}
