@@ -1,12 +1,12 @@
 -- Lists of transfers that a loop changes one by one.
-use Rattle.std.proofs.Common.{◌≡◌, ◌≢◌, Option, Some, ◌<◌, ◌+◌, ◌++◌, ◌∙◌, ◌==◌, ℕ, List, [], ◌∷◌, Bool, true, false, not, length, get_or, set, take, drop, map, filter, refl, sym, ap, arith, add-zero, cond, get_or-set_other, get_or-set_same}
+use Rattle.std.proofs.Common.{◌≡◌, ◌≢◌, Option, Some, ◌<◌, ◌+◌, ◌++◌, ◌∙◌, ℕ, List, [], ◌∷◌, Bool, true, false, length, get_or, set, take, drop, map, filter, refl, sym, ap, arith, add-zero, cond, get_or-set_other, get_or-set_same}
 use Rattle.std.proofs.lemmas.List.{take_more, take_more_set, drop-set-lt, drop-drop, get_or-drop, map-append}
 use borrow.Author.Count.{below_more}
 use Rattle.std.specs.Prelude.{find}
 use Rattle.pm_types.specs.declared.transfers.Header.{Header}
 use Rattle.pm_types.specs.NodeState.{Transfer}
 use Rattle.pm_types.specs.Transfers.{header_of}
-use Rattle.node_core.specs.Core.{Staged, accepted_block, transfers_of}
+use Rattle.node_core.specs.Core.{Staged, transfers_of}
 
 -- staged up to i, and at i
 pub staged-next : (id : ℕ) (block : List ℕ) (xs : List Staged) (i : ℕ) (y : Staged) → i < length xs → ((k : ℕ) (d : Staged) → k < i → (get_or xs k d).transfer.header.id ≡ id → (get_or xs k d).past ≡ block) → (y.transfer.header.id ≡ id → y.past ≡ block) → (k : ℕ) → k < i + 1 → (d : Staged) → (get_or (set xs i y) k d).transfer.header.id ≡ id → (get_or (set xs i y) k d).past ≡ block

@@ -1,5 +1,5 @@
 -- What a node in memory holds.
-use Rattle.std.specs.Prelude.{◌≡◌, ◌++◌, ◌==◌, ℕ, Bool, true, false, ⊤, if◌then◌else◌, List, [], map, length, Option, None, Ok}
+use Rattle.std.specs.Prelude.{◌≡◌, ◌++◌, ◌==◌, ℕ, Bool, true, false, ⊤, if◌then◌else◌, List, [], map, length, None, Ok}
 use Rattle.std.specs.List.{All}
 use Rattle.ucm_base.specs.declared.ids.CallNo.{CallNo}
 use Rattle.ucm_base.specs.Parts.{Bytes}

@@ -12,7 +12,6 @@ use Rattle.pm_types.specs.declared.clusters.Change.{Change}
 use Rattle.pm_types.specs.declared.clusters.Cluster.{Cluster}
 use Rattle.pm_types.specs.declared.clusters.Extent.{Extent}
 use Rattle.pm_types.specs.declared.state.StoredTransfer.{StoredTransfer}
-use Rattle.pm_types.specs.declared.clusters.Part.{Part}
 use Rattle.pm_types.specs.declared.status.Phase.TheVariants.{Transferring}
 use Rattle.pm_types.specs.declared.status.Status.TheVariants.{Idle}
 use Rattle.pm_types.specs.NodeState.{NodeOf, SessionOf, NodeState, Session, Transfer, is_in}

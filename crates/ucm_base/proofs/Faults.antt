@@ -1,5 +1,5 @@
 -- Faults of texts.
-use Rattle.std.proofs.Common.{◌≡◌, ◌<◌, ◌↔◌, ℕ, zero, suc, List, [], ◌∷◌, Bool, true, false, cond, Some, None, Result, Ok, Err, refl, sym, ◌∙◌, ap, true≢false, arith}
+use Rattle.std.proofs.Common.{◌≡◌, ◌↔◌, ℕ, List, Bool, true, false, cond, Some, None, Result, Ok, Err, refl, sym, ◌∙◌, ap, true≢false}
 use Rattle.std.specs.Result.{is_ok}
 use Rattle.semver.specs.declared.error.Error.{Error}
 use Rattle.semver.specs.Parse.{IsRefused, memory_error}

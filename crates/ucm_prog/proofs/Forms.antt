@@ -1,5 +1,5 @@
 -- Numbers of words that no form has.
-use Rattle.std.proofs.Common.{◌≡◌, ◌≢◌, ◌<◌, ℕ, List, [], ◌∷◌, Option, None, Bor, length, map, refl, arith}
+use Rattle.std.proofs.Common.{◌≡◌, ◌≢◌, ◌<◌, ℕ, List, [], ◌∷◌, None, Bor, length, map, refl, arith}
 use Rattle.ucm_prog.specs.Script.{call_of_words, line_of_words}
 
 pub no-call : (words : List (Bor (List ℕ))) → length words ≢ 1 → length words ≢ 2 → length words ≢ 4 → None ≡ call_of_words (map (λ word. word.now) words)

@@ -1,12 +1,12 @@
 -- What a told input says of the output.
-use Rattle.std.proofs.Common.{◌≡◌, ◌<◌, ◌≤◌, ◌∙◌, ℕ, List, Option, Some, None, IfSome, Bool, true, false, ◌++◌, option_map, length, refl, sym, ap, arith, subst}
+use Rattle.std.proofs.Common.{◌≡◌, ◌<◌, ◌≤◌, ◌∙◌, ℕ, List, Option, Some, None, IfSome, true, false, ◌++◌, option_map, length, ap, arith, subst}
 use Rattle.std.specs.Prelude.{nat_lt}
 use Rattle.std.proofs.lemmas.Bool.Decides.{nat_tests}
 use Rattle.ucm_base.specs.Limits.{input_limit}
 use Rattle.ucm_prog.specs.declared.status.ExitStatus.{ExitStatus}
 use Rattle.ucm_prog.specs.declared.status.ExitStatus.TheVariants.{WriteFault}
 use Rattle.ucm_prog.specs.Outcome.{IsEnded, Puts, PutsPrefix}
-use Rattle.ucm_prog.specs.Replay.{IsOutput, Output, output_of, output_of_calls, too_long_output}
+use Rattle.ucm_prog.specs.Replay.{IsOutput, output_of, output_of_calls, too_long_output}
 use Rattle.ucm_prog.specs.Script.{calls_of}
 
 test-within : (n : ℕ) → n ≤ input_limit → nat_lt input_limit n ≡ false

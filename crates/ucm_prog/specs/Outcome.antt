@@ -2,7 +2,7 @@
 use Rattle.std.specs.Prelude.{◌≡◌, ◌≤◌, ◌++◌, ◌⊎◌, ℕ, ⊤, List, length, take, Option, option_map}
 use Rattle.ucm_ports.specs.Faults.{HasRisen}
 use Rattle.ucm_prog.specs.declared.status.ExitStatus.{ExitStatus}
-use Rattle.ucm_prog.specs.declared.status.ExitStatus.TheVariants.{Successful, CampaignNotSuccessful, Usage, InputRefused, LeftUnfinished, ReadFault, WriteFault, OutOfMemory}
+use Rattle.ucm_prog.specs.declared.status.ExitStatus.TheVariants.{Successful, CampaignNotSuccessful, InputRefused, LeftUnfinished}
 
 -- a text was put, where the sink tells what it holds
 abbrev pub Puts : Option (List ℕ) → Option (List ℕ) → List ℕ → Type 0

@@ -1,12 +1,11 @@
 -- Scripts of numbered calls to one node, and the first line that isn't of the form.
-use Rattle.std.specs.Prelude.{ℕ, ◌+◌, ◌^◌, ◌&&◌, ◌||◌, ◌==◌, nat_lt, nat_le, Bool, true, false, not, if◌then◌else◌, List, [], ◌∷◌, length, replicate, codes, slice_set, Option, Some, None, option_map, option_and_then, is_none, Result, Ok, Err}
+use Rattle.std.specs.Prelude.{ℕ, ◌+◌, ◌^◌, ◌&&◌, ◌==◌, nat_lt, nat_le, Bool, true, if◌then◌else◌, List, [], ◌∷◌, length, replicate, codes, slice_set, Option, Some, None, option_map, option_and_then, Result, Ok, Err}
 use Rattle.std.specs.List.{slice_split}
 use Rattle.std.specs.Str.{bytes_eq}
 use Rattle.ucm_base.specs.declared.ids.CallNo.{CallNo}
 use Rattle.ucm_base.specs.Limits.{client_limit}
 use Rattle.ucm_text.specs.Decimal.{number_of_word}
 use Rattle.ucm_text.specs.Hexadecimal.{bytes_of_word}
-use Rattle.pm_types.specs.declared.calls.Call.{Call}
 use Rattle.pm_types.specs.declared.calls.Call.TheVariants.{Sync, TransferStart, TransferData, DeleteTransfer}
 use Rattle.std.specs.Ordering.{is_lt}
 use Rattle.pm_types.specs.NodeState.{of_client}

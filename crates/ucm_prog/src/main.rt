@@ -9,6 +9,8 @@ mod replay;
 mod script;
 mod served;
 mod status;
+#[cfg(test)]
+mod tests;
 
 use status::ExitStatus;
 use std::alloc::{AllocError, Global};

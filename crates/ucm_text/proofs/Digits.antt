@@ -1,5 +1,5 @@
 -- Digits and their value.
-use Rattle.std.proofs.Common.{◌≡◌, ◌<◌, ◌≤◌, ◌+◌, ◌-◌, ◌*◌, ◌^◌, ◌∙◌, ℕ, List, [], ◌∷◌, Bool, true, false, length, get_or, drop, drop-cons, arith, add-one, refl, sym, ap, Option, Some, None}
+use Rattle.std.proofs.Common.{◌≡◌, ◌<◌, ◌≤◌, ◌+◌, ◌-◌, ◌*◌, ◌^◌, ◌∙◌, ℕ, List, [], ◌∷◌, length, get_or, drop, drop-cons, arith, add-one, refl, ap, Some, None}
 use Rattle.std.proofs.lemmas.Bool.Decides.{nat_tests}
 use Rattle.ucm_text.specs.Decimal.{below_u64, value_from}
 

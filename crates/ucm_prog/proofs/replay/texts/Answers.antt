@@ -1,4 +1,4 @@
-use Rattle.std.proofs.Common.{◌≤◌, arith, sym, ap, ◌+◌}
+use Rattle.std.proofs.Common.{arith}
 use Rattle.ucm_prog.proofs.Printing.{next-text}
 use Rattle.ucm_prog.proofs.replay.texts.Goals as goal
 

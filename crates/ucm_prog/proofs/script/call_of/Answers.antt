@@ -1,4 +1,4 @@
-use Rattle.std.proofs.Common.{◌≢◌, length, arith}
+use Rattle.std.proofs.Common.{arith}
 use Rattle.std.proofs.lemmas.Bool.Decides.{nat_tests}
 use Rattle.ucm_prog.proofs.Forms.{no-call}
 use Rattle.ucm_prog.proofs.script.call_of.Goals as goal

@@ -1,4 +1,4 @@
-use Rattle.std.proofs.Common.{◌++◌, take}
+use Rattle.std.proofs.Common.{take}
 use Rattle.std.specs.Fmt.{HasWritten, IsPlainFormatter}
 use Rattle.pm_types.specs.Text.{more_ids_text}
 use Rattle.pm_types.proofs.text.IdListDisplay.fmt.Given as goal
