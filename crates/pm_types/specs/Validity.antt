@@ -118,7 +118,6 @@ pub record TransfersAreSound (s : NodeState) : Type 0 where
   pub each : AllByRecursion (IsSound s.next_id) s.transfers
   pub rise : IsTrue (numbers_rise (map (λ t. t.header.id) s.transfers))
   pub next_id : (1 ≤ s.next_id) × (s.next_id ≤ last_id)
-  pub entries : s.entries ≤ entry_limit
 
 -- the different names of what runs, was saved, is planned and is in processing
 abbrev pub all_names : NodeState → List (List ℕ)
@@ -141,8 +140,8 @@ pub record LimitsHold (s : NodeState) : Type 0 where
   pub lines : length s.lines ≡ min s.entries line_limit
   pub places : IsTrue (places_from (s.entries - length s.lines) s.lines)
 
--- a state that a node can reach
-pub record IsValid (s : NodeState) : Type 0 where
+-- all that belongs together in a state, as every call and every unit keeps it
+pub record IsConsistent (s : NodeState) : Type 0 where
   pub session : SessionIsDue s.status s.session
   pub running : RunsWhatItShould s
   pub changes : ChangesAreDue s s.session
@@ -151,3 +150,8 @@ pub record IsValid (s : NodeState) : Type 0 where
   pub verdicts : VerdictsAreDue s
   pub transfers : TransfersAreSound s
   pub limits : LimitsHold s
+
+-- a state that a node can reach: it is consistent, and its entries can be counted
+pub record IsValid (s : NodeState) : Type 0 where
+  pub consistent : IsConsistent s
+  pub entries : s.entries ≤ entry_limit
