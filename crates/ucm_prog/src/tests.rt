@@ -33,7 +33,7 @@ const NINE_STARTED: &[u8] = b"1 Started 1\n2 Started 2\n3 Started 3\n4 Started 4
 
 #[test]
 fn scripts_print_their_lines(rt: HostRuntime) -> Result<(), Fail> {
-    let rows: [(&[u8], &[u8]); 7] = [
+    let rows: [(&[u8], &[u8]); 9] = [
         (b"", b""),
         (
             b"call 1 1 1.1 start 5000\ncall 1 1 1.2 data 1 1 fill:4096:61\n\
@@ -53,6 +53,18 @@ call 1 1 1.3 data 1 2 fill:904:62\ncall 1 1 1.4 data 1 3 fill:1:63\n",
             b"# a block that comes again\n\ncall 1 0 1.1 start 3\ncall 1 0 1.2 data 1 1 hex:00ff\n\
 call 1 0 2.1 data 1 1 hex:00ff\n",
             b"3 Started 1\n4 Done\n5 Refused 5 IncorrectBlock\n",
+        ),
+        (
+            b"call 1 1 1.1 start 10\ncall 1 1 1.2 data 1 1 hex:00010203\ncall 1 1 1.3 data 1 2 fill:6:ff\n\
+call 1 1 1.4 sync\ncall 1 2 1.1 delete 1\ncall 1 1 1.5 delete 1\ncall 1 1 1.6 sync\n",
+            b"1 Started 1\n2 Done\n3 Done\n4 Synced - - 1\n5 Refused 3 InvalidTransferId\n6 Done\n\
+7 Synced - - -\n",
+        ),
+        (
+            b"call 1 1 1.1 start 10\ncall 1 1 1.2 data 1 2 fill:5:00\ncall 1 1 1.3 data 1 1 fill:4097:00\n\
+call 1 1 1.4 data 1 1 hex:\ncall 1 1 1.5 data 1 1 fill:5:00\ncall 1 1 1.6 data 2 1 fill:5:00\n",
+            b"1 Started 1\n2 Refused 5 IncorrectBlock\n3 Refused 5 IncorrectBlock\n\
+4 Refused 5 IncorrectBlock\n5 Done\n6 Refused 3 InvalidTransferId\n",
         ),
         (
             b"call 1 31 4294967295.4294967295 sync\n",
