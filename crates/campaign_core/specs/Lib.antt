@@ -1,0 +1,4 @@
+pub mod Nodes
+pub mod Campaign
+pub mod Views
+pub mod Standing

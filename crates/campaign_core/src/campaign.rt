@@ -1,0 +1,184 @@
+//! The master's table at work.
+ghost use Rattle.std.specs.Prelude.{◌≡◌, ◌≢◌, ◌↔◌, IsTrue, IfOk, OnOk, OnErr, IsErrOf, Ok, Err, true, false, None};
+ghost use Rattle.std.specs.Result.{result_err};
+ghost use Rattle.campaign_core.specs.Campaign.{after_event, nothing_yet, refusal_of};
+ghost use Rattle.campaign_core.specs.Views.{state_of, view_of};
+ghost use Rattle.campaign_core.specs.Standing.{FindsNone};
+ghost use Rattle.campaign_core.specs.declared.events.CampaignRefusal.{CampaignRefusal};
+
+use crate::{
+    CampaignList, CampaignRefusal, CampaignResult, CampaignState, CampaignView, Fold, MasterEvent,
+};
+use std::alloc::{AllocError, Global};
+use std::marker::Model;
+
+/// The fold of the events so far, seen as the fold and whether the next event has its memory.
+#[derive(Drop)]
+pub struct Campaign {
+    fold: Fold,
+    // The earlier campaigns again, with room for one more, once they are reserved.
+    next: Option<Vec<(u32, CampaignResult)>>,
+}
+
+impl Model for Campaign {
+    ghost use Rattle.std.specs.Prelude.{◌≡◌, ◌<◌, IfSome, is_some, vec_len, vec_capacity};
+    ghost use Rattle.campaign_core.specs.Standing.{Standing};
+
+    ghost Value = { Standing };
+
+    ghost view = { λ a. record { fold = a.fold; ready = is_some a.next } };
+
+    ghost invariant = { λ a. IfSome a.next (λ v. (v.items ≡ a.fold.earlier) × (vec_len v < vec_capacity v)) };
+}
+
+impl Campaign {
+    /// The campaign of no event.
+    pub fn new(alloc: Global) -> Campaign
+        ensures { result ≡ record { fold = nothing_yet; ready = false } }
+    {
+        Campaign::at(Fold::empty(alloc))
+    }
+
+    /// Goes on from a fold. It takes no memory.
+    pub fn at(fold: Fold) -> Campaign
+        ensures { result ≡ record { fold = fold; ready = false } }
+    {
+        Campaign { fold, next: None }
+    }
+
+    /// The fold of the events so far.
+    pub fn fold(&self) -> &Fold
+        ensures { result.now ≡ self.now.fold }
+    {
+        &self.fold
+    }
+
+    /// Whether the next event has its memory.
+    pub fn is_ready(&self) -> bool
+        ensures { result ≡ self.now.ready }
+    {
+        self.next.is_some()
+    }
+
+    /// Takes the memory of the next event.
+    pub fn reserve(&mut self) -> Result<(), AllocError>
+        ensures ready { OnOk result (self.new.ready ≡ true) }
+        ensures fold { self.new.fold ≡ self.old.fold }
+        ensures stays_ready { self.old.ready ≡ true → self.new.ready ≡ true }
+    {
+        if self.next.is_none() {
+            self.next = Some(self.fold.earlier.with_room()?);
+        }
+        Ok(())
+    }
+
+    /// Adds an event to the list, if the table allows it there. It takes no memory.
+    pub fn apply(&mut self, event: &MasterEvent) -> Result<(), CampaignRefusal>
+        requires { self.old.ready ≡ true }
+        ensures answer { result_err result ≡ refusal_of self.old.fold event.now }
+        ensures ok { OnOk result (self.new.fold ≡ after_event self.old.fold event.now) }
+        ensures err { OnErr result (self.new ≡ self.old) }
+
+        // Each refusal has its cause.
+        ensures none { IsErrOf result CampaignRefusal.NoCampaign ↔ FindsNone self.old.fold event.now }
+    {
+        if let Some(refusal) = self.fold.refusal(event) {
+            return Err(refusal);
+        }
+        match event {
+            MasterEvent::Enter { result: given } => self.enter(*given),
+            _ => self.fold.advance(event),
+        }
+        Ok(())
+    }
+
+    /// Ends the current campaign with the result, in the memory that is ready.
+    fn enter(&mut self, given: CampaignResult)
+        requires { self.old.ready ≡ true }
+        ensures { self.new.fold ≡ after_event self.old.fold (MasterEvent.Enter given) }
+    {
+        let Some(mut next) = self.next.take() else {
+            unreachable!();
+        };
+        if let Some(current) = self.fold.current.take() {
+            next.push_reserved((current.campaign, given));
+        }
+        self.fold.earlier = CampaignList::of(next);
+    }
+
+    /// The state of the campaign. It takes no memory.
+    pub fn state(&self) -> CampaignState
+        ensures { result ≡ state_of self.now.fold }
+    {
+        self.fold.state()
+    }
+
+    /// What is shown of the fold. It takes no memory.
+    pub fn view(&self) -> CampaignView
+        ensures { result ≡ view_of self.now.fold }
+    {
+        self.fold.view()
+    }
+
+    /// The earlier campaigns, in order.
+    pub fn history(&self) -> Result<CampaignList, AllocError>
+        ensures { IfOk result (λ list. list ≡ self.now.fold.earlier) }
+    {
+        Ok(CampaignList::of(self.fold.earlier.copied()?))
+    }
+}
+
+#[cfg(test)]
+mod tests {
+    use super::*;
+    use crate::{Cause, Decision, Vote};
+    use pm_types::Outcome;
+    use std::test::Fail;
+    use ucm_base::{NodeId, NodeSet};
+
+    // A campaign of nodes 1 and 2 in which node 2 rolls back: each event with its answer.
+    #[test]
+    fn a_vote_of_no_aborts(rt: HostRuntime) -> Result<(), Fail> {
+        let (Some(one), Some(two)) = (NodeId::of(1), NodeId::of(2)) else {
+            return Err(Fail::from("no node"));
+        };
+        let no = Err(CampaignRefusal::OperationNotPermitted);
+        let rolled_back = MasterEvent::VoteOf {
+            node: two,
+            vote: Vote::RolledBack,
+        };
+        let decide = |decision| MasterEvent::Decide { decision };
+        let ended = |node| MasterEvent::EndedAt {
+            node,
+            outcome: Outcome::Old,
+        };
+        let enter = MasterEvent::Enter {
+            result: CampaignResult::Failed,
+        };
+        let named = NodeSet {
+            flags: [true, true, false, false, false, false, false, false],
+        };
+        let mut campaign = Campaign::new(rt.alloc());
+        for (event, answer) in [
+            (MasterEvent::CancelAsked, Err(CampaignRefusal::NoCampaign)),
+            (MasterEvent::Start { epoch: 1 }, Ok(())),
+            (MasterEvent::Begin { campaign: 7, named }, Ok(())),
+            (decide(Decision::Commit), no),
+            (rolled_back, Ok(())),
+            (decide(Decision::Abort(Cause::Restart)), no),
+            (decide(Decision::Abort(Cause::Vote(two))), Ok(())),
+            (enter, no),
+            (ended(one), Ok(())),
+            (ended(two), Ok(())),
+            (enter, Ok(())),
+        ] {
+            campaign.reserve()?;
+            assert!(rt; campaign.is_ready());
+            assert_eq!(rt; campaign.apply(&event), answer);
+        }
+        assert_eq!(rt; campaign.state(), CampaignState::Idle);
+        assert_eq!(rt; campaign.view().last, Some((7, CampaignResult::Failed)));
+        assert_eq!(rt; campaign.history()?.as_slice().len(), 1);
+        Ok(())
+    }
+}

@@ -1,0 +1,20 @@
+//! The master's table: which event may follow a list of events, and what the list says.
+//!
+//! Layer: stands on `pm_types` (outcomes and refusals of a node) and `ucm_base` (nodes and call
+//! numbers); the decision log, the world of the campaign law and the report stand on it.
+//! Its one contract: `Campaign::apply` refuses an event exactly where the table does, and else the
+//! fold is that of the list with the event.
+#![tactic(auto)]
+
+mod campaign;
+mod events;
+mod fold;
+mod table;
+mod views;
+
+pub use campaign::Campaign;
+pub use events::{
+    CampaignRefusal, CampaignResult, Cause, Decision, MasterEvent, MasterList, Phase, Vote,
+};
+pub use fold::{CampaignList, Current, Fold};
+pub use views::{CampaignState, CampaignView, CurrentView};
