@@ -1,0 +1,167 @@
+-- What a node does leaves its state fit.
+use Rattle.std.proofs.Common.{◌≡◌, refl, sym, subst, ap, ℕ, ◌+◌, ◌<◌, Bool, true, false, List, [], ◌∷◌, arith}
+use Rattle.std.specs.Prelude.{nat_lt, option_map, option_and_then, unwrap_or, if◌then◌else◌, Option, Some, None}
+use Rattle.std.specs.declared.cmp.Ordering.{Ordering}
+use Rattle.std.specs.declared.cmp.Ordering.TheVariants.{Less, Equal, Greater}
+use Rattle.ucm_base.specs.Limits.{client_limit}
+use Rattle.ucm_base.specs.Parts.{Bytes}
+use Rattle.ucm_base.specs.declared.ids.CallNo.{CallNo}
+use Rattle.pm_types.specs.declared.calls.Call.{Call}
+use Rattle.pm_types.specs.declared.calls.Call.TheVariants.{Sync, TransferStart, TransferData, TransferExit, DeleteTransfer, ProcessSwPackage, Activate, Finish, Rollback, RevertProcessedSwPackages, Cancel}
+use Rattle.pm_types.specs.declared.clusters.Cluster.{Cluster}
+use Rattle.pm_types.specs.declared.history.Entry.{Entry}
+use Rattle.pm_types.specs.declared.history.Entry.TheVariants.{Numbered, Unit as UnitDone}
+use Rattle.pm_types.specs.declared.history.Happened.TheVariants.{Unit as UnitLine}
+use Rattle.pm_types.specs.declared.replies.Reached.TheVariants.{Done as Answered}
+use Rattle.pm_types.specs.declared.replies.Refusal.{Refusal}
+use Rattle.pm_types.specs.declared.replies.Reply.{Reply}
+use Rattle.pm_types.specs.declared.replies.Reply.TheVariants.{Done, Started, Synced, Refused}
+use Rattle.pm_types.specs.declared.status.Status.{Status}
+use Rattle.pm_types.specs.declared.status.Status.TheVariants.{Idle, Ready, Processing, Activating, Verifying, Activated, RollingBack, RolledBack, CleaningUp}
+use Rattle.pm_types.specs.declared.state.Kept.{Kept}
+use Rattle.pm_types.specs.NodeState.{NodeState, Session, of_client}
+use Rattle.pm_types.specs.Clusters.{all_units}
+use Rattle.pm_types.specs.Transfers.{parts_of}
+use Rattle.pm_types.specs.Steps.{refusal, accepted, acceptance, refused_or, reply_to, after_reply, judge, after_call, executed, by_order, by_last, call_no_cmp, step, with_entry}
+use Rattle.pm_types.specs.Work.{unit_of, process_unit, processed, parts_of_id}
+use Rattle.pm_types.specs.Histories.{Reading, verdict_for, worked, formatted, after_entry, state_after, IsNext, IsLegal}
+use Rattle.node_laws.specs.Fit.{IsReading, IsFit, IsInstalled, KeepsFit}
+use Rattle.node_laws.proofs.Refusals.{both-none}
+use Rattle.node_laws.proofs.Sessions.{Busy, busy-of, base-of}
+use Rattle.node_laws.proofs.Quiet.{processes}
+use Rattle.node_laws.proofs.KeptTransfers.{start-fit, data-fit, exit-fit, delete-fit}
+use Rattle.node_laws.proofs.KeptSessions.{at-status, led-fit, activates, finishes, rolls_back, reverts}
+use Rattle.node_laws.proofs.KeptUnits.{activate-fit, verify-fit, roll_back-fit, clean_up-fit}
+use Rattle.node_laws.proofs.KeptProcessing.{more-fit, last-fit}
+use Rattle.node_laws.proofs.KeptPackages.{process-fit, cancel-fit}
+use Rattle.node_laws.proofs.Entries.{kept-fit, entry-fit}
+
+-- a formatted node with clusters in order, of at most 16 names
+formatted-fit : (read : Reading) (clusters : List (Cluster Bytes)) → IsInstalled clusters → IsFit read (formatted clusters)
+formatted-fit read clusters installed = record {
+  consistent = record {
+    session = tt;
+    running = tt;
+    changes = tt;
+    applying = tt;
+    processing = record { each = tt; status = refl; unfinished = tt };
+    verdicts = tt;
+    transfers = record { each = tt; rise = refl; next_id = (omega arith, omega arith) };
+    limits = record { names = installed.few; running = installed.rise; saved = tt; transfers = omega arith; sizes = tt; clients = (refl, refl); lines = refl; places = refl };
+  };
+  read_parts = tt;
+}
+
+module _ (read : Reading) (reading : IsReading read) where
+  -- a call that isn't refused
+  accepted-fit : (s : NodeState) (client : ℕ) (c : Call) → client < client_limit → IsFit read s → refusal s client c (verdict_for read s client c) ≡ None → IsFit read (accepted s client c (verdict_for read s client c))
+  accepted-fit s client Sync low fit r = fit
+  accepted-fit s client (TransferStart size) low fit r = start-fit read s client size low fit r
+  accepted-fit s client (TransferData id counter bytes) low fit r = data-fit read s client id counter bytes fit r
+  accepted-fit s client (TransferExit id) low fit r = exit-fit read s client id _ reading fit refl r
+  accepted-fit s client (DeleteTransfer id) low fit r = delete-fit read s client id fit r
+  accepted-fit s client (ProcessSwPackage id tag) low fit r = process-fit read s client id tag low fit r
+  accepted-fit s client Activate low fit r = led-fit read s client activates fit (both-none _ _ r).0
+  accepted-fit s client Finish low fit r = led-fit read s client finishes fit r
+  accepted-fit s client Rollback low fit r = led-fit read s client rolls_back fit r
+  accepted-fit s client RevertProcessedSwPackages low fit r = led-fit read s client reverts fit r
+  accepted-fit s client (Cancel id) low fit r = cancel-fit read s client id fit r
+
+  judge-fit : (s : NodeState) (client : ℕ) (c : Call) → client < client_limit → IsFit read s → IsFit read (judge s client c (verdict_for read s client c)).0
+  judge-fit s client c low fit = go (refusal s client c (verdict_for read s client c)) refl
+    where
+      done : (r : Reply) → IsFit read (accepted s client c (verdict_for read s client c)) → IsFit read (after_reply s client c (verdict_for read s client c) r)
+      done Done h = h
+      done (Started id) h = h
+      done (Synced x) h = h
+      done (Refused why) h = fit
+
+      go : (o : Option Refusal) → refusal s client c (verdict_for read s client c) ≡ o → IsFit read (after_reply s client c (verdict_for read s client c) (refused_or (acceptance s client c) o))
+      go None e = done (acceptance s client c) (accepted-fit s client c low fit e)
+      go (Some why) e = fit
+
+  executed-fit : (s : NodeState) (client : ℕ) (at : CallNo) (c : Call) → client < client_limit → IsFit read s → IsFit read (executed s client at c (verdict_for read s client c)).0
+  executed-fit s client at c low fit =
+      entry-fit read _ _ (kept-fit read (judge s client c (verdict_for read s client c)).0 client at (reply_to s client c (verdict_for read s client c)) (judge-fit s client c low fit))
+
+  step-fit : (s : NodeState) (client : ℕ) (at : CallNo) (c : Call) → client < client_limit → IsFit read s → IsFit read (step s client at c (verdict_for read s client c)).0
+  step-fit s client at c low fit = by (of_client s.last client)
+    where
+      done : IsFit read (executed s client at c (verdict_for read s client c)).0
+      done = executed-fit s client at c low fit
+
+      order : (kept : Kept) (o : Ordering) → IsFit read (by_order s (executed s client at c (verdict_for read s client c)) kept o).0
+      order kept Less = fit
+      order kept Equal = fit
+      order kept Greater = done
+
+      by : (o : Option Kept) → IsFit read (by_last s (executed s client at c (verdict_for read s client c)) at o).0
+      by None = done
+      by (Some kept) = order kept (call_no_cmp at kept.no)
+
+  -- a unit of a session
+  session-unit : (s : NodeState) (x : Session) (passed : Bool) → IsFit read s → s.session ≡ Some x → (st : Status) → s.status ≡ st → (t : NodeState) → unit_of s x passed st ≡ Some t → IsFit read t
+  session-unit s x passed fit e st q t k = go st q (at-status s x st q (busy-of s x e fit.consistent)) k
+    where
+      is : (u : NodeState) → IsFit read u → Some u ≡ Some t → IsFit read t
+      is u h m = let same : u ≡ t = cc m in subst (IsFit read) same h
+
+      packaged : s.status ≡ Processing → (id : ℕ) → x.processing ≡ Some id → Busy (record s { status = Processing }) (record x { processing = Some id }) → (b : Bool) → nat_lt (x.units_done + 1) (all_units (parts_of_id s x id)) ≡ b
+          → IsFit read (if b then record s { session = Some (record x { units_done = x.units_done + 1 }) } else processed s x id (parts_of_id s x id))
+      packaged p id m w true more =
+          subst (λ st. IsFit read (record s { status = st; session = Some (record x { units_done = x.units_done + 1 }) })) (sym p)
+          (subst (λ o. IsFit read (record s { status = Processing; session = Some (record x { processing = o; units_done = x.units_done + 1 }) })) (sym m) (more-fit read s x id fit w more))
+      packaged p id m w false more =
+          let u = processes s.next_id x.owner id s.transfers _ (base-of s fit.consistent).held w.each w.unfinished in
+          subst (λ ps. IsFit read (processed s x id ps)) (sym (ap parts_of u.is)) (last-fit read s x id u.transfer fit w u.is)
+
+      processing : s.status ≡ Processing → Busy (record s { status = Processing }) x → (o : Option ℕ) → x.processing ≡ o → option_and_then (λ id. Some (process_unit s x id)) o ≡ Some t → IsFit read t
+      processing p v None m j = absurd (cc)
+      processing p v (Some id) m j = is _ (packaged p id m (subst (λ o. Busy (record s { status = Processing }) (record x { processing = o })) m v) (nat_lt (x.units_done + 1) (all_units (parts_of_id s x id))) refl) j
+
+      go : (st : Status) → s.status ≡ st → Busy (record s { status = st }) x → unit_of s x passed st ≡ Some t → IsFit read t
+      go Idle p v j = absurd (cc)
+      go Ready p v j = absurd (cc)
+      go Processing p v j = processing p v x.processing refl j
+      go Activating p v j = is _ (activate-fit read s x fit v) j
+      go Verifying p v j = is _ (verify-fit read s x passed fit e v) j
+      go Activated p v j = absurd (cc)
+      go RollingBack p v j = is _ (roll_back-fit read s x fit e v) j
+      go RolledBack p v j = absurd (cc)
+      go CleaningUp p v j = is _ (clean_up-fit read s x fit v) j
+
+  unit-fit : (s : NodeState) (passed : Bool) → IsFit read s → IsFit read (unwrap_or (worked s passed) s)
+  unit-fit s passed fit = go s.session refl
+    where
+      one : (x : Session) → s.session ≡ Some x → (r : Option NodeState) → unit_of s x passed s.status ≡ r → IsFit read (unwrap_or (option_map (λ (t : NodeState). with_entry (UnitLine t.status) t) r) s)
+      one x e None q = fit
+      one x e (Some t) q = entry-fit read (UnitLine t.status) t (session-unit s x passed fit e s.status refl t q)
+
+      go : (o : Option Session) → s.session ≡ o → IsFit read (unwrap_or (option_map (λ (t : NodeState). with_entry (UnitLine t.status) t) (option_and_then (λ x. unit_of s x passed s.status) o)) s)
+      go None e = fit
+      go (Some x) e = one x e (unit_of s x passed s.status) refl
+
+  -- an entry of a legal history
+  answered : (s : NodeState) (client : ℕ) (at : CallNo) (c : Call) (r : Reply) → (step s client at c (verdict_for read s client c)).1 ≡ Answered r → r ≡ reply_to s client c (verdict_for read s client c)
+  answered s client at c r e = by (of_client s.last client) e
+    where
+      order : (kept : Kept) (o : Ordering) → (by_order s (executed s client at c (verdict_for read s client c)) kept o).1 ≡ Answered r → r ≡ reply_to s client c (verdict_for read s client c)
+      order kept Less q = absurd (cc)
+      order kept Equal q = absurd (cc)
+      order kept Greater q = cc
+
+      by : (o : Option Kept) → (by_last s (executed s client at c (verdict_for read s client c)) at o).1 ≡ Answered r → r ≡ reply_to s client c (verdict_for read s client c)
+      by None q = cc
+      by (Some kept) q = order kept (call_no_cmp at kept.no) q
+
+  next-fit : (s : NodeState) (entry : Entry) → IsFit read s → IsNext read s entry → IsFit read (after_entry read s entry)
+  next-fit s (Numbered client at c r) fit next =
+      subst (λ y. IsFit read (after_call s client at c (verdict_for read s client c) y)) (sym (answered s client at c r next.1)) (executed-fit s client at c next.0 fit)
+  next-fit s (UnitDone passed after) fit next = unit-fit s passed fit
+
+  history-fit : (s : NodeState) (entries : List Entry) → IsFit read s → IsLegal read s entries → IsFit read (state_after read s entries)
+  history-fit s [] fit legal = fit
+  history-fit s (entry ∷ entries) fit legal = history-fit (after_entry read s entry) entries (next-fit s entry fit legal.0) legal.1
+
+  pub keeps-fit : KeepsFit read
+  keeps-fit = record { formatted = formatted-fit read; judge = judge-fit; step = step-fit; unit = unit-fit; history = history-fit }

@@ -1,0 +1,16 @@
+pub mod Lists
+pub mod NameLists
+pub mod Planned
+pub mod Sessions
+pub mod Changed
+pub mod Quiet
+pub mod Refusals
+pub mod KeptTransfers
+pub mod KeptSessions
+pub mod KeptUnits
+pub mod Differ
+pub mod KeptProcessing
+pub mod KeptPackages
+pub mod Entries
+pub mod Kept
+pub mod Opened

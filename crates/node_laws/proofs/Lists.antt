@@ -1,0 +1,126 @@
+-- Facts of each element of a list, searches, and rising numbers.
+use Rattle.std.proofs.Common.{◌≡◌, refl, sym, ap, subst, ◌∙◌, ℕ, ◌<◌, ◌≤◌, Bool, true, false, List, [], ◌∷◌, ◌++◌, length, arith}
+use Rattle.std.specs.Prelude.{◌||◌, cond, find, filter, map, nat_lt, Some}
+use Rattle.std.specs.List.{list_any, AllByRecursion}
+use Rattle.std.specs.Cmp.Derive.{both_true}
+use Rattle.std.proofs.lemmas.Bool.{and_parts, ltb-true, lt-ltb}
+use Rattle.std.proofs.lemmas.Bool.Decides.{nat_tests}
+use Rattle.pm_types.specs.Validity.{numbers_rise}
+
+pub each-append : {X : Type 0} (P : X → Type 0) (xs ys : List X) → AllByRecursion P xs → AllByRecursion P ys → AllByRecursion P (xs ++ ys)
+each-append P [] ys h k = k
+each-append P (x ∷ xs) ys h k = (h.0, each-append P xs ys h.1 k)
+
+pub each-first : {X : Type 0} (P : X → Type 0) (xs ys : List X) → AllByRecursion P (xs ++ ys) → AllByRecursion P xs
+each-first P [] ys h = tt
+each-first P (x ∷ xs) ys h = (h.0, each-first P xs ys h.1)
+
+pub each-imp : {X : Type 0} (P Q : X → Type 0) → ((x : X) → P x → Q x) → (xs : List X) → AllByRecursion P xs → AllByRecursion Q xs
+each-imp P Q f [] h = tt
+each-imp P Q f (x ∷ xs) h = (f x h.0, each-imp P Q f xs h.1)
+
+pub each-both : {X : Type 0} (P Q R : X → Type 0) → ((x : X) → P x → Q x → R x) → (xs : List X) → AllByRecursion P xs → AllByRecursion Q xs → AllByRecursion R xs
+each-both P Q R f [] h k = tt
+each-both P Q R f (x ∷ xs) h k = (f x h.0 k.0, each-both P Q R f xs h.1 k.1)
+
+pub each-map : {X Y : Type 0} (P : Y → Type 0) (f : X → Y) (xs : List X) → AllByRecursion (λ x. P (f x)) xs → AllByRecursion P (map f xs)
+each-map P f [] h = tt
+each-map P f (x ∷ xs) h = (h.0, each-map P f xs h.1)
+
+pub each-unmap : {X Y : Type 0} (P : Y → Type 0) (f : X → Y) (xs : List X) → AllByRecursion P (map f xs) → AllByRecursion (λ x. P (f x)) xs
+each-unmap P f [] h = tt
+each-unmap P f (x ∷ xs) h = (h.0, each-unmap P f xs h.1)
+
+pub each-filter : {X : Type 0} (P : X → Type 0) (p : X → Bool) (xs : List X) → AllByRecursion P xs → AllByRecursion P (filter p xs)
+each-filter P p [] h = tt
+each-filter P p (x ∷ xs) h = go (p x) (each-filter P p xs h.1)
+  where
+    go : (b : Bool) → AllByRecursion P (filter p xs) → AllByRecursion P (cond b (x ∷ filter p xs) (filter p xs))
+    go true k = (h.0, k)
+    go false k = k
+
+-- what passes a filter passes its test
+pub each-passes : {X : Type 0} (p : X → Bool) (xs : List X) → AllByRecursion (λ x. p x ≡ true) (filter p xs)
+each-passes p [] = tt
+each-passes {X} p (x ∷ xs) = go (p x) refl (each-passes p xs)
+  where
+    go : (b : Bool) → p x ≡ b → AllByRecursion (λ y. p y ≡ true) (filter p xs) → AllByRecursion (λ y. p y ≡ true) (cond b (x ∷ filter p xs) (filter p xs))
+    go true e k = (e, k)
+    go false e k = k
+
+pub length-filter : {X : Type 0} (p : X → Bool) (xs : List X) → length (filter p xs) ≤ length xs
+length-filter p [] = omega arith
+length-filter p (x ∷ xs) = go (p x) (length-filter p xs)
+  where
+    go : (b : Bool) → length (filter p xs) ≤ length xs → length (cond b (x ∷ filter p xs) (filter p xs)) ≤ length (x ∷ xs)
+    go true k = omega arith
+    go false k = omega arith
+
+-- what a search finds passes its test and has each element's fact
+pub found-has : {X : Type 0} (p : X → Bool) (P : X → Type 0) (xs : List X) (x : X) → AllByRecursion P xs → find p xs ≡ Some x → (p x ≡ true) × P x
+found-has p P [] x h e = absurd (cc)
+found-has {X} p P (y ∷ ys) x h e = go (p y) refl e (found-has p P ys x h.1)
+  where
+    go : (b : Bool) → p y ≡ b → cond b (Some y) (find p ys) ≡ Some x → (find p ys ≡ Some x → (p x ≡ true) × P x) → (p x ≡ true) × P x
+    go true q k rec = let same : y ≡ x = cc k in (ap p (sym same) ∙ q, subst P same h.0)
+    go false q k rec = rec k
+
+-- a search goes through a filter that lets all that it looks for pass
+pub find-filter : {X : Type 0} (p q : X → Bool) → ((x : X) → p x ≡ true → q x ≡ true) → (xs : List X) → find p (filter q xs) ≡ find p xs
+find-filter p q f [] = refl
+find-filter {X} p q f (x ∷ xs) = go (q x) (p x) refl refl (find-filter p q f xs)
+  where
+    go : (a b : Bool) → q x ≡ a → p x ≡ b → find p (filter q xs) ≡ find p xs → find p (cond a (x ∷ filter q xs) (filter q xs)) ≡ cond b (Some x) (find p xs)
+    go true b e k rec = rw k (ap (cond b (Some x)) rec)
+    go false true e k rec = absurd (let z = f x k in let w : ⊥ = cc in w)
+    go false false e k rec = rec
+
+-- and so does the test that some element passes
+pub any-filter : {X : Type 0} (p q : X → Bool) (xs : List X) → AllByRecursion (λ x. p x ≡ true → q x ≡ true) xs → list_any p xs ≡ true → list_any p (filter q xs) ≡ true
+any-filter p q [] f h = h
+any-filter {X} p q (x ∷ xs) f h = go (q x) (p x) refl refl h (any-filter p q xs f.1)
+  where
+    go : (a b : Bool) → q x ≡ a → p x ≡ b → (b || list_any p xs) ≡ true → (list_any p xs ≡ true → list_any p (filter q xs) ≡ true) → list_any p (cond a (x ∷ filter q xs) (filter q xs)) ≡ true
+    go true true e k m rec = rw k refl
+    go true false e k m rec = rw k (rec m)
+    go false true e k m rec = absurd (let z = f.0 k in let w : ⊥ = cc in w)
+    go false false e k m rec = rec m
+
+pub any-more : {X : Type 0} (p : X → Bool) (xs ys : List X) → list_any p xs ≡ true → list_any p (xs ++ ys) ≡ true
+any-more p [] ys h = absurd (cc)
+any-more p (x ∷ xs) ys h = go (p x) h (any-more p xs ys)
+  where
+    go : (b : Bool) → (b || list_any p xs) ≡ true → (list_any p xs ≡ true → list_any p (xs ++ ys) ≡ true) → (b || list_any p (xs ++ ys)) ≡ true
+    go true k rec = refl
+    go false k rec = rec k
+
+-- numbers that rise
+pub rise-tail : (a : ℕ) (ns : List ℕ) → numbers_rise (a ∷ ns) ≡ true → numbers_rise ns ≡ true
+rise-tail a [] r = refl
+rise-tail a (b ∷ ns) r = (and_parts (nat_lt a b) (numbers_rise (b ∷ ns)) r).1
+
+pub rise-above : (a : ℕ) (ns : List ℕ) → numbers_rise (a ∷ ns) ≡ true → AllByRecursion (λ n. a < n) ns
+rise-above a [] r = tt
+rise-above a (b ∷ ns) r =
+    let parts = and_parts (nat_lt a b) (numbers_rise (b ∷ ns)) r in
+    let first = ltb-true a b parts.0 in
+    (first, each-imp _ _ (λ n h. omega (arith, first, h)) ns (rise-above b ns parts.1))
+
+rise-onto : (a : ℕ) (ns : List ℕ) → AllByRecursion (λ n. a < n) ns → numbers_rise ns ≡ true → numbers_rise (a ∷ ns) ≡ true
+rise-onto a [] h r = refl
+rise-onto a (b ∷ ns) h r = both_true (lt-ltb a b h.0) r
+
+pub rise-append : (ns : List ℕ) (n : ℕ) → numbers_rise ns ≡ true → AllByRecursion (λ m. m < n) ns → numbers_rise (ns ++ n ∷ []) ≡ true
+rise-append [] n r b = refl
+rise-append (a ∷ []) n r b = grind (arith, nat_tests, b.0)
+rise-append (a ∷ c ∷ ns) n r b =
+    let parts = and_parts (nat_lt a c) (numbers_rise (c ∷ ns)) r in
+    both_true parts.0 (rise-append (c ∷ ns) n parts.1 b.1)
+
+pub rise-filter : {X : Type 0} (f : X → ℕ) (p : X → Bool) (xs : List X) → numbers_rise (map f xs) ≡ true → numbers_rise (map f (filter p xs)) ≡ true
+rise-filter f p [] r = refl
+rise-filter {X} f p (x ∷ xs) r = go (p x) (rise-filter f p xs (rise-tail (f x) (map f xs) r))
+  where
+    go : (b : Bool) → numbers_rise (map f (filter p xs)) ≡ true → numbers_rise (map f (cond b (x ∷ filter p xs) (filter p xs))) ≡ true
+    go true rest = rise-onto (f x) (map f (filter p xs)) (each-map _ f (filter p xs) (each-filter _ p xs (each-unmap _ f xs (rise-above (f x) (map f xs) r)))) rest
+    go false rest = rest

@@ -1,0 +1,73 @@
+-- What a call that isn't refused shows.
+use Rattle.std.proofs.Common.{◌≡◌, refl, Bool, true, false, List, [], ◌∷◌}
+use Rattle.std.specs.Prelude.{◌==◌, not, ◌||◌, is_none, Option, Some, None}
+use Rattle.std.specs.List.{AllByRecursion}
+use Rattle.std.specs.Option.{option_or}
+use Rattle.pm_types.specs.declared.transfers.Header.{Header}
+use Rattle.pm_types.specs.declared.replies.Refusal.{Refusal}
+use Rattle.pm_types.specs.declared.status.Phase.{Phase}
+use Rattle.pm_types.specs.declared.status.Phase.TheVariants.{Transferring, Transferred, Processing as BeingProcessed, Processed}
+use Rattle.pm_types.specs.NodeState.{Transfer, is_in, phase_code}
+use Rattle.pm_types.specs.Refusals.{first_refusal}
+use Rattle.pm_types.specs.Transfers.{header_of}
+
+-- no test of a table that doesn't refuse holds
+pub rows-clear : (rows : List (Bool × Refusal)) → first_refusal rows ≡ None → AllByRecursion (λ row. row.0 ≡ false) rows
+rows-clear [] e = tt
+rows-clear ((false, r) ∷ rows) e = (refl, rows-clear rows e)
+rows-clear ((true, r) ∷ rows) e = absurd (cc)
+
+pub both-none : {X : Type 0} (o q : Option X) → option_or o q ≡ None → (o ≡ None) × (q ≡ None)
+both-none None q e = (refl, e)
+both-none (Some x) q e = absurd (cc)
+
+pub neither : (a b : Bool) → (a || b) ≡ false → (a ≡ false) × (b ≡ false)
+neither false b e = (refl, e)
+neither true b e = absurd (cc)
+
+pub not-false : (b : Bool) → not b ≡ false → b ≡ true
+not-false true e = refl
+not-false false e = absurd (cc)
+
+pub not-true : (b : Bool) → not b ≡ true → b ≡ false
+not-true true e = absurd (cc)
+not-true false e = refl
+
+pub or-false : (b : Bool) → (b || false) ≡ true → b ≡ true
+or-false true e = refl
+or-false false e = absurd (cc)
+
+pub some-header : (o : Option Transfer) → is_none (header_of o) ≡ false → (u : Transfer) × (o ≡ Some u)
+some-header (Some u) e = (u, refl)
+some-header None e = absurd (cc)
+
+pub some-transfer : (o : Option Transfer) → is_none o ≡ false → (u : Transfer) × (o ≡ Some u)
+some-transfer (Some u) e = (u, refl)
+some-transfer None e = absurd (cc)
+
+pub is-transferring : (h : Header) → is_in Transferring h ≡ true → h.phase ≡ Transferring
+is-transferring h e = go h.phase e
+  where
+    go : (p : Phase) → (phase_code p == 0) ≡ true → p ≡ Transferring
+    go Transferring q = refl
+    go Transferred q = absurd (cc)
+    go BeingProcessed q = absurd (cc)
+    go Processed q = absurd (cc)
+
+pub is-transferred : (h : Header) → is_in Transferred h ≡ true → h.phase ≡ Transferred
+is-transferred h e = go h.phase e
+  where
+    go : (p : Phase) → (phase_code p == 1) ≡ true → p ≡ Transferred
+    go Transferring q = absurd (cc)
+    go Transferred q = refl
+    go BeingProcessed q = absurd (cc)
+    go Processed q = absurd (cc)
+
+pub is-processing : (h : Header) → is_in BeingProcessed h ≡ true → h.phase ≡ BeingProcessed
+is-processing h e = go h.phase e
+  where
+    go : (p : Phase) → (phase_code p == 2) ≡ true → p ≡ BeingProcessed
+    go Transferring q = absurd (cc)
+    go Transferred q = absurd (cc)
+    go BeingProcessed q = refl
+    go Processed q = absurd (cc)
