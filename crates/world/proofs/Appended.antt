@@ -1,0 +1,69 @@
+-- One more entry of a history, and one more event of the master's list.
+use Rattle.std.proofs.Common.{◌≡◌, refl, sym, ap, subst, ◌∙◌, inl, inr, ℕ, List, [], ◌∷◌, ◌++◌}
+use Rattle.std.specs.Prelude.{option_map, Option, Some, None}
+use Rattle.pm_types.specs.declared.history.Entry.{Entry}
+use Rattle.pm_types.specs.NodeState.{NodeState}
+use Rattle.pm_types.specs.Histories.{Reading, after_entry, state_after}
+use Rattle.campaign_core.specs.declared.events.CampaignResult.{CampaignResult}
+use Rattle.campaign_core.specs.declared.events.MasterEvent.{MasterEvent}
+use Rattle.campaign_core.specs.declared.events.MasterEvent.TheVariants.{Start, Begin, PhaseTo, VoteOf, CancelAsked, Decide, EndedAt, Enter}
+use Rattle.campaign_core.specs.declared.fold.Current.{Current}
+use Rattle.campaign_core.specs.declared.fold.Fold.{Fold}
+use Rattle.campaign_core.specs.Campaign.{after_event, campaign_from, campaign, nothing_yet, entered}
+use Rattle.world.specs.Spans.{Spans, span_step, spans_from}
+use Rattle.world.specs.Law.{IsEntered}
+use Rattle.world.proofs.RulesLaw.{InEarlier}
+
+pub after-append : (read : Reading) (s : NodeState) (es : List Entry) (e : Entry) → state_after read s (es ++ e ∷ []) ≡ after_entry read (state_after read s es) e
+after-append read s [] e = refl
+after-append read s (x ∷ es) e = after-append read (after_entry read s x) es e
+
+pub spans-append : (read : Reading) (k : ℕ) (s : NodeState) (es : List Entry) (e : Entry) (x : Spans) → spans_from read k s (es ++ e ∷ []) x ≡ span_step k (state_after read s es) (after_entry read (state_after read s es) e) e (spans_from read k s es x)
+spans-append read k s [] e x = refl
+spans-append read k s (y ∷ es) e x = spans-append read k (after_entry read s y) es e _
+
+pub fold-append : (f : Fold) (es : List MasterEvent) (e : MasterEvent) → campaign_from f (es ++ e ∷ []) ≡ after_event (campaign_from f es) e
+fold-append f [] e = refl
+fold-append f (x ∷ es) e = fold-append (after_event f x) es e
+
+fold-both : (f : Fold) (es fs : List MasterEvent) → campaign_from f (es ++ fs) ≡ campaign_from (campaign_from f es) fs
+fold-both f [] fs = refl
+fold-both f (x ∷ es) fs = fold-both (after_event f x) es fs
+
+in-more : (e : ℕ × CampaignResult) (xs : List (ℕ × CampaignResult)) (y : ℕ × CampaignResult) → InEarlier e xs → InEarlier e (xs ++ y ∷ [])
+in-more e [] y h = absurd h
+in-more e (x ∷ xs) y (inl q) = inl q
+in-more e (x ∷ xs) y (inr h) = inr (in-more e xs y h)
+
+in-last : (e : ℕ × CampaignResult) (xs : List (ℕ × CampaignResult)) → InEarlier e (xs ++ e ∷ [])
+in-last e [] = inl refl
+in-last e (x ∷ xs) = inr (in-last e xs)
+
+-- an earlier campaign stays one
+stays : (f : Fold) (e : MasterEvent) (x : ℕ × CampaignResult) → InEarlier x f.earlier → InEarlier x (after_event f e).earlier
+stays f (Start epoch) x h = h
+stays f (Begin k named) x h = h
+stays f (PhaseTo p) x h = h
+stays f (VoteOf n v) x h = h
+stays f CancelAsked x h = h
+stays f (Decide d) x h = h
+stays f (EndedAt n o) x h = h
+stays f (Enter r) x h = go f.current
+  where
+    go : (o : Option Current) → InEarlier x (entered f.earlier o r)
+    go None = h
+    go (Some c) = in-more x f.earlier (c.campaign, r) h
+
+all-stay : (f : Fold) (es : List MasterEvent) (x : ℕ × CampaignResult) → InEarlier x f.earlier → InEarlier x (campaign_from f es).earlier
+all-stay f [] x h = h
+all-stay f (e ∷ es) x h = all-stay (after_event f e) es x (stays f e x h)
+
+-- a campaign that was entered is an earlier one of the fold
+pub entered-earlier : (k : ℕ) (result : CampaignResult) (list : List MasterEvent) → IsEntered k result list → InEarlier (k, result) (campaign list).earlier
+entered-earlier k result list h =
+    subst (λ (f : Fold). InEarlier (k, result) f.earlier) (sym (ap campaign h.there ∙ fold-both nothing_yet h.before (Enter result ∷ h.after)))
+    (all-stay (after_event (campaign h.before) (Enter result)) h.after (k, result) (go (campaign h.before).current h.of))
+  where
+    go : (o : Option Current) → option_map (λ c. c.campaign) o ≡ Some k → InEarlier (k, result) (entered (campaign h.before).earlier o result)
+    go None e = absurd (cc)
+    go (Some c) e = let same : c.campaign ≡ k = cc in subst (λ (i : ℕ). InEarlier (k, result) ((campaign h.before).earlier ++ (i, result) ∷ [])) (sym same) (in-last (k, result) (campaign h.before).earlier)

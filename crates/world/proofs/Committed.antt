@@ -1,0 +1,149 @@
+-- From the decision Commit on: a session that is Activated for the campaign ends as New, once.
+use Rattle.std.proofs.Common.{◌≡◌, ◌⊎◌, inl, inr, if◌then◌else◌, ◌&&◌, ◌||◌, ℕ, List, [], ◌∷◌, Option, Some, None, Bool, true, false, refl, sym, ◌∙◌, ap, subst}
+use Rattle.pm_types.specs.declared.status.Outcome.TheVariants.{New}
+use Rattle.pm_types.specs.declared.status.Status.{Status}
+use Rattle.pm_types.specs.declared.status.Status.TheVariants.{Activated, CleaningUp}
+use Rattle.campaign_core.specs.declared.events.Decision.TheVariants.{Commit}
+use Rattle.pm_types.specs.declared.calls.Call.{Call}
+use Rattle.pm_types.specs.declared.calls.Call.TheVariants.{Sync, TransferStart, TransferData, TransferExit, DeleteTransfer, ProcessSwPackage, Activate, Finish, Rollback, RevertProcessedSwPackages as Revert, Cancel}
+use Rattle.world.specs.Messages.{is_status}
+use Rattle.world.proofs.Rules.{NodeRules, NodeLaws, KeepsSession}
+use Rattle.world.specs.Messages.{Message, is_sync}
+use Rattle.world.proofs.RulesWorld.{Move, Delivered, Foreign, Unit_done, after}
+use Rattle.world.specs.Sends.{end_call_at, delete_at}
+use Rattle.world.proofs.RulesLaw.{Spans, spans, begins_span, IsNew}
+use Rattle.world.proofs.Invariant.{Executable}
+use Rattle.world.proofs.NodeLemmas.{refused-or, delivered-cases}
+use Rattle.world.proofs.Events.{above-last}
+
+-- a call that is sent after Commit
+abbrev pub IsCalm : Call → Type 0
+IsCalm call = (call ≡ Sync) ⊎ ((call ≡ Finish) ⊎ ((id : ℕ) × (call ≡ DeleteTransfer id)))
+
+pub late-commit : (call : Call) (o : Option Status) (shown : Option _) → (is_sync call || (end_call_at Commit o call || delete_at shown call)) ≡ true → IsCalm call
+late-commit Sync o shown e = inl refl
+late-commit Finish o shown e = inr (inl refl)
+late-commit (DeleteTransfer id) o shown e = inr (inr (id, refl))
+late-commit (TransferStart size) None shown e = absurd (let g : ⊥ = cc e in g)
+late-commit (TransferStart size) (Some s) shown e = absurd (let g : ⊥ = cc e in g)
+late-commit (TransferData id counter bytes) None shown e = absurd (let g : ⊥ = cc e in g)
+late-commit (TransferData id counter bytes) (Some s) shown e = absurd (let g : ⊥ = cc e in g)
+late-commit (TransferExit id) None shown e = absurd (let g : ⊥ = cc e in g)
+late-commit (TransferExit id) (Some s) shown e = absurd (let g : ⊥ = cc e in g)
+late-commit (ProcessSwPackage id tag) None shown e = absurd (let g : ⊥ = cc e in g)
+late-commit (ProcessSwPackage id tag) (Some s) shown e = absurd (let g : ⊥ = cc e in g)
+late-commit Activate None shown e = absurd (let g : ⊥ = cc e in g)
+late-commit Activate (Some s) shown e = absurd (let g : ⊥ = cc e in g)
+late-commit Rollback None shown e = absurd (let g : ⊥ = cc e in g)
+late-commit Rollback (Some s) shown e = absurd (let g : ⊥ = cc e in g)
+late-commit Revert None shown e = absurd (let g : ⊥ = cc e in g)
+late-commit Revert (Some s) shown e = absurd (let g : ⊥ = cc e in g)
+late-commit (Cancel id) None shown e = absurd (let g : ⊥ = cc e in g)
+late-commit (Cancel id) (Some s) shown e = absurd (let g : ⊥ = cc e in g)
+
+module _ (N : NodeRules) (laws : NodeLaws N) (k : ℕ) (changes : List N.Change) where
+  -- the campaign's session waits for Finish, or is being cleaned up after it
+  pub record Waits (s : N.State) : Type 0 where
+    pub mine : N.mine s ≡ Some k
+    pub status : (N.status s ≡ Activated) ⊎ ((N.status s ≡ CleaningUp) × (N.outcome s ≡ Some New))
+    pub planned : N.planned s ≡ changes
+
+  pub record IsWaiting (moves : List (Move N)) : Type 0 where
+    pub waits : Waits (after N moves)
+    pub is_open : (spans N k moves).is_open ≡ true
+    pub none : (spans N k moves).ended ≡ []
+
+  pub waits-keeps : (s t : N.State) → KeepsSession N s t → Waits s → Waits t
+  waits-keeps s t keeps w =
+      record {
+        mine = keeps.mine ∙ w.mine;
+        status = elim w.status [ inl a ↦ inl (keeps.status ∙ a) | inr c ↦ inr (keeps.status ∙ c.0, keeps.outcome ∙ c.1) ];
+        planned = keeps.planned ∙ w.planned;
+      }
+
+  pub waits-judge : (s : N.State) (call : Call) → IsCalm call → Waits s → Waits (N.judge s call).0
+  waits-judge s call calm w =
+      elim calm [
+        | inl e ↦ subst (λ c. Waits (N.judge s c).0) (sym e) (subst (λ t. Waits t) (sym (laws.sync_state s)) w)
+        | inr h ↦ elim h [
+          | inl e ↦ subst (λ c. Waits (N.judge s c).0) (sym e) finished
+          | inr d ↦ subst (λ c. Waits (N.judge s c).0) (sym d.1) (waits-keeps s (N.judge s (DeleteTransfer d.0)).0 (laws.delete_session s d.0) w)
+        ]
+      ]
+    where
+      finished : Waits (N.judge s Finish).0
+      finished =
+          refused-or N laws s Finish (λ t. Waits t) w (laws.six_replies s Finish (inr (inl refl))) (λ d.
+          let m = laws.finish_mine s d in
+          elim m.2 [
+            | inl a ↦ (let o = laws.finish_new.only s k w.mine d a in record { mine = o.0; status = inr (o.1, o.3); planned = o.2 ∙ w.planned })
+            | inr b ↦ absurd (elim w.status [ inl x ↦ (let g : ⊥ = cc (b, x) in g) | inr y ↦ (let g : ⊥ = cc (b, y.0) in g) ])
+          ])
+
+  pub waiting-foreign : (moves : List (Move N)) (call : N.ForeignCall) → IsWaiting moves → IsWaiting (Foreign call ∷ moves)
+  waiting-foreign moves call w =
+      record { waits = waits-keeps (after N moves) (N.foreign (after N moves) call) (laws.foreign_session (after N moves) call k w.waits.mine) w.waits; is_open = w.is_open; none = w.none }
+
+  pub waiting-delivered : (moves : List (Move N)) (m : Message) → (Executable N (after N moves) m → IsCalm m.call) → IsWaiting moves → IsWaiting (Delivered m ∷ moves)
+  waiting-delivered moves m calm w =
+      record {
+        waits =
+            delivered-cases N laws (after N moves) m.at m.call (λ t. Waits t) w.waits (λ a b.
+            waits-keeps (N.judge (after N moves) m.call).0 _ (laws.keep_session (N.judge (after N moves) m.call).0 m.at m.call (N.judge (after N moves) m.call).1)
+            (waits-judge (after N moves) m.call (calm (above-last m.at (N.last (after N moves)) a b)) w.waits));
+        is_open = subst (λ b. (b || begins_span N k (after N moves) m) ≡ true) (sym w.is_open) refl;
+        none = w.none;
+      }
+
+  -- a unit goes on waiting, or ends the one span as New
+  pub waiting-unit : (moves : List (Move N)) (passed : Bool) → IsWaiting moves → IsWaiting (Unit_done passed ∷ moves) ⊎ IsNew N k changes (Unit_done passed ∷ moves)
+  waiting-unit moves passed w = elim w.waits.status [ inl a ↦ inl (waiting a) | inr c ↦ inr (ends c.0 c.1) ]
+    where
+      still_spans : (b : Bool) → (spans N k moves).is_open ≡ true → b ≡ false → (z : Spans N) → (if ((spans N k moves).is_open && b) then z else spans N k moves) ≡ spans N k moves
+      still_spans b o e z = subst (λ c. (if ((spans N k moves).is_open && c) then z else spans N k moves) ≡ spans N k moves) (sym e) (subst (λ c. (if (c && false) then z else spans N k moves) ≡ spans N k moves) (sym o) refl)
+
+      shut_spans : (b : Bool) → (spans N k moves).is_open ≡ true → b ≡ true → (z : Spans N) → (if ((spans N k moves).is_open && b) then z else spans N k moves) ≡ z
+      shut_spans b o e z = subst (λ c. (if ((spans N k moves).is_open && c) then z else spans N k moves) ≡ z) (sym e) (subst (λ c. (if (c && true) then z else spans N k moves) ≡ z) (sym o) refl)
+
+      waiting : N.status (after N moves) ≡ Activated → IsWaiting (Unit_done passed ∷ moves)
+      waiting a =
+          let same : N.unit (after N moves) passed ≡ after N moves = laws.unit_still (after N moves) passed (rw a refl) in
+          let no_close : is_status (N.status (after N moves)) CleaningUp ≡ false = rw a refl in
+          let e = still_spans (is_status (N.status (after N moves)) CleaningUp) w.is_open no_close (record { is_open = false; ended = record { outcome = N.outcome (after N moves); before = after N moves; left = N.unit (after N moves) passed } ∷ (spans N k moves).ended }) in
+          record { waits = subst (λ t. Waits t) (sym same) w.waits; is_open = ap (λ y. y.is_open) e ∙ w.is_open; none = ap (λ y. y.ended) e ∙ w.none }
+
+      ends : N.status (after N moves) ≡ CleaningUp → N.outcome (after N moves) ≡ Some New → IsNew N k changes (Unit_done passed ∷ moves)
+      ends c o =
+          let closes' : is_status (N.status (after N moves)) CleaningUp ≡ true = rw c refl in
+          let e = shut_spans (is_status (N.status (after N moves)) CleaningUp) w.is_open closes' (record { is_open = false; ended = record { outcome = N.outcome (after N moves); before = after N moves; left = N.unit (after N moves) passed } ∷ (spans N k moves).ended }) in
+          record {
+            span = record { outcome = N.outcome (after N moves); before = after N moves; left = N.unit (after N moves) passed };
+            only = subst (λ l. spans N k (Unit_done passed ∷ moves) ≡ record { is_open = false; ended = record { outcome = N.outcome (after N moves); before = after N moves; left = N.unit (after N moves) passed } ∷ l }) w.none e;
+            outcome = o;
+            brings = subst (λ l. N.Brings l (after N moves) (N.unit (after N moves) passed)) w.waits.planned (laws.cleaning_new (after N moves) passed k w.waits.mine c o);
+          }
+
+  -- what has ended as New stays so while no delivery begins a span of this tag
+  pub new-foreign : (moves : List (Move N)) (call : N.ForeignCall) → IsNew N k changes moves → IsNew N k changes (Foreign call ∷ moves)
+  new-foreign moves call h = record { span = h.span; only = h.only; outcome = h.outcome; brings = h.brings }
+
+  pub new-unit : (moves : List (Move N)) (passed : Bool) → IsNew N k changes moves → IsNew N k changes (Unit_done passed ∷ moves)
+  new-unit moves passed h =
+      record {
+        span = h.span;
+        only = subst (λ y. (if (y.is_open && is_status (N.status (after N moves)) CleaningUp) then record { is_open = false; ended = record { outcome = N.outcome (after N moves); before = after N moves; left = N.unit (after N moves) passed } ∷ y.ended } else y) ≡ record { is_open = false; ended = h.span ∷ [] }) (sym h.only) refl;
+        outcome = h.outcome;
+        brings = h.brings;
+      }
+
+  pub new-delivered : (moves : List (Move N)) (m : Message) → begins_span N k (after N moves) m ≡ false → IsNew N k changes moves → IsNew N k changes (Delivered m ∷ moves)
+  new-delivered moves m no_begin h =
+      record {
+        span = h.span;
+        only =
+            let with_open : Bool → Spans N = λ b. record { is_open = b; ended = h.span ∷ [] } in
+            let P : Spans N → Type 0 = λ y. ◌≡◌ {A = Spans N} (record { is_open = y.is_open || begins_span N k (after N moves) m; ended = y.ended }) (record { is_open = false; ended = h.span ∷ [] }) in
+            subst P (sym h.only) (ap with_open no_begin);
+        outcome = h.outcome;
+        brings = h.brings;
+      }

@@ -1,0 +1,489 @@
+-- What deliveries, foreign calls and units keep of the invariant.
+use Rattle.std.proofs.Common.{◌≡◌, ◌≢◌, ◌⊎◌, inl, inr, if◌then◌else◌, ◌&&◌, ◌||◌, ℕ, ◌<◌, List, [], ◌∷◌, Option, Some, None, Bool, true, false, is_some, nat_eq, nat_lt, refl, sym, ◌∙◌, ap, subst, arith}
+use Rattle.std.proofs.lemmas.Bool.{eqb-true}
+use Rattle.std.proofs.lemmas.Bool.Decides.{nat_tests}
+use Rattle.ucm_base.specs.declared.ids.CallNo.{CallNo}
+use Rattle.pm_types.specs.declared.status.Status.{Status}
+use Rattle.pm_types.specs.declared.status.Status.TheVariants.{Idle, Ready, Processing, Activating, Verifying, Activated, RollingBack, RolledBack, CleaningUp}
+use Rattle.campaign_core.specs.declared.events.Decision.{Decision}
+use Rattle.campaign_core.specs.declared.events.Decision.TheVariants.{Commit, Abort}
+use Rattle.campaign_core.specs.declared.fold.Fold.{Fold}
+use Rattle.campaign_core.specs.declared.fold.Current.{Current}
+use Rattle.pm_types.specs.declared.calls.Call.{Call}
+use Rattle.pm_types.specs.declared.replies.Reply.{Reply}
+use Rattle.pm_types.specs.declared.calls.Call.TheVariants.{Sync, TransferStart, TransferData, TransferExit, DeleteTransfer, ProcessSwPackage, Activate, Finish, Rollback, RevertProcessedSwPackages as Revert, Cancel}
+use Rattle.pm_types.specs.declared.replies.Reply.TheVariants.{Done, Started, Synced, Refused}
+use Rattle.pm_types.specs.declared.replies.Reached.TheVariants.{Stale, Again, Done as Fresh}
+use Rattle.world.specs.Messages.{IsBelow, no_lt, no_eq, is_status}
+use Rattle.pm_types.specs.NodeState.{is_working}
+use Rattle.world.proofs.Rules.{NodeRules, NodeLaws, delivered, reached}
+use Rattle.world.specs.Messages.{Message, Told, Answered, Showed, InSent, InTold, is_sync, is_done}
+use Rattle.world.proofs.RulesWorld.{Move, Delivered, Foreign, Unit_done, NodeWorld, step, state_of}
+use Rattle.world.specs.Sends.{session_status, is_end_sync, shown_if, or_else, status_if, status_of_shown, last_shown, last_status}
+use Rattle.world.proofs.RulesLaw.{Span, Spans, spans, is_fresh_done, begins_span, EachEnded}
+use Rattle.world.specs.Spans.{has_tag}
+use Rattle.world.proofs.Invariant.{IsRolledBack, EndsOld, KeptHolds, Executable, NoneEarly, InPresent, NotCommit, KeptOld, KeptFold}
+use Rattle.world.proofs.NodeLemmas.{rolled-keeps, ends_old-keeps, rolled-foreign, ends_old-foreign, rolled-unit, ends_old-unit, kept-foreign, kept-unit, kept-delivered, delivered-cases, none-judge, some-judge, some-delivered, rolled-judge, ends_old-judge, cleaned}
+
+-- order of numbers
+pub below-trans : (a b c : CallNo) → IsBelow a b → IsBelow b c → IsBelow a c
+below-trans a b c (inl p) (inl q) = inl (omega arith)
+below-trans a b c (inl p) (inr q) = inl (omega arith)
+below-trans a b c (inr p) (inl q) = inl (omega arith)
+below-trans a b c (inr p) (inr q) = inr (omega arith, omega arith)
+
+pub below-irrefl : (a : CallNo) → IsBelow a a → ⊥
+below-irrefl a (inl p) = omega arith
+below-irrefl a (inr p) = omega arith
+
+below-tests : (a b c d : ℕ) → (nat_lt a c || (nat_eq a c && nat_lt b d)) ≡ false → (nat_eq a c && nat_eq b d) ≡ false → (c < a) ⊎ ((c ≡ a) × (d < b))
+below-tests a b c d p q = grind (arith, nat_tests)
+
+pub above-last : (a b : CallNo) → no_lt a b ≡ false → no_eq a b ≡ false → IsBelow b a
+above-last a b p q = below-tests a.epoch a.number b.epoch b.number p q
+
+pub eq-tests : (a b c d : ℕ) → (nat_lt a c || (nat_eq a c && nat_lt b d)) ≡ false → (nat_eq a c && nat_eq b d) ≡ true → (a ≡ c) × (b ≡ d)
+eq-tests a b c d p q = grind (arith, nat_tests)
+
+-- what was told
+abbrev pub SyncTold : ℕ → ℕ → List Told → Type 0
+SyncTold k epoch ts = (m : Message) × (r : Reply) × InTold (Answered m r) ts × (is_end_sync k epoch m ≡ true)
+
+told-later : (k epoch : ℕ) (t : Told) (ts : List Told) → SyncTold k epoch ts → SyncTold k epoch (t ∷ ts)
+told-later k epoch t ts h = (h.0, h.1, inr h.2, h.3)
+
+pub shown-told : (k epoch : ℕ) (ts : List Told) → is_some (last_shown k epoch ts) ≡ true → SyncTold k epoch ts
+shown-told k epoch [] e = absurd (let f : ⊥ = cc e in f)
+shown-told k epoch (Showed s ∷ ts) e = told-later k epoch (Showed s) ts (shown-told k epoch ts e)
+shown-told k epoch (Answered m r ∷ ts) e = go (is_end_sync k epoch m) refl (λ q. shown-told k epoch ts q) e
+  where
+    go : (b : Bool) → is_end_sync k epoch m ≡ b → (is_some (last_shown k epoch ts) ≡ true → SyncTold k epoch ts) → is_some (or_else (shown_if b r) (last_shown k epoch ts)) ≡ true → SyncTold k epoch (Answered m r ∷ ts)
+    go true q rec e' = (m, r, inl refl, q)
+    go false q rec e' = told-later k epoch (Answered m r) ts (rec e')
+
+pub status-told : (k epoch : ℕ) (ts : List Told) (x : Status) → last_status k epoch ts ≡ Some x → SyncTold k epoch ts
+status-told k epoch [] x e = absurd (let f : ⊥ = cc e in f)
+status-told k epoch (Showed s ∷ ts) x e = go (is_some (last_shown k epoch ts)) refl (λ q. status-told k epoch ts x q) e
+  where
+    go : (b : Bool) → is_some (last_shown k epoch ts) ≡ b → (last_status k epoch ts ≡ Some x → SyncTold k epoch ts) → or_else (status_if b s) (last_status k epoch ts) ≡ Some x → SyncTold k epoch (Showed s ∷ ts)
+    go true q rec e' = told-later k epoch (Showed s) ts (shown-told k epoch ts q)
+    go false q rec e' = told-later k epoch (Showed s) ts (rec e')
+status-told k epoch (Answered m r ∷ ts) x e = go (is_end_sync k epoch m) refl (λ q. status-told k epoch ts x q) e
+  where
+    go : (b : Bool) → is_end_sync k epoch m ≡ b → (last_status k epoch ts ≡ Some x → SyncTold k epoch ts) → or_else (status_of_shown (shown_if b r)) (last_status k epoch ts) ≡ Some x → SyncTold k epoch (Answered m r ∷ ts)
+    go true q rec e' = (m, r, inl refl, q)
+    go false q rec e' = told-later k epoch (Answered m r) ts (rec e')
+
+pub end-sync-decided : (k epoch : ℕ) (m : Message) → is_end_sync k epoch m ≡ true → (m.decided ≡ true) × (m.campaign ≡ k)
+end-sync-decided k epoch m e = go (is_sync m.call) m.decided (nat_eq m.campaign k) refl refl e
+  where
+    go : (a b c : Bool) → m.decided ≡ b → nat_eq m.campaign k ≡ c → (a && (b && (c && nat_eq m.at.epoch epoch))) ≡ true → (m.decided ≡ true) × (m.campaign ≡ k)
+    go true true true p q e' = (p, eqb-true m.campaign k q)
+    go true true false p q e' = absurd (let f : ⊥ = cc e' in f)
+    go true false c p q e' = absurd (let f : ⊥ = cc e' in f)
+    go false b c p q e' = absurd (let f : ⊥ = cc e' in f)
+
+module _ (N : NodeRules) (laws : NodeLaws N) (f : Fold) (n : ℕ) where
+  -- after an answer to a message of the decided campaign nothing from before the decision is executable
+  pub none-early : (x : NodeWorld N) → KeptOld N f n x → (c : Current) → f.current ≡ Some c → (m : Message) (r : Reply) → InTold (Answered m r) x.told → m.decided ≡ true → m.campaign ≡ c.campaign → NoneEarly N (state_of N x) x.sent
+  none-early x kept c current m r told decided campaign m' sent' early exec =
+      let here = kept.present m' sent' exec in
+      let c_is : here.0 ≡ c = let e : Some here.0 ≡ Some c = sym here.1 ∙ current in cc e in
+      let same : m.campaign ≡ m'.campaign = campaign ∙ (sym (ap (λ y. y.campaign) c_is) ∙ sym here.4) in
+      let known = kept.told_sent m r told in
+      known.1 (below-trans (N.last (state_of N x)) m'.at m.at exec (kept.ordered m m' known.0 sent' same decided early))
+
+  pub none-early-status : (x : NodeWorld N) → KeptOld N f n x → (c : Current) → f.current ≡ Some c → (s : Status) → last_status c.campaign f.epoch x.told ≡ Some s → NoneEarly N (state_of N x) x.sent
+  none-early-status x kept c current s e =
+      let h = status-told c.campaign f.epoch x.told s e in
+      let d = end-sync-decided c.campaign f.epoch h.0 h.3 in
+      none-early x kept c current h.0 h.1 h.2 d.0 d.1
+
+  -- one step of the node, with what is asked of it
+  record Steps (x : NodeWorld N) (move : Move N) : Type 0 where
+    back : (m : Message) → InSent m x.sent → Executable N (step N (state_of N x) move) m → Executable N (state_of N x) m
+    none : NoneEarly N (state_of N x) x.sent → N.mine (state_of N x) ≡ None → N.mine (step N (state_of N x) move) ≡ None
+    rolled : NoneEarly N (state_of N x) x.sent → IsRolledBack N (state_of N x) → IsRolledBack N (step N (state_of N x) move)
+    kept_holds : KeptHolds N (step N (state_of N x) move)
+    ends_old : (c : Current) → f.current ≡ Some c → NotCommit c.decision → EndsOld N (step N (state_of N x) move)
+    session : (tag : ℕ) → N.mine (step N (state_of N x) move) ≡ Some tag → InPresent f n (λ c. tag ≡ c.campaign)
+    open_span : (k : ℕ) → (spans N k (move ∷ x.moves)).is_open ≡ true → N.mine (step N (state_of N x) move) ≡ Some k
+    ended : (k : ℕ) → ((spans N k (move ∷ x.moves)).ended ≡ (spans N k x.moves).ended) ⊎ ((c : Current) × (f.current ≡ Some c) × (k ≡ c.campaign) × (NotCommit c.decision → EachEnded N (λ y. N.Leaves y.before y.left) (spans N k (move ∷ x.moves)).ended))
+
+  moved : NodeWorld N → Move N → NodeWorld N
+  moved x move = record { moves = move ∷ x.moves; sent = x.sent; told = x.told }
+
+  kept-step : (x : NodeWorld N) (move : Move N) → KeptFold f → KeptOld N f n x → Steps x move → KeptOld N f n (record { moves = move ∷ x.moves; sent = x.sent; told = x.told })
+  kept-step x move fold kept steps =
+      record {
+        falling = kept.falling;
+        epochs = kept.epochs;
+        tags = kept.tags;
+        early = kept.early;
+        decided = kept.decided;
+        ordered = kept.ordered;
+        begun = kept.begun;
+        present = λ m sent exec. kept.present m sent (steps.back m sent exec);
+        told_sent = λ m r told. let h = kept.told_sent m r told in (h.0, λ exec. h.1 (steps.back m h.0 exec));
+        told_none = λ m y told d c current campaign free. steps.none (none-early x kept c current m (Synced y) told d campaign) (kept.told_none m y told d c current campaign free);
+        told_rolled = λ c current e. steps.rolled (none-early-status x kept c current RolledBack e) (kept.told_rolled c current e);
+        kept_holds = steps.kept_holds;
+        finish = λ c cause current abort m sent call exec.
+            let h = kept.finish c cause current abort m sent call (steps.back m sent exec) in
+            (λ m' sent' early exec'. h.0 m' sent' early (steps.back m' sent' exec'), steps.rolled h.0 h.1);
+        ends_old = steps.ends_old;
+        session = steps.session;
+        open_span = steps.open_span;
+        old_so_far = λ c current d.
+            elim (steps.ended c.campaign) [
+              | inl e ↦ subst (λ l. EachEnded N (λ y. N.Leaves y.before y.left) l) (sym e) (kept.old_so_far c current d)
+              | inr h ↦ (let c_is : h.0 ≡ c = (let e : Some h.0 ≡ Some c = sym h.1 ∙ current in cc e) in h.3 (subst (λ y. NotCommit y.decision) (sym c_is) d))
+            ];
+        fresh = λ k is_fresh.
+            elim (steps.ended k) [ inl e ↦ e ∙ kept.fresh k is_fresh | inr h ↦ absurd (is_fresh.other h.0 h.1 (sym h.2)) ];
+        entered = λ k result earlier r.
+            elim (steps.ended k) [
+              | inl e ↦ subst (λ l. EachEnded N (λ y. N.Leaves y.before y.left) l) (sym e) (kept.entered k result earlier r)
+              | inr h ↦ absurd (fold.above h.0 h.1 k result earlier h.2)
+            ];
+      }
+
+  pub event-foreign : (x : NodeWorld N) (call : N.ForeignCall) → KeptFold f → KeptOld N f n x → KeptOld N f n (record { moves = Foreign call ∷ x.moves; sent = x.sent; told = x.told })
+  event-foreign x call fold kept = kept-step x (Foreign call) fold kept steps
+    where
+      mine-back : (tag : ℕ) → N.mine (N.foreign (state_of N x) call) ≡ Some tag → N.mine (state_of N x) ≡ Some tag
+      mine-back tag e = go (N.mine (state_of N x)) refl
+        where
+          go : (o : Option ℕ) → N.mine (state_of N x) ≡ o → N.mine (state_of N x) ≡ Some tag
+          go None q = absurd (let g : ⊥ = cc (laws.foreign_none (state_of N x) call q, e) in g)
+          go (Some t) q = sym (laws.foreign_session (state_of N x) call t q).mine ∙ e
+
+      steps : Steps x (Foreign call)
+      steps =
+          record {
+            back = λ m sent exec. subst (λ l. IsBelow l m.at) (laws.foreign_last (state_of N x) call).0 exec;
+            none = λ early e. laws.foreign_none (state_of N x) call e;
+            rolled = λ early r. rolled-foreign N laws (state_of N x) call r;
+            kept_holds = kept-foreign N laws (state_of N x) call kept.kept_holds;
+            ends_old = λ c current d. ends_old-foreign N laws (state_of N x) call (kept.ends_old c current d);
+            session = λ tag e. kept.session tag (mine-back tag e);
+            open_span = λ k e. let mine = kept.open_span k e in (laws.foreign_session (state_of N x) call k mine).mine ∙ mine;
+            ended = λ k. inl refl;
+          }
+
+  -- a unit
+  pub unit-mine : (s : N.State) (passed : Bool) (tag : ℕ) → N.mine s ≡ Some tag → (N.mine (N.unit s passed) ≡ Some tag) ⊎ ((N.status s ≡ CleaningUp) × (N.mine (N.unit s passed) ≡ None))
+  unit-mine s passed tag e = at_status (N.status s) refl
+    where
+      same : (x : Status) → N.status s ≡ x → is_working x ≡ false → N.mine (N.unit s passed) ≡ Some tag
+      same x i w = ap N.mine (laws.unit_still s passed (ap is_working i ∙ w)) ∙ e
+
+      at_status : (x : Status) → N.status s ≡ x → (N.mine (N.unit s passed) ≡ Some tag) ⊎ ((N.status s ≡ CleaningUp) × (N.mine (N.unit s passed) ≡ None))
+      at_status Idle i = inl (same Idle i refl)
+      at_status Ready i = inl (same Ready i refl)
+      at_status Processing i = let id = laws.processing_id s tag e i in inl (laws.unit_processing s passed tag id.0 e i id.1).0
+      at_status Activating i = inl (laws.unit_activating s passed tag e i).0
+      at_status Verifying i = inl (laws.unit_verifying s passed tag e i).0
+      at_status Activated i = inl (same Activated i refl)
+      at_status RollingBack i = inl (laws.unit_rolling s passed tag e i).0
+      at_status RolledBack i = inl (same RolledBack i refl)
+      at_status CleaningUp i = inr (i, cleaned N laws s passed tag e i)
+
+  pub unit-back : (s : N.State) (passed : Bool) (tag : ℕ) → N.mine (N.unit s passed) ≡ Some tag → N.mine s ≡ Some tag
+  unit-back s passed tag e = go (N.mine s) refl
+    where
+      go : (o : Option ℕ) → N.mine s ≡ o → N.mine s ≡ Some tag
+      go None q = absurd (let g : ⊥ = cc ((laws.unit_none s passed q).0, e) in g)
+      go (Some t) q =
+          elim (unit-mine s passed t q) [ inl h ↦ q ∙ (sym h ∙ e) | inr h ↦ absurd (let g : ⊥ = cc (h.1, e) in g) ]
+
+  pub is-cleaning : (x : Status) → is_status x CleaningUp ≡ true → x ≡ CleaningUp
+  is-cleaning Idle e = absurd (let g : ⊥ = cc e in g)
+  is-cleaning Ready e = absurd (let g : ⊥ = cc e in g)
+  is-cleaning Processing e = absurd (let g : ⊥ = cc e in g)
+  is-cleaning Activating e = absurd (let g : ⊥ = cc e in g)
+  is-cleaning Verifying e = absurd (let g : ⊥ = cc e in g)
+  is-cleaning Activated e = absurd (let g : ⊥ = cc e in g)
+  is-cleaning RollingBack e = absurd (let g : ⊥ = cc e in g)
+  is-cleaning RolledBack e = absurd (let g : ⊥ = cc e in g)
+  is-cleaning CleaningUp e = refl
+
+  -- a span under a unit
+  still-open : (y : Spans N) (b : Bool) (z : List (Span N)) → (if (y.is_open && b) then record { is_open = false; ended = z } else y).is_open ≡ true → (y.is_open ≡ true) × (b ≡ false)
+  still-open y b z e = go y.is_open b refl refl e
+    where
+      go : (o c : Bool) → y.is_open ≡ o → b ≡ c → (if (o && c) then record { is_open = false; ended = z } else y).is_open ≡ true → (y.is_open ≡ true) × (b ≡ false)
+      go true true p q e' = absurd (let g : ⊥ = cc e' in g)
+      go true false p q e' = (p, q)
+      go false c p q e' = absurd (let g : ⊥ = cc (p, e') in g)
+
+  pub span-ended : (y : Spans N) (b : Bool) (z : List (Span N)) → ((if (y.is_open && b) then record { is_open = false; ended = z } else y).ended ≡ y.ended) ⊎ ((y.is_open ≡ true) × (b ≡ true) × ((if (y.is_open && b) then record { is_open = false; ended = z } else y).ended ≡ z))
+  span-ended y b z = go y.is_open b refl refl
+    where
+      go : (o c : Bool) → y.is_open ≡ o → b ≡ c → ((if (o && c) then record { is_open = false; ended = z } else y).ended ≡ y.ended) ⊎ ((y.is_open ≡ true) × (b ≡ true) × ((if (o && c) then record { is_open = false; ended = z } else y).ended ≡ z))
+      go true true p q = inr (p, q, refl)
+      go true false p q = inl refl
+      go false c p q = inl refl
+
+  pub event-unit : (x : NodeWorld N) (passed : Bool) → KeptFold f → KeptOld N f n x → KeptOld N f n (record { moves = Unit_done passed ∷ x.moves; sent = x.sent; told = x.told })
+  event-unit x passed fold kept = kept-step x (Unit_done passed) fold kept steps
+    where
+      steps : Steps x (Unit_done passed)
+      steps =
+          record {
+            back = λ m sent exec. subst (λ l. IsBelow l m.at) (laws.unit_last (state_of N x) passed).0 exec;
+            none = λ early e. (laws.unit_none (state_of N x) passed e).0;
+            rolled = λ early r. rolled-unit N laws (state_of N x) passed r;
+            kept_holds = kept-unit N laws (state_of N x) passed kept.kept_holds;
+            ends_old = λ c current d. ends_old-unit N laws (state_of N x) passed (kept.ends_old c current d);
+            session = λ tag e. kept.session tag (unit-back (state_of N x) passed tag e);
+            open_span = λ k e.
+                let h = still-open (spans N k x.moves) (is_status (N.status (state_of N x)) CleaningUp) _ e in
+                let mine = kept.open_span k h.0 in
+                elim (unit-mine (state_of N x) passed k mine) [
+                  | inl q ↦ q
+                  | inr q ↦ absurd (let t : is_status (N.status (state_of N x)) CleaningUp ≡ true = rw q.0 refl in let g : ⊥ = cc (t, h.1) in g)
+                ];
+            ended = λ k.
+                elim (span-ended (spans N k x.moves) (is_status (N.status (state_of N x)) CleaningUp) (record { outcome = N.outcome (state_of N x); before = state_of N x; left = N.unit (state_of N x) passed } ∷ (spans N k x.moves).ended)) [
+                  | inl e ↦ inl e
+                  | inr h ↦
+                      (let mine = kept.open_span k h.0 in
+                      let here = kept.session k mine in
+                      let cleaning = is-cleaning (N.status (state_of N x)) h.1 in
+                      inr (
+                        here.0,
+                        here.1,
+                        here.4,
+                        λ d.
+                            subst (λ l. EachEnded N (λ y. N.Leaves y.before y.left) l) (sym h.2) (
+                              laws.cleaning_old (state_of N x) passed k mine cleaning (kept.ends_old here.0 here.1 d k mine cleaning),
+                              subst (λ j. EachEnded N (λ y. N.Leaves y.before y.left) (spans N j x.moves).ended) (sym here.4) (kept.old_so_far here.0 here.1 d),
+                            ),
+                      ))
+                ];
+          }
+
+  -- a delivery
+  pub done-is : (r : Reply) → is_done r ≡ true → r ≡ Done
+  done-is Done e = refl
+  done-is (Started _) e = absurd (let g : ⊥ = cc e in g)
+  done-is (Synced _) e = absurd (let g : ⊥ = cc e in g)
+  done-is (Refused _) e = absurd (let g : ⊥ = cc e in g)
+
+  pub is-idle : (x : Status) → is_status x Idle ≡ true → x ≡ Idle
+  is-idle Idle e = refl
+  is-idle Ready e = absurd (let g : ⊥ = cc e in g)
+  is-idle Processing e = absurd (let g : ⊥ = cc e in g)
+  is-idle Activating e = absurd (let g : ⊥ = cc e in g)
+  is-idle Verifying e = absurd (let g : ⊥ = cc e in g)
+  is-idle Activated e = absurd (let g : ⊥ = cc e in g)
+  is-idle RollingBack e = absurd (let g : ⊥ = cc e in g)
+  is-idle RolledBack e = absurd (let g : ⊥ = cc e in g)
+  is-idle CleaningUp e = absurd (let g : ⊥ = cc e in g)
+
+  pub and-left : (a b : Bool) → (a && b) ≡ true → (a ≡ true) × (b ≡ true)
+  and-left true b e = (refl, e)
+  and-left false b e = absurd (let g : ⊥ = cc e in g)
+
+  idle-none : (s : N.State) → N.status s ≡ Idle → N.mine s ≡ None
+  idle-none s i = go (N.mine s) refl
+    where
+      go : (o : Option ℕ) → N.mine s ≡ o → N.mine s ≡ None
+      go None e = e
+      go (Some tag) e = absurd (laws.session_status s tag e i)
+
+  pub begins-mine : (k : ℕ) (s : N.State) (at : CallNo) (call : Call) → (has_tag k call && (is_status (N.status s) Idle && is_fresh_done (reached N s at call))) ≡ true → N.mine (delivered N s at call) ≡ Some k
+  begins-mine k s at Sync e = absurd (let g : ⊥ = cc e in g)
+  begins-mine k s at (TransferStart size) e = absurd (let g : ⊥ = cc e in g)
+  begins-mine k s at (TransferData id counter bytes) e = absurd (let g : ⊥ = cc e in g)
+  begins-mine k s at (TransferExit id) e = absurd (let g : ⊥ = cc e in g)
+  begins-mine k s at (DeleteTransfer id) e = absurd (let g : ⊥ = cc e in g)
+  begins-mine k s at (ProcessSwPackage id tag) e = go (no_lt at (N.last s)) (no_eq at (N.last s)) (and-left (is_status (N.status s) Idle) (is_fresh_done (reached N s at (ProcessSwPackage id tag))) (and-left (nat_eq tag k) (is_status (N.status s) Idle && is_fresh_done (reached N s at (ProcessSwPackage id tag))) e).1).1
+    where
+      go : (a b : Bool) → is_fresh_done (if a then Stale (N.last s) else (if b then Again (N.kept s) else Fresh (N.judge s (ProcessSwPackage id tag)).1)) ≡ true → N.mine (if a then s else (if b then s else N.keep (N.judge s (ProcessSwPackage id tag)).0 at (ProcessSwPackage id tag) (N.judge s (ProcessSwPackage id tag)).1)) ≡ Some k
+      go true b q = absurd (let g : ⊥ = cc q in g)
+      go false true q = absurd (let g : ⊥ = cc q in g)
+      go false false q =
+          let st : N.status s ≡ Idle = is-idle (N.status s) (and-left (is_status (N.status s) Idle) (is_fresh_done (reached N s at (ProcessSwPackage id tag))) (and-left (nat_eq tag k) (is_status (N.status s) Idle && is_fresh_done (reached N s at (ProcessSwPackage id tag))) e).1).0 in
+          let tg : tag ≡ k = eqb-true tag k (and-left (nat_eq tag k) (is_status (N.status s) Idle && is_fresh_done (reached N s at (ProcessSwPackage id tag))) e).0 in
+          let d = laws.process_idle s id tag (idle-none s st) (done-is (N.judge s (ProcessSwPackage id tag)).1 q) in
+          (laws.keep_session (N.judge s (ProcessSwPackage id tag)).0 at (ProcessSwPackage id tag) (N.judge s (ProcessSwPackage id tag)).1).mine ∙ (d.1 ∙ ap Some tg)
+  begins-mine k s at Activate e = absurd (let g : ⊥ = cc e in g)
+  begins-mine k s at Finish e = absurd (let g : ⊥ = cc e in g)
+  begins-mine k s at Rollback e = absurd (let g : ⊥ = cc e in g)
+  begins-mine k s at Revert e = absurd (let g : ⊥ = cc e in g)
+  begins-mine k s at (Cancel id) e = absurd (let g : ⊥ = cc e in g)
+
+  pub or-true : (a b : Bool) → (a || b) ≡ true → (a ≡ true) ⊎ (b ≡ true)
+  or-true true b e = inl refl
+  or-true false b e = inr e
+
+  pub event-deliver : (x : NodeWorld N) (m : Message) → InSent m x.sent → KeptFold f → KeptOld N f n x → KeptOld N f n (record { moves = Delivered m ∷ x.moves; sent = x.sent; told = x.told })
+  event-deliver x m sent fold kept = kept-step x (Delivered m) fold kept steps
+    where
+      fresh_exec : no_lt m.at (N.last (state_of N x)) ≡ false → no_eq m.at (N.last (state_of N x)) ≡ false → Executable N (state_of N x) m
+      fresh_exec a b = above-last m.at (N.last (state_of N x)) a b
+
+      -- while nothing early is executable, what is executed begins no session
+      no_process : NoneEarly N (state_of N x) x.sent → no_lt m.at (N.last (state_of N x)) ≡ false → no_eq m.at (N.last (state_of N x)) ≡ false → (id tag : ℕ) → m.call ≢ ProcessSwPackage id tag
+      no_process early a b id tag e = early m sent (kept.tags m sent id tag e).1 (fresh_exec a b)
+
+      back : (m' : Message) → InSent m' x.sent → Executable N (delivered N (state_of N x) m.at m.call) m' → Executable N (state_of N x) m'
+      back m' s' exec =
+          delivered-cases N laws (state_of N x) m.at m.call (λ t. Executable N t m' → Executable N (state_of N x) m') (λ e. e) (λ a b e.
+          below-trans (N.last (state_of N x)) m.at m'.at (fresh_exec a b) (subst (λ l. IsBelow l m'.at) (laws.keep_last (N.judge (state_of N x) m.call).0 m.at m.call (N.judge (state_of N x) m.call).1) e)) exec
+
+      none : NoneEarly N (state_of N x) x.sent → N.mine (state_of N x) ≡ None → N.mine (delivered N (state_of N x) m.at m.call) ≡ None
+      none early e =
+          delivered-cases N laws (state_of N x) m.at m.call (λ t. N.mine t ≡ None) e (λ a b.
+          (laws.keep_session (N.judge (state_of N x) m.call).0 m.at m.call (N.judge (state_of N x) m.call).1).mine ∙ none-judge N laws (state_of N x) m.call (no_process early a b) e)
+
+      rolled : NoneEarly N (state_of N x) x.sent → IsRolledBack N (state_of N x) → IsRolledBack N (delivered N (state_of N x) m.at m.call)
+      rolled early r =
+          delivered-cases N laws (state_of N x) m.at m.call (λ t. IsRolledBack N t) r (λ a b.
+          rolled-keeps N laws (N.judge (state_of N x) m.call).0 _ (laws.keep_session (N.judge (state_of N x) m.call).0 m.at m.call (N.judge (state_of N x) m.call).1) (rolled-judge N laws (state_of N x) m.call (no_process early a b) r))
+
+      -- an executable Finish is of a decided campaign
+      finish_rolled : (c : Current) → f.current ≡ Some c → NotCommit c.decision → Executable N (state_of N x) m → m.call ≡ Finish → IsRolledBack N (state_of N x)
+      finish_rolled c current d exec call = at_decided m.decided refl
+        where
+          at_decision : (o : Option Decision) → c.decision ≡ o → m.decided ≡ true → IsRolledBack N (state_of N x)
+          at_decision None q yes' =
+              absurd (let here = kept.present m sent exec in
+              let c_is : here.0 ≡ c = (let e : Some here.0 ≡ Some c = sym here.1 ∙ current in cc e) in
+              kept.decided m sent yes' c current (here.4 ∙ ap (λ y. y.campaign) c_is) q)
+          at_decision (Some Commit) q yes' = absurd (d q)
+          at_decision (Some (Abort cause)) q yes' = (kept.finish c cause current q m sent call exec).1
+
+          at_decided : (b : Bool) → m.decided ≡ b → IsRolledBack N (state_of N x)
+          at_decided true q = at_decision c.decision refl q
+          at_decided false q = absurd (kept.early m sent q call)
+
+      ends_old : (c : Current) → f.current ≡ Some c → NotCommit c.decision → EndsOld N (delivered N (state_of N x) m.at m.call)
+      ends_old c current d =
+          delivered-cases N laws (state_of N x) m.at m.call (λ t. EndsOld N t) (kept.ends_old c current d) (λ a b.
+          ends_old-keeps N laws (N.judge (state_of N x) m.call).0 _ (laws.keep_session (N.judge (state_of N x) m.call).0 m.at m.call (N.judge (state_of N x) m.call).1)
+          (ends_old-judge N laws (state_of N x) m.call (λ call. finish_rolled c current d (fresh_exec a b) call) (kept.ends_old c current d)))
+
+      session_judge : Executable N (state_of N x) m → (tag : ℕ) → N.mine (N.judge (state_of N x) m.call).0 ≡ Some tag → InPresent f n (λ c. tag ≡ c.campaign)
+      session_judge exec tag e = at_mine (N.mine (state_of N x)) refl
+        where
+          of_call : (call : Call) → m.call ≡ call → N.mine (state_of N x) ≡ None → N.mine (N.judge (state_of N x) call).0 ≡ Some tag → (id t : ℕ) × (call ≡ ProcessSwPackage id t) × (t ≡ tag)
+          of_call (ProcessSwPackage id t) q none' e' =
+              elim (laws.process_replies (state_of N x) id t) [
+                | inl d ↦ (id, t, refl, (let g : Some t ≡ Some tag = sym (laws.process_idle (state_of N x) id t none' d).1 ∙ e' in cc g))
+                | inr r ↦ absurd (let g : ⊥ = cc (ap N.mine (laws.refused (state_of N x) (ProcessSwPackage id t) r.0 r.1), none', e') in g)
+              ]
+          of_call Sync q none' e' = absurd (let g : ⊥ = cc (none-judge N laws (state_of N x) Sync (λ i t z. cc) none', e') in g)
+          of_call (TransferStart size) q none' e' = absurd (let g : ⊥ = cc (none-judge N laws (state_of N x) (TransferStart size) (λ i t z. cc) none', e') in g)
+          of_call (TransferData id counter bytes) q none' e' = absurd (let g : ⊥ = cc (none-judge N laws (state_of N x) (TransferData id counter bytes) (λ i t z. cc) none', e') in g)
+          of_call (TransferExit id) q none' e' = absurd (let g : ⊥ = cc (none-judge N laws (state_of N x) (TransferExit id) (λ i t z. cc) none', e') in g)
+          of_call (DeleteTransfer id) q none' e' = absurd (let g : ⊥ = cc (none-judge N laws (state_of N x) (DeleteTransfer id) (λ i t z. cc) none', e') in g)
+          of_call Activate q none' e' = absurd (let g : ⊥ = cc (none-judge N laws (state_of N x) Activate (λ i t z. cc) none', e') in g)
+          of_call Finish q none' e' = absurd (let g : ⊥ = cc (none-judge N laws (state_of N x) Finish (λ i t z. cc) none', e') in g)
+          of_call Rollback q none' e' = absurd (let g : ⊥ = cc (none-judge N laws (state_of N x) Rollback (λ i t z. cc) none', e') in g)
+          of_call Revert q none' e' = absurd (let g : ⊥ = cc (none-judge N laws (state_of N x) Revert (λ i t z. cc) none', e') in g)
+          of_call (Cancel id) q none' e' = absurd (let g : ⊥ = cc (none-judge N laws (state_of N x) (Cancel id) (λ i t z. cc) none', e') in g)
+
+          at_mine : (o : Option ℕ) → N.mine (state_of N x) ≡ o → InPresent f n (λ c. tag ≡ c.campaign)
+          at_mine (Some old) q =
+              let same : old ≡ tag = (let g : Some old ≡ Some tag = sym (some-judge N laws (state_of N x) m.call old q) ∙ e in cc g) in
+              kept.session tag (q ∙ ap Some same)
+          at_mine None q =
+              let p = of_call m.call refl q e in
+              let here = kept.present m sent exec in
+              let t_is = (kept.tags m sent p.0 p.1 p.2).0 in
+              (here.0, here.1, here.2, here.3, sym p.3 ∙ (t_is ∙ here.4))
+
+      session : (tag : ℕ) → N.mine (delivered N (state_of N x) m.at m.call) ≡ Some tag → InPresent f n (λ c. tag ≡ c.campaign)
+      session =
+          delivered-cases N laws (state_of N x) m.at m.call (λ t. (tag : ℕ) → N.mine t ≡ Some tag → InPresent f n (λ c. tag ≡ c.campaign)) kept.session (λ a b tag e.
+          session_judge (fresh_exec a b) tag (sym (laws.keep_session (N.judge (state_of N x) m.call).0 m.at m.call (N.judge (state_of N x) m.call).1).mine ∙ e))
+
+      steps : Steps x (Delivered m)
+      steps =
+          record {
+            back = back;
+            none = none;
+            rolled = rolled;
+            kept_holds = kept-delivered N laws (state_of N x) m.at m.call kept.kept_holds;
+            ends_old = ends_old;
+            session = session;
+            open_span = λ k e.
+                elim (or-true (spans N k x.moves).is_open (begins_span N k (state_of N x) m) e) [
+                  | inl o ↦ some-delivered N laws (state_of N x) m.at m.call k (kept.open_span k o)
+                  | inr o ↦ begins-mine k (state_of N x) m.at m.call o
+                ];
+            ended = λ k. inl refl;
+          }
+
+  -- an answer that is told: it is the node's kept reply, and its message is executed
+  pub event-answered : (x : NodeWorld N) (m : Message) (r : Reply) → InSent m x.sent → (Executable N (state_of N x) m → ⊥) → N.kept (state_of N x) ≡ r → KeptOld N f n x → KeptOld N f n (record { moves = x.moves; sent = x.sent; told = Answered m r ∷ x.told })
+  event-answered x m r sent done kept_is kept =
+      record {
+        falling = kept.falling;
+        epochs = kept.epochs;
+        tags = kept.tags;
+        early = kept.early;
+        decided = kept.decided;
+        ordered = kept.ordered;
+        begun = kept.begun;
+        present = kept.present;
+        told_sent = λ m' r' told.
+            elim told [
+              | inl e ↦ (let e' : Answered m' r' ≡ Answered m r = e in let q : m' ≡ m = cc e' in (subst (λ y. InSent y x.sent) (sym q) sent, subst (λ y. Executable N (state_of N x) y → ⊥) (sym q) done))
+              | inr h ↦ kept.told_sent m' r' h
+            ];
+        told_none = λ m' y told d c current campaign free.
+            elim told [
+              | inl e ↦ (let e' : Answered m' (Synced y) ≡ Answered m r = e in let q : Synced y ≡ r = cc e' in kept.kept_holds.none y (kept_is ∙ sym q) free)
+              | inr h ↦ kept.told_none m' y h d c current campaign free
+            ];
+        told_rolled = λ c current e. rolled c current (is_end_sync c.campaign f.epoch m) r kept_is e;
+        kept_holds = kept.kept_holds;
+        finish = kept.finish;
+        ends_old = kept.ends_old;
+        session = kept.session;
+        open_span = kept.open_span;
+        old_so_far = kept.old_so_far;
+        fresh = kept.fresh;
+        entered = kept.entered;
+      }
+    where
+      rolled : (c : Current) → f.current ≡ Some c → (b : Bool) (r' : Reply) → N.kept (state_of N x) ≡ r' → or_else (status_of_shown (shown_if b r')) (last_status c.campaign f.epoch x.told) ≡ Some RolledBack → IsRolledBack N (state_of N x)
+      rolled c current true (Synced y) k e = kept.kept_holds.rolled y k (let e' : Some (session_status y.session) ≡ Some RolledBack = e in cc e')
+      rolled c current true Done k e = kept.told_rolled c current e
+      rolled c current true (Started id) k e = kept.told_rolled c current e
+      rolled c current true (Refused why) k e = kept.told_rolled c current e
+      rolled c current false r' k e = kept.told_rolled c current e
+
+  -- a status that is told
+  pub event-showed : (x : NodeWorld N) (s : Status) → N.status (state_of N x) ≡ s → KeptOld N f n x → KeptOld N f n (record { moves = x.moves; sent = x.sent; told = Showed s ∷ x.told })
+  event-showed x s status kept =
+      record {
+        falling = kept.falling;
+        epochs = kept.epochs;
+        tags = kept.tags;
+        early = kept.early;
+        decided = kept.decided;
+        ordered = kept.ordered;
+        begun = kept.begun;
+        present = kept.present;
+        told_sent = λ m r told. elim told [ inl e ↦ absurd (let e' : Answered m r ≡ Showed s = e in let g : ⊥ = cc e' in g) | inr h ↦ kept.told_sent m r h ];
+        told_none = λ m y told d c current campaign free.
+            elim told [ inl e ↦ absurd (let e' : Answered m (Synced y) ≡ Showed s = e in let g : ⊥ = cc e' in g) | inr h ↦ kept.told_none m y h d c current campaign free ];
+        told_rolled = λ c current e. rolled c current (is_some (last_shown c.campaign f.epoch x.told)) e;
+        kept_holds = kept.kept_holds;
+        finish = kept.finish;
+        ends_old = kept.ends_old;
+        session = kept.session;
+        open_span = kept.open_span;
+        old_so_far = kept.old_so_far;
+        fresh = kept.fresh;
+        entered = kept.entered;
+      }
+    where
+      rolled : (c : Current) → f.current ≡ Some c → (b : Bool) → or_else (status_if b s) (last_status c.campaign f.epoch x.told) ≡ Some RolledBack → IsRolledBack N (state_of N x)
+      rolled c current true e = λ tag mine. inl (status ∙ (let e' : Some s ≡ Some RolledBack = e in cc e'))
+      rolled c current false e = kept.told_rolled c current e

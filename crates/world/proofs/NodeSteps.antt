@@ -1,0 +1,137 @@
+-- What a call and a unit make of a node's history is what they make of its state and of its spans.
+use Rattle.std.proofs.Common.{◌≡◌, refl, sym, ap, ◌∙◌, ℕ, suc, Bool, true, false, List, ◌∷◌, arith}
+use Rattle.std.specs.Prelude.{◌&&◌, ◌||◌, nat_eq, option_map, option_and_then, unwrap_or, if◌then◌else◌, Option, Some, None}
+use Rattle.std.specs.declared.cmp.Ordering.{Ordering}
+use Rattle.std.specs.declared.cmp.Ordering.TheVariants.{Less, Equal, Greater}
+use Rattle.ucm_base.specs.declared.ids.CallNo.{CallNo}
+use Rattle.pm_types.specs.declared.calls.Call.{Call}
+use Rattle.pm_types.specs.declared.history.Entry.{Entry}
+use Rattle.pm_types.specs.declared.replies.Reached.{Reached}
+use Rattle.pm_types.specs.declared.replies.Reached.TheVariants.{Done as Executed, Again, Stale}
+use Rattle.pm_types.specs.declared.state.Kept.{Kept}
+use Rattle.pm_types.specs.declared.status.Status.{Status}
+use Rattle.pm_types.specs.declared.status.Status.TheVariants.{Idle, Ready, Processing, Activating, Verifying, Activated, RollingBack, RolledBack, CleaningUp}
+use Rattle.pm_types.specs.NodeState.{NodeState, of_client}
+use Rattle.std.proofs.lemmas.Bool.Decides.{nat_tests}
+use Rattle.pm_types.specs.declared.history.Happened.TheVariants.{Unit as UnitLine}
+use Rattle.pm_types.specs.Steps.{with_entry, step, executed, by_last, by_order, call_no_cmp}
+use Rattle.pm_types.specs.Work.{unit, unit_of, clean_up_unit}
+use Rattle.pm_types.specs.Histories.{Reading, verdict_for, state_after}
+use Rattle.pm_types.specs.Validity.{IsConsistent}
+use Rattle.world.specs.Messages.{is_done, is_status}
+use Rattle.world.specs.Spans.{Spans, has_tag, span_of, spans}
+use Rattle.world.specs.World.{reached, entered, worked_on, shown_by}
+use Rattle.world.proofs.Appended.{after-append, spans-append}
+use Rattle.world.proofs.Instance.{unit_in}
+use Rattle.world.proofs.RulesLaw.{is_fresh_done}
+use Rattle.world.proofs.Sessions.{session-there}
+
+module _ (read : Reading) (o : NodeState) (es : List Entry) where
+  abbrev now : NodeState
+  now = state_after read o es
+
+  -- the state after a call
+  pub entered-state : (client : ℕ) (at : CallNo) (c : Call) → state_after read o (entered es client at c (reached read now client at c)) ≡ (step now client at c (verdict_for read now client c)).0
+  entered-state client at c = by (of_client now.last client)
+    where
+      done : NodeState × Reached
+      done = executed now client at c (verdict_for read now client c)
+
+      order : (kept : Kept) (x : Ordering) → state_after read o (entered es client at c (by_order now done kept x).1) ≡ (by_order now done kept x).0
+      order kept Less = refl
+      order kept Equal = refl
+      order kept Greater = after-append read o es _
+
+      by : (x : Option Kept) → state_after read o (entered es client at c (by_last now done at x).1) ≡ (by_last now done at x).0
+      by None = after-append read o es _
+      by (Some kept) = order kept (call_no_cmp at kept.no)
+
+  or-false : (b : Bool) → (b || false) ≡ b
+  or-false true = refl
+  or-false false = refl
+
+  and-false : (a b : Bool) → (a && (b && false)) ≡ false
+  and-false true true = refl
+  and-false true false = refl
+  and-false false b = refl
+
+  abbrev same : Spans → Bool → Spans
+  same x b = record { is_open = x.is_open || b; ended = x.ended }
+
+  unchanged : (x : Spans) → same x false ≡ x
+  unchanged x = ap (λ b. let y : Spans = record { is_open = b; ended = x.ended } in y) (or-false x.is_open)
+
+  -- the spans after a call of client 0
+  pub entered-spans : (k : ℕ) (at : CallNo) (c : Call) (r : Reached) → spans read k o (entered es 0 at c r) ≡ same (spans read k o es) (has_tag k c && (is_status now.status Idle && is_fresh_done r))
+  entered-spans k at c (Executed reply) = spans-append read k o es _ _
+  entered-spans k at c (Again reply) = sym (ap (same (spans read k o es)) (and-false (has_tag k c) (is_status now.status Idle)) ∙ unchanged (spans read k o es))
+  entered-spans k at c (Stale last) = sym (ap (same (spans read k o es)) (and-false (has_tag k c) (is_status now.status Idle)) ∙ unchanged (spans read k o es))
+
+  -- another client's calls begin and end none
+  pub foreign-spans : (k other : ℕ) (at : CallNo) (c : Call) (r : Reached) → spans read k o (entered es (suc other) at c r) ≡ spans read k o es
+  foreign-spans k other at c (Executed reply) =
+      let none : nat_eq (suc other) 0 ≡ false = grind (arith, nat_tests) in
+      spans-append read k o es _ _ ∙ (ap (λ b. same (spans read k o es) (b && (has_tag k c && (is_status now.status Idle && is_done reply)))) none ∙ unchanged (spans read k o es))
+  foreign-spans k other at c (Again reply) = refl
+  foreign-spans k other at c (Stale last) = refl
+
+  abbrev entry : NodeState → NodeState
+  entry t = with_entry (UnitLine t.status) t
+
+  -- the state after a unit
+  pub worked-state : (passed : Bool) → state_after read o (worked_on es passed (unit now passed)) ≡ unit_in now passed
+  worked-state passed = go (unit now passed) refl
+    where
+      go : (u : Option NodeState) → unit now passed ≡ u → state_after read o (worked_on es passed u) ≡ unit_in now passed
+      go None e = sym (ap (λ u. unwrap_or (option_map entry u) now) e)
+      go (Some t) e = after-append read o es _
+
+  pub worked-status : (passed : Bool) → shown_by now (unit now passed) ≡ (unit_in now passed).status
+  worked-status passed = go (unit now passed)
+    where
+      go : (u : Option NodeState) → shown_by now u ≡ (unwrap_or (option_map entry u) now).status
+      go None = refl
+      go (Some t) = refl
+
+  -- in CleaningUp there is a unit to do
+  cleans : (passed : Bool) → IsConsistent now → unit now passed ≡ None → is_status now.status CleaningUp ≡ false
+  cleans passed v e = go now.status refl
+    where
+      go : (st : Status) → now.status ≡ st → is_status st CleaningUp ≡ false
+      go Idle q = refl
+      go Ready q = refl
+      go Processing q = refl
+      go Activating q = refl
+      go Verifying q = refl
+      go Activated q = refl
+      go RollingBack q = refl
+      go RolledBack q = refl
+      go CleaningUp q =
+          let x = session-there now v (λ i. let f : ⊥ = cc (q, i) in f) in
+          let some : unit now passed ≡ Some (clean_up_unit now x.0) = ap (λ y. option_and_then (λ z. unit_of now z passed now.status) y) x.1 ∙ ap (unit_of now x.0 passed) q in
+          absurd (let f : ⊥ = cc (some, e) in f)
+
+  joined : (b c : Bool) (a x y : Spans) → x ≡ y → (if c && b then a else x) ≡ (if b && c then a else y)
+  joined true true a x y e = refl
+  joined true false a x y e = e
+  joined false true a x y e = e
+  joined false false a x y e = e
+
+  and-no : (b : Bool) → (b && false) ≡ false
+  and-no true = refl
+  and-no false = refl
+
+  -- the spans after a unit
+  pub worked-spans : (k : ℕ) (passed : Bool) → IsConsistent now
+      → spans read k o (worked_on es passed (unit now passed)) ≡ (if (spans read k o es).is_open && is_status now.status CleaningUp then record { is_open = false; ended = span_of now (unit_in now passed) ∷ (spans read k o es).ended } else spans read k o es)
+  worked-spans k passed v = go (unit now passed) refl
+    where
+      old : Spans
+      old = spans read k o es
+
+      new : Spans
+      new = record { is_open = false; ended = span_of now (unit_in now passed) ∷ old.ended }
+
+      go : (u : Option NodeState) → unit now passed ≡ u → spans read k o (worked_on es passed u) ≡ (if old.is_open && is_status now.status CleaningUp then new else old)
+      go None e = sym (ap (λ b. if b then new else old) (ap (λ b. old.is_open && b) (cleans passed v e) ∙ and-no old.is_open))
+      go (Some t) e = spans-append read k o es _ _ ∙ joined old.is_open (is_status now.status CleaningUp) new (same old false) old (unchanged old)

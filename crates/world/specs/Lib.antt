@@ -1,0 +1,9 @@
+pub mod Messages
+pub mod Rounds
+pub mod RoundCalls
+pub mod Sends
+pub mod Evidence
+pub mod Words
+pub mod Spans
+pub mod World
+pub mod Law
