@@ -1,0 +1,9 @@
+pub mod Prefixes
+pub mod Slots
+pub mod Sums
+pub mod Rules
+pub mod Makings
+pub mod Turns
+pub mod Polls
+pub mod Shares
+pub mod Gathers

@@ -1,0 +1,140 @@
+ghost use Rattle.std.specs.Prelude.{◌≡◌, ◌+◌, ◌*◌, ◌<◌, ◌≤◌, [], ◌∷◌, true, false, None, Some, Option, IfOk, IfErr, IfSome, length};
+ghost use mathlib.Core.List.{IsPrefix};
+ghost use Rattle.turn_gate.specs.Parts.{MayBecome, PartsFit};
+ghost use Rattle.turn_gate.specs.Rule.{NotAbove};
+ghost use Rattle.turn_gate.specs.Steps.{HasAll, IsTrueTo, NotesAreOf, IsCodeAt};
+ghost use Rattle.turn_gate.specs.Views.{with_turn, published, at_rest, noted};
+
+use crate::machine::Machine;
+use crate::seat::Seat;
+use crate::steps::{Ask, Give, Law, Poll, Publish, Told};
+use crate::view::View;
+use atomic_table::Table;
+use std::alloc::Global;
+use std::marker::{Brand, Model};
+use std::sync::Wait;
+
+// The count word: 16 times the length of the list, and the status code.
+pub(crate) const COUNT: usize = 0;
+
+// The turn word: 1 while a seat has the turn.
+pub(crate) const TURN: usize = 1;
+
+// How often a turn is asked for before its thread sleeps.
+const SPINS: u32 = 100;
+
+/// A machine behind a turn. Clauses see its name, which its seats have too.
+#[derive(Drop)]
+pub struct Gate<M: Machine> {
+    pub(crate) table: Table<Option<M>, View<M::Entry, M::Opening>, (), Law, Global>,
+}
+
+impl<M: Machine> Model for Gate<M> {
+    ghost use Rattle.std.specs.Prelude.{◌≡◌};
+    ghost use Rattle.atomic_table.specs.Seated.{TableId, table_id_coded};
+
+    ghost Value = { TableId };
+
+    ghost coded = { table_id_coded };
+
+    ghost view = { λ g. g.table.shared.table_id };
+
+    ghost invariant = { λ g. (g.table.shared.table_id.words ≡ 2) × (g.table.shared.table_id.slots ≡ 1) };
+}
+
+impl<M: Machine> Gate<M> {
+    /// Waits for the turn, and takes the machine. It asks a bounded number of times, and then sleeps
+    /// until a turn is given back.
+    pub fn turn<R: Wait>(&self, rt: &R, seat: &mut Seat<M>) -> M
+        requires of_this_gate { seat.old.gate ≡ self.now }
+        requires has_a_part { 0 < length seat.old.view.parts }
+        requires no_turn { seat.old.view.held ≡ None }
+        ensures same_gate { seat.new.gate ≡ seat.old.gate }
+        ensures turn { seat.new.view ≡ with_turn M.tells (M.account result) seat.old.view }
+        ensures goes_on { IsPrefix seat.old.view.seen (M.account result).entries }
+        ensures is_true { IsTrueTo M.fixed M.stands seat.old.view result }
+        ensures own_entries { PartsFit M.tells (M.account result) seat.old.view.parts }
+        ensures polled { NotesAreOf M.code_after seat.old.view (M.account result).entries }
+        // While a seat has all parts, nothing comes between its turns.
+        ensures nothing_came { HasAll seat.old.view → (M.account result).entries ≡ seat.old.view.seen }
+    {
+        let mut tries = 0u32;
+        for _ in rt.forever() {
+            if self.table.shared.swap::<Ask>(&mut seat.inner, TURN, 1) == 0 {
+                let machine = self.table.shared.exchange(&mut seat.inner, 0, None);
+                let Some(machine) = machine else {
+                    unreachable!()
+                };
+                return machine;
+            }
+            if tries < SPINS {
+                tries += 1;
+            } else {
+                self.table.shared.park(rt, TURN, 1);
+            }
+        }
+        unreachable!()
+    }
+
+    fn publish_as<J: Told<M>>(&self, seat: &mut Seat<M>, machine: &M, rise: u64)
+        requires told { (J.told ≡ Some machine.now) × (J.rise ≡ rise) }
+        requires of_this_gate { seat.old.gate ≡ self.now }
+        requires in_turn { seat.old.view.held ≡ None → ⊥ }
+        requires goes_on { IfSome seat.old.view.held
+            (λ found. MayBecome M.tells seat.old.view.parts found (M.account machine.now) rise) }
+        requires is_true { IsTrueTo M.fixed M.stands seat.old.view machine.now }
+        ensures same_gate { seat.new.gate ≡ seat.old.gate }
+        ensures published { seat.new.view ≡ published M.tells (M.account machine.now) rise seat.old.view }
+        ensures goes_on { IsPrefix seat.old.view.seen (M.account machine.now).entries }
+    {
+        let _ = rise;
+        let word = 16 * machine.count() + machine.code() as u64;
+        self.table
+            .shared
+            .store::<Publish<J>>(&mut seat.inner, COUNT, word);
+    }
+
+    /// Tells all seats of the machine's list. It has gone on from that of the turn by the entry that
+    /// was found pending or by nothing, and then by at most one entry of this seat's parts, or of none.
+    pub fn publish(&self, seat: &mut Seat<M>, machine: &M, rise: u64)
+        requires of_this_gate { seat.old.gate ≡ self.now }
+        requires in_turn { (seat.old.view.held ≡ None → ⊥) × (seat.old.view.published ≡ false) }
+        requires goes_on { IfSome seat.old.view.held
+            (λ found. MayBecome M.tells seat.old.view.parts found (M.account machine.now) rise) }
+        requires is_true { IsTrueTo M.fixed M.stands seat.old.view machine.now }
+        ensures same_gate { seat.new.gate ≡ seat.old.gate }
+        ensures published { seat.new.view ≡ published M.tells (M.account machine.now) rise seat.old.view }
+        ensures goes_on { IsPrefix seat.old.view.seen (M.account machine.now).entries }
+    {
+        self.publish_as::<Brand>(seat, machine, rise);
+    }
+
+    /// Gives the turn back, with the machine as it was published.
+    pub fn give(&self, seat: &mut Seat<M>, machine: M)
+        requires of_this_gate { seat.old.gate ≡ self.now }
+        requires as_published { (seat.old.view.held ≡ Some (M.account machine)) × (seat.old.view.published ≡ true) }
+        requires is_true { IsTrueTo M.fixed M.stands seat.old.view machine }
+        ensures same_gate { seat.new.gate ≡ seat.old.gate }
+        ensures given { seat.new.view ≡ at_rest seat.old.view }
+    {
+        let none = self
+            .table
+            .shared
+            .exchange(&mut seat.inner, 0, Some(machine));
+        let None = none else { unreachable!() };
+        self.table.shared.store::<Give>(&mut seat.inner, TURN, 0);
+        self.table.shared.wake_one(TURN);
+    }
+
+    /// The length of the list and its status code. It never waits, and is one load.
+    pub fn poll(&self, seat: &mut Seat<M>) -> (u64, u8)
+        requires of_this_gate { seat.old.gate ≡ self.now }
+        ensures same_gate { seat.new.gate ≡ seat.old.gate }
+        ensures noted { seat.new.view ≡ noted result.0 result.1 seat.old.view }
+        ensures not_before { (length seat.old.view.seen ≤ result.0) × NotAbove result.0 seat.old.view.notes }
+        ensures is_code { IsCodeAt M.code_after seat.old.view result.0 result.1 }
+    {
+        let word = self.table.shared.load::<Poll>(&mut seat.inner, COUNT);
+        (word / 16, (word % 16) as u8)
+    }
+}
