@@ -1,5 +1,5 @@
 -- Seats that are dealt out of one, and gathered into one.
-use Rattle.std.proofs.Common.{◌≡◌, inl, inr, ℕ, zero, suc, ◌+◌, ◌<◌, ◌≤◌, true, false, eqb, ltb, List, [], ◌∷◌, ◌++◌, length, drop, get_or, refl, sym, ◌∙◌, ap, subst, arith, append_assoc, Option, Some, None, IfSome, eq-eqb, ne_eqb}
+use Rattle.std.proofs.Common.{Bool, true, false, cond, eqb, ◌≡◌, inl, inr, ℕ, zero, suc, ◌+◌, ◌<◌, ◌≤◌, ltb, List, [], ◌∷◌, ◌++◌, length, drop, get_or, refl, sym, ◌∙◌, ap, subst, arith, append_assoc, Option, Some, None, IfSome, eq-eqb, ne_eqb}
 use Rattle.std.proofs.lemmas.Bool.{cases_eq, cond-true, cond-false, cond_both}
 use Rattle.std.proofs.lemmas.List.{append-nil}
 use mathlib.Core.List.{IsPrefix}
@@ -9,7 +9,7 @@ use Rattle.turn_gate.specs.declared.view.Fixed.{Fixed}
 use Rattle.turn_gate.specs.declared.view.Part.{Part}
 use Rattle.turn_gate.specs.declared.view.View.{View}
 use Rattle.turn_gate.specs.Known.{Known, known}
-use Rattle.turn_gate.specs.Parts.{own, doubt_of, times, numbers_of, parts_of, without, only, AllDiffer}
+use Rattle.turn_gate.specs.Parts.{own, doubt_of, times, numbers_of, parts_of, but, just, without, only, AllDiffer}
 use Rattle.turn_gate.specs.Views.{first_view, left_with, split_off, joined}
 use Rattle.turn_gate.specs.Seats.{one_each, parts_in, notes_in, rises_in, fixed_in, HaveAll, AllSawBeginnings, OneSaw}
 use Rattle.turn_gate.specs.Steps.{HasAll}
@@ -19,17 +19,16 @@ module _ {E : Type 0} (tells : E → Option ℕ) (a : Account E) where
   abbrev part_of : ℕ → Part E
   part_of n = record { number = n; mine = own tells n a.entries; doubt = doubt_of tells a.pending n }
 
-  others : (n : ℕ) (ns : List ℕ) → times n ns ≡ 0 → (without (Some n) (parts_of tells a ns) ≡ parts_of tells a ns) × (only (Some n) (parts_of tells a ns) ≡ [])
+  others : (n : ℕ) (ns : List ℕ) → times n ns ≡ 0 → (but n (parts_of tells a ns) ≡ parts_of tells a ns) × (just n (parts_of tells a ns) ≡ [])
   others n [] none = (refl, refl)
-  others n (m ∷ ms) none = elim (cases_eq m n) [
-    | inl same ↦ absurd (omega (arith, none, cond-true {A = ℕ} (eqb m n) 1 0 (eq-eqb m n same)))
-    | inr other ↦
-        let no : eqb n m ≡ false = ne_eqb n m (λ e. other (sym e)) in
-        let rest = others n ms (omega (arith, none)) in (
-          cond-false {A = List (Part E)} (eqb n m) _ _ no ∙ ap (λ (ps : List (Part E)). part_of m ∷ ps) rest.0,
-          cond-false {A = List (Part E)} (eqb n m) _ _ no ∙ rest.1,
-        )
-  ]
+  others n (m ∷ ms) none = go (eqb m n) refl (others n ms (omega (arith, none)))
+    where
+      go : (b : Bool) → eqb m n ≡ b → (but n (parts_of tells a ms) ≡ parts_of tells a ms) × (just n (parts_of tells a ms) ≡ []) → (but n (parts_of tells a (m ∷ ms)) ≡ parts_of tells a (m ∷ ms)) × (just n (parts_of tells a (m ∷ ms)) ≡ [])
+      go true is rest = absurd (omega (arith, none, ap (λ (b : Bool). cond {A = ℕ} b 1 0) is))
+      go false is rest = (
+        ap (λ (b : Bool). cond b (but n (parts_of tells a ms)) (part_of m ∷ but n (parts_of tells a ms))) is ∙ ap (λ (ps : List (Part E)). part_of m ∷ ps) rest.0,
+        ap (λ (b : Bool). cond b (part_of m ∷ just n (parts_of tells a ms)) (just n (parts_of tells a ms))) is ∙ rest.1,
+      )
 
   -- the first part is split off
   pub first_off : (n : ℕ) (ns : List ℕ) → times n ns ≡ 0 → (without (Some n) (parts_of tells a (n ∷ ns)) ≡ parts_of tells a ns) × (only (Some n) (parts_of tells a (n ∷ ns)) ≡ parts_of tells a (n ∷ []))

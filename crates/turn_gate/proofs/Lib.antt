@@ -1,6 +1,7 @@
 pub mod Prefixes
 pub mod Slots
 pub mod Sums
+pub mod Becomes
 pub mod Rules
 pub mod Makings
 pub mod Turns

@@ -7,7 +7,7 @@ use mathlib.Core.List.{IsPrefix}
 use lib.ListN.{get_elem?}
 use Rattle.turn_gate.specs.declared.view.Account.{Account}
 use Rattle.turn_gate.specs.declared.view.Part.{Part}
-use Rattle.turn_gate.specs.Parts.{is_of, own, times, numbers_of, doubt_of, parts_of, without, only, PartFits, PartsFit, IsOurs, StoodOrNot, AtMostOne, IsPendingAfter, MayBecome, StaysOrStood, total}
+use Rattle.turn_gate.specs.Parts.{is_of, own, times, numbers_of, doubt_of, parts_of, but, just, without, only, PartFits, PartsFit, IsOurs, StoodOrNot, AtMostOne, IsPendingAfter, MayBecome, StaysOrStood, total}
 
 module _ {A : Type 0} (f : A → ℕ) where
   pub total_set : (l : List A) (i : ℕ) (v w : A) → get_elem? l i ≡ some v → total f (set l i w) + f v ≡ total f l + f w
@@ -82,100 +82,55 @@ module _ {E : Type 0} (tells : E → Option ℕ) where
   fit-append a [] qs p q = q
   fit-append a (x ∷ xs) qs p q = (p.0, fit-append a xs qs p.1 q)
 
-  pub times-split : (k : Option ℕ) (n : ℕ) (ps : List (Part E)) → times n (numbers_of (without k ps)) + times n (numbers_of (only k ps)) ≡ times n (numbers_of ps)
-  times-split k n [] = refl
-  times-split k n (p ∷ ps) = go (times-split k n ps) (is_of k p.number)
+  times-but : (k n : ℕ) (ps : List (Part E)) → times n (numbers_of (but k ps)) + times n (numbers_of (just k ps)) ≡ times n (numbers_of ps)
+  times-but k n [] = refl
+  times-but k n (p ∷ ps) = go (times-but k n ps) (eqb p.number k)
     where
-      go : times n (numbers_of (without k ps)) + times n (numbers_of (only k ps)) ≡ times n (numbers_of ps) → (b : Bool) → times n (numbers_of (cond b (without k ps) (p ∷ without k ps))) + times n (numbers_of (cond b (p ∷ only k ps) (only k ps))) ≡ times n (numbers_of (p ∷ ps))
+      go : times n (numbers_of (but k ps)) + times n (numbers_of (just k ps)) ≡ times n (numbers_of ps) → (b : Bool) → times n (numbers_of (cond b (but k ps) (p ∷ but k ps))) + times n (numbers_of (cond b (p ∷ just k ps) (just k ps))) ≡ times n (numbers_of (p ∷ ps))
       go h true = omega (arith, h)
       go h false = omega (arith, h)
 
-  pub fit-without : (a : Account E) (k : Option ℕ) (ps : List (Part E)) → PartsFit tells a ps → PartsFit tells a (without k ps)
-  fit-without a k [] fit = tt
-  fit-without a k (p ∷ ps) fit = go (fit-without a k ps fit.1) (is_of k p.number)
+  pub times-split : (k : Option ℕ) (n : ℕ) (ps : List (Part E)) → times n (numbers_of (without k ps)) + times n (numbers_of (only k ps)) ≡ times n (numbers_of ps)
+  times-split None n ps = omega arith
+  times-split (Some k) n ps = times-but k n ps
+
+  fit-but : (a : Account E) (k : ℕ) (ps : List (Part E)) → PartsFit tells a ps → PartsFit tells a (but k ps)
+  fit-but a k [] fit = tt
+  fit-but a k (p ∷ ps) fit = go (fit-but a k ps fit.1) (eqb p.number k)
     where
-      go : PartsFit tells a (without k ps) → (b : Bool) → PartsFit tells a (cond b (without k ps) (p ∷ without k ps))
+      go : PartsFit tells a (but k ps) → (b : Bool) → PartsFit tells a (cond b (but k ps) (p ∷ but k ps))
       go h true = h
       go h false = (fit.0, h)
 
-  pub fit-only : (a : Account E) (k : Option ℕ) (ps : List (Part E)) → PartsFit tells a ps → PartsFit tells a (only k ps)
-  fit-only a k [] fit = tt
-  fit-only a k (p ∷ ps) fit = go (fit-only a k ps fit.1) (is_of k p.number)
+  pub fit-without : (a : Account E) (k : Option ℕ) (ps : List (Part E)) → PartsFit tells a ps → PartsFit tells a (without k ps)
+  fit-without a None ps fit = fit
+  fit-without a (Some k) ps fit = fit-but a k ps fit
+
+  fit-just : (a : Account E) (k : ℕ) (ps : List (Part E)) → PartsFit tells a ps → PartsFit tells a (just k ps)
+  fit-just a k [] fit = tt
+  fit-just a k (p ∷ ps) fit = go (fit-just a k ps fit.1) (eqb p.number k)
     where
-      go : PartsFit tells a (only k ps) → (b : Bool) → PartsFit tells a (cond b (p ∷ only k ps) (only k ps))
+      go : PartsFit tells a (just k ps) → (b : Bool) → PartsFit tells a (cond b (p ∷ just k ps) (just k ps))
       go h true = (fit.0, h)
       go h false = h
+
+  pub fit-only : (a : Account E) (k : Option ℕ) (ps : List (Part E)) → PartsFit tells a ps → PartsFit tells a (only k ps)
+  fit-only a None ps fit = tt
+  fit-only a (Some k) ps fit = fit-just a k ps fit
 
   -- a list of parts has a part, or none of any number
   pub some_part : (ps : List (Part E)) → 0 < length ps → (n : ℕ) × (0 < times n (numbers_of ps))
   some_part [] some_there = absurd (omega arith)
   some_part (p ∷ ps) some_there = (p.number, here p.number (numbers_of ps))
 
-  pub length-split : (k : Option ℕ) (ps : List (Part E)) → length (without k ps) + length (only k ps) ≡ length ps
-  length-split k [] = refl
-  length-split k (p ∷ ps) = go (length-split k ps) (is_of k p.number)
+  length-but : (k : ℕ) (ps : List (Part E)) → length (but k ps) + length (just k ps) ≡ length ps
+  length-but k [] = refl
+  length-but k (p ∷ ps) = go (length-but k ps) (eqb p.number k)
     where
-      go : length (without k ps) + length (only k ps) ≡ length ps → (b : Bool) → length (cond b (without k ps) (p ∷ without k ps)) + length (cond b (p ∷ only k ps) (only k ps)) ≡ length (p ∷ ps)
+      go : length (but k ps) + length (just k ps) ≡ length ps → (b : Bool) → length (cond b (but k ps) (p ∷ but k ps)) + length (cond b (p ∷ just k ps) (just k ps)) ≡ length (p ∷ ps)
       go h true = omega (arith, h)
       go h false = omega (arith, h)
 
-  pub own-append : (n : ℕ) (xs ys : List E) → own tells n (xs ++ ys) ≡ own tells n xs ++ own tells n ys
-  own-append n [] ys = refl
-  own-append n (x ∷ xs) ys = go (own-append n xs ys) (is_of (tells x) n)
-    where
-      go : own tells n (xs ++ ys) ≡ own tells n xs ++ own tells n ys → (b : Bool) → cond b (x ∷ own tells n (xs ++ ys)) (own tells n (xs ++ ys)) ≡ cond b (x ∷ own tells n xs) (own tells n xs) ++ own tells n ys
-      go h true = ap (λ (l : List E). x ∷ l) h
-      go h false = h
-
-  -- an entry of ours tells no number of another
-  not_another : (parts : List (Part E)) (n : ℕ) (e : E) → times n (numbers_of parts) ≡ 0 → IsOurs tells parts e → is_of (tells e) n ≡ true → ⊥
-  not_another parts n e none (inl untold) told = let z : false ≡ true = ap (λ (o : Option ℕ). is_of o n) (sym untold) ∙ told in cc
-  not_another parts n e none (inr t) told =
-      let same : t.0 ≡ n = eqb-true t.0 n (ap (λ (o : Option ℕ). is_of o n) (sym t.1) ∙ told) in
-      let some_there = t.2 in
-      let some_here : 0 < times n (numbers_of parts) = subst (λ (k : ℕ). 0 < times k (numbers_of parts)) same some_there in
-      absurd (omega (arith, none, some_here))
-
-  none_more : (parts : List (Part E)) (n : ℕ) (more : List E) → times n (numbers_of parts) ≡ 0 → AtMostOne tells parts more → own tells n more ≡ []
-  none_more parts n more none (inl nothing) = ap (own tells n) nothing
-  none_more parts n more none (inr t) =
-      ap (own tells n) t.1 ∙ cond-false {A = List E} (is_of (tells t.0) n) (t.0 ∷ []) [] (⊎_elim (λ told. absurd (not_another parts n t.0 none t.2 told)) (λ untold. untold) (cases_Bool (is_of (tells t.0) n)))
-
-  -- what a turn may do leaves the entries of another number, or adds the one that was pending
-  pub others_stay : (parts : List (Part E)) (old new : Account E) (rise : ℕ) → MayBecome tells parts old new rise → (n : ℕ) → times n (numbers_of parts) ≡ 0 → StaysOrStood tells old new n
-  others_stay parts old new rise may n none = go may.stood_was_pending
-    where
-      own_is : own tells n new.entries ≡ own tells n old.entries ++ own tells n may.stood
-      own_is =
-          ap (own tells n) (may.list_goes_on ∙ append_assoc old.entries may.stood may.more) ∙ own-append n old.entries (may.stood ++ may.more)
-          ∙ ap (λ (l : List E). own tells n old.entries ++ l) (own-append n may.stood may.more ∙ ap (λ (l : List E). own tells n may.stood ++ l) (none_more parts n may.more none may.at_most_one_more) ∙ append-nil (own tells n may.stood))
-
-      -- where something stood, nothing of another is pending
-      later : (e : E) → IsPendingAfter tells parts old.pending may.stood new.pending → new.pending ≡ Some e → is_of (tells e) n ≡ true → (may.stood ≡ []) × (old.pending ≡ Some e)
-      later e (inl nothing) is told = let z : None ≡ Some e = sym nothing ∙ is in absurd (some_not_none e z)
-        where
-          some_not_none : (x : E) → None ≡ Some x → ⊥
-          some_not_none x z = cc
-      later e (inr (inl same)) is told = (same.0, sym same.1 ∙ is)
-      later e (inr (inr t)) is told =
-          let same : t.0 ≡ e = same_entry t.0 e (sym t.1 ∙ is) in absurd (not_another parts n e none (subst (IsOurs tells parts) same t.2) told)
-        where
-          same_entry : (x y : E) → Some x ≡ Some y → x ≡ y
-          same_entry x y z = cc
-
-      stays : own tells n may.stood ≡ [] → StaysOrStood tells old new n
-      stays nothing = inl (own_is ∙ ap (λ (l : List E). own tells n old.entries ++ l) nothing ∙ append-nil (own tells n old.entries), λ e is told. (later e may.pending_is is told).1)
-
-      not_both : (e : E) → may.stood ≡ e ∷ [] → may.stood ≡ [] → ⊥
-      not_both e p q = let z : 1 ≡ 0 = ap length (sym p ∙ q) in omega (arith, z)
-
-      go : StoodOrNot old.pending may.stood → StaysOrStood tells old new n
-      go (inl nothing) = stays (ap (own tells n) nothing)
-      go (inr t) = ⊎_elim
-          (λ told. inr (t.0, t.1, told, own_is ∙ ap (λ (l : List E). own tells n old.entries ++ l) (ap (own tells n) t.2 ∙ cond-true {A = List E} (is_of (tells t.0) n) (t.0 ∷ []) [] told), λ d is told_d. not_both t.0 t.2 (later d may.pending_is is told_d).0))
-          (λ untold. stays (ap (own tells n) t.2 ∙ cond-false {A = List E} (is_of (tells t.0) n) (t.0 ∷ []) [] untold))
-          (cases_Bool (is_of (tells t.0) n))
-
-  -- and the list goes on
-  pub goes_on_by : (parts : List (Part E)) (old new : Account E) (rise : ℕ) → MayBecome tells parts old new rise → IsPrefix old.entries new.entries
-  goes_on_by parts old new rise may = (may.stood ++ may.more, sym (append_assoc old.entries may.stood may.more) ∙ sym may.list_goes_on)
+  pub length-split : (k : Option ℕ) (ps : List (Part E)) → length (without k ps) + length (only k ps) ≡ length ps
+  length-split None ps = omega arith
+  length-split (Some k) ps = length-but k ps

@@ -13,7 +13,8 @@ use Rattle.turn_gate.specs.Parts.{times, numbers_of, parts_of, PartsFit, IsUntol
 use Rattle.turn_gate.specs.Views.{with_turn, published, at_rest}
 use Rattle.turn_gate.specs.Rule.{Meaning, NotesFit, AllBegin, Fits, Home}
 use Rattle.turn_gate.specs.Steps.{asked, publishes, gave}
-use Rattle.turn_gate.proofs.Sums.{total_set, total_at, total_two, numbers_of-parts_of, length-parts_of, length-numbers_of, parts_of_fit, parts_stay, others_stay, goes_on_by}
+use Rattle.turn_gate.proofs.Becomes.{others_stay, goes_on_by}
+use Rattle.turn_gate.proofs.Sums.{total_set, total_at, total_two, numbers_of-parts_of, length-parts_of, length-numbers_of, parts_of_fit, parts_stay}
 use Rattle.turn_gate.proofs.Prefixes.{prefix_same, prefix_trans, set_there, each_set, found_in_set}
 use Rattle.turn_gate.proofs.Rules.{notes_grow, begin_grow, Runs, Rule, Each, Goes, count_of, rises_of, runs, fits_at, same_fixed, once_stays, rises_stay, newest_here, newest_stays, holder_is, whole_seen}
 

@@ -35,15 +35,23 @@ parts_of tells a [] = []
 parts_of tells a (n ∷ ns) =
     record { number = n; mine = own tells n a.entries; doubt = doubt_of tells a.pending n } ∷ parts_of tells a ns
 
--- the parts but the one of this number
-abbrev pub without : {E : Type 0} → Option ℕ → List (Part E) → List (Part E)
-without k [] = []
-without k (p ∷ ps) = cond (is_of k p.number) (without k ps) (p ∷ without k ps)
+-- the parts but the one of this number, and that one alone
+abbrev pub but : {E : Type 0} → ℕ → List (Part E) → List (Part E)
+but n [] = []
+but n (p ∷ ps) = cond (eqb p.number n) (but n ps) (p ∷ but n ps)
 
--- the part of this number alone
+abbrev pub just : {E : Type 0} → ℕ → List (Part E) → List (Part E)
+just n [] = []
+just n (p ∷ ps) = cond (eqb p.number n) (p ∷ just n ps) (just n ps)
+
+-- what a split leaves, and what it moves: nothing, or the named part
+abbrev pub without : {E : Type 0} → Option ℕ → List (Part E) → List (Part E)
+without None ps = ps
+without (Some n) ps = but n ps
+
 abbrev pub only : {E : Type 0} → Option ℕ → List (Part E) → List (Part E)
-only k [] = []
-only k (p ∷ ps) = cond (is_of k p.number) (p ∷ only k ps) (only k ps)
+only None ps = []
+only (Some n) ps = just n ps
 
 -- no part is named, or one of these
 abbrev pub IsAmong : Option ℕ → List ℕ → Type 0

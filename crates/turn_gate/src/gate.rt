@@ -13,6 +13,8 @@ use atomic_table::Table;
 use std::alloc::Global;
 use std::marker::{Brand, Model};
 use std::sync::Wait;
+use std::sync::atomic::AtomicU64;
+use std::sync::atomic::Ordering::SeqCst;
 
 // The count word: 16 times the length of the list, and the status code.
 pub(crate) const COUNT: usize = 0;
@@ -20,13 +22,15 @@ pub(crate) const COUNT: usize = 0;
 // The turn word: 1 while a seat has the turn.
 pub(crate) const TURN: usize = 1;
 
-// How often a turn is asked for before its thread sleeps.
-const SPINS: u32 = 100;
+// How often a thread looks at the turn word before it sleeps.
+const LOOKS: u32 = 100;
 
 /// A machine behind a turn. Clauses see its name, which its seats have too.
 #[derive(Drop)]
 pub struct Gate<M: Machine> {
     pub(crate) table: Table<Option<M>, View<M::Entry, M::Opening>, (), Law, Global>,
+    // 1 where a thread may sleep on this word, so that nobody is woken where none does.
+    pub(crate) asleep: AtomicU64,
 }
 
 impl<M: Machine> Model for Gate<M> {
@@ -43,8 +47,7 @@ impl<M: Machine> Model for Gate<M> {
 }
 
 impl<M: Machine> Gate<M> {
-    /// Waits for the turn, and takes the machine. It asks a bounded number of times, and then sleeps
-    /// until a turn is given back.
+    /// Waits for the turn, and takes the machine. A thread that waits sleeps.
     pub fn turn<R: Wait>(&self, rt: &R, seat: &mut Seat<M>) -> M
         requires of_this_gate { seat.old.gate ≡ self.now }
         requires has_a_part { 0 < length seat.old.view.parts }
@@ -58,7 +61,6 @@ impl<M: Machine> Gate<M> {
         // While a seat has all parts, nothing comes between its turns.
         ensures nothing_came { HasAll seat.old.view → (M.account result).entries ≡ seat.old.view.seen }
     {
-        let mut tries = 0u32;
         for _ in rt.forever() {
             if self.table.shared.swap::<Ask>(&mut seat.inner, TURN, 1) == 0 {
                 let machine = self.table.shared.exchange(&mut seat.inner, 0, None);
@@ -67,13 +69,25 @@ impl<M: Machine> Gate<M> {
                 };
                 return machine;
             }
-            if tries < SPINS {
-                tries += 1;
-            } else {
-                self.table.shared.park(rt, TURN, 1);
-            }
+            self.wait(rt);
         }
         unreachable!()
+    }
+
+    // Looks for a free turn a bounded number of times, and then sleeps until one is given back. The
+    // second look comes after the note that it may sleep, so a give that it missed has seen the note.
+    // A thread that slept makes the note anew, since others may sleep too.
+    fn wait<R: Wait>(&self, rt: &R) {
+        for _ in 0..LOOKS {
+            if self.table.shared.peek(TURN) == 0 {
+                return;
+            }
+        }
+        self.asleep.store(1, SeqCst);
+        if self.table.shared.peek(TURN) != 0 {
+            self.asleep.park(rt, 1);
+            self.asleep.store(1, SeqCst);
+        }
     }
 
     fn publish_as<J: Told<M>>(&self, seat: &mut Seat<M>, machine: &M, rise: u64)
@@ -123,7 +137,9 @@ impl<M: Machine> Gate<M> {
             .exchange(&mut seat.inner, 0, Some(machine));
         let None = none else { unreachable!() };
         self.table.shared.store::<Give>(&mut seat.inner, TURN, 0);
-        self.table.shared.wake_one(TURN);
+        if self.asleep.load(SeqCst) == 1 && self.asleep.swap(0, SeqCst) == 1 {
+            self.asleep.wake_one();
+        }
     }
 
     /// The length of the list and its status code. It never waits, and is one load.

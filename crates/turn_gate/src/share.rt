@@ -13,6 +13,7 @@ use crate::steps::{Both, Compare, Cut, Give, Make, Moved, Numbers, TakeSlot};
 use atomic_table::Table;
 use std::alloc::Global;
 use std::marker::Brand;
+use std::sync::atomic::AtomicU64;
 
 /// There was no memory.
 #[derive(Clone, Copy, Debug, PartialEq, Eq, Drop)]
@@ -46,7 +47,11 @@ impl<M: Machine> Gate<M> {
         let None = none else { unreachable!() };
         table.shared.store::<Make<J>>(&mut seat, COUNT, word);
         table.shared.store::<Give>(&mut seat, TURN, 0);
-        Ok((Gate { table }, Seat { inner: seat }))
+        let gate = Gate {
+            table,
+            asleep: AtomicU64::new(0),
+        };
+        Ok((gate, Seat { inner: seat }))
     }
 
     /// Makes a gate with this machine, and one seat for each part number, in order, with this part.
@@ -127,7 +132,7 @@ impl<M: Machine> Gate<M> {
         ensures faults { IfSome seat.view.fixed (λ f. at_most_last (f.faults + seat.view.rises) ≤ (M.account result).faults) }
         ensures is_true { IsTrueTo M.fixed M.stands seat.view result }
     {
-        let Gate { table } = self;
+        let Gate { table, asleep: _ } = self;
         let Seat { inner } = seat;
         let mut closed = table.close_with(inner);
         let slot = closed.take(0);

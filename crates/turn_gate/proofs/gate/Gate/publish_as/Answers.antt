@@ -3,7 +3,7 @@ use mathlib.Core.List.{IsPrefix}
 use Rattle.turn_gate.specs.Parts.{MayBecome}
 use Rattle.turn_gate.proofs.Prefixes.{is_some}
 use Rattle.turn_gate.proofs.Slots.{one_slot}
-use Rattle.turn_gate.proofs.Sums.{goes_on_by}
+use Rattle.turn_gate.proofs.Becomes.{goes_on_by}
 use Rattle.turn_gate.proofs.Turns.{tells_all}
 use Rattle.turn_gate.proofs.gate.Gate.publish_as.Goals as goal
 

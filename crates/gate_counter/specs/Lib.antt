@@ -1,0 +1,4 @@
+pub mod Ticks
+pub mod Rises
+pub mod Laws
+pub mod Seats
