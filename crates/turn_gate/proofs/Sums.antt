@@ -1,13 +1,11 @@
 -- Sums over views, and parts.
-use Rattle.std.proofs.Common.{◌≡◌, ◌≢◌, inl, inr, ⊎_elim, ℕ, zero, suc, ◌+◌, ◌<◌, ◌≤◌, Bool, true, false, cond, eqb, List, [], ◌∷◌, ◌++◌, length, set, refl, sym, ◌∙◌, ap, subst, arith, append_assoc, Option, Some, None}
-use Rattle.std.proofs.lemmas.Bool.{cases_Bool, cond-true, cond-false, eqb-true, eq-eqb}
-use Rattle.std.proofs.lemmas.List.{append-nil}
+use Rattle.std.proofs.Common.{◌≡◌, ◌≢◌, inl, inr, ⊎_elim, ℕ, zero, suc, ◌+◌, ◌<◌, ◌≤◌, Bool, true, false, cond, eqb, List, [], ◌∷◌, ◌++◌, length, set, refl, sym, ◌∙◌, ap, arith, Option, Some, None}
+use Rattle.std.proofs.lemmas.Bool.{cond-true, eq-eqb}
 use mathlib.Core.Option.{some, some-injective, some-ne-none}
-use mathlib.Core.List.{IsPrefix}
 use lib.ListN.{get_elem?}
 use Rattle.turn_gate.specs.declared.view.Account.{Account}
 use Rattle.turn_gate.specs.declared.view.Part.{Part}
-use Rattle.turn_gate.specs.Parts.{is_of, own, times, numbers_of, doubt_of, parts_of, but, just, without, only, PartFits, PartsFit, IsOurs, StoodOrNot, AtMostOne, IsPendingAfter, MayBecome, StaysOrStood, total}
+use Rattle.turn_gate.specs.Parts.{is_of, times, numbers_of, doubt_of, parts_of, but, just, without, only, PartFits, PartsFit, StaysOrStood, total}
 
 module _ {A : Type 0} (f : A → ℕ) where
   pub total_set : (l : List A) (i : ℕ) (v w : A) → get_elem? l i ≡ some v → total f (set l i w) + f v ≡ total f l + f w

@@ -12,6 +12,10 @@ pub record Known (E O : Type 0) : Type 0 where
 abbrev pub known : {E O : Type 0} → TableId → View E O → Known E O
 known gate view = record { gate = gate; view = view }
 
+-- a gate has the count word and the turn word, and one slot
+abbrev pub HasCounts : TableId → Type 0
+HasCounts gate = (gate.words ≡ 2) × (gate.slots ≡ 1)
+
 -- a seat has the empty slot while it has the turn, and has then seen all that it holds
 abbrev pub HasSlot : {M E : Type 0} → Option (Account E) → List E → List (ℕ × Option M) → Type 0
 HasSlot None seen slots = slots ≡ []

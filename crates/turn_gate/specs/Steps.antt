@@ -3,14 +3,26 @@ use Rattle.std.specs.Prelude.{◌≡◌, ℕ, ◌+◌, ◌*◌, ◌<◌, ◌≤�
 use Rattle.std.specs.Bool.{MatchBool}
 use mathlib.Core.List.{IsPrefix}
 use Rattle.atomic_table.specs.Table.{Me}
-use Rattle.turn_gate.specs.Parts.{numbers_of, times, parts_of, PartsFit}
+use Rattle.turn_gate.specs.Parts.{numbers_of, times, parts_of, at_most_last, MayBecome, PartsFit}
 use Rattle.turn_gate.specs.Views.{fixed_to, with_turn, published, at_rest, noted, compared, making}
 use Rattle.turn_gate.specs.Rule.{Meaning, NotAbove, NotesFit, AllBegin}
+use Rattle.turn_gate.specs.declared.view.Account.{Account}
 use Rattle.turn_gate.specs.declared.view.View.{View}
 
 module _ {E O : Type 0} where
   abbrev pub IsMade : View E O → Type 0
   IsMade v = v.fixed ≡ None → ⊥
+
+  abbrev pub HasTurn : View E O → Type 0
+  HasTurn v = v.held ≡ None → ⊥
+
+  -- what this seat holds may become this account, with this rise of its faults
+  abbrev pub MayPublish : (E → Option ℕ) → View E O → Account E → ℕ → Type 0
+  MayPublish tells v new rise = IfSome v.held (λ found. MayBecome tells v.parts found new rise)
+
+  -- the count of faults is at least that of the making and this seat's rises
+  abbrev pub CoversRises : View E O → ℕ → Type 0
+  CoversRises v faults = IfSome v.fixed (λ f. at_most_last (f.faults + v.rises) ≤ faults)
 
   -- the view has each part of the making
   abbrev pub HasAll : View E O → Type 0

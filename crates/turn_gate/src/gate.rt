@@ -1,8 +1,8 @@
 ghost use Rattle.std.specs.Prelude.{◌≡◌, ◌+◌, ◌*◌, ◌<◌, ◌≤◌, [], ◌∷◌, true, false, None, Some, Option, IfOk, IfErr, IfSome, length};
 ghost use mathlib.Core.List.{IsPrefix};
-ghost use Rattle.turn_gate.specs.Parts.{MayBecome, PartsFit};
+ghost use Rattle.turn_gate.specs.Parts.{PartsFit};
 ghost use Rattle.turn_gate.specs.Rule.{NotAbove};
-ghost use Rattle.turn_gate.specs.Steps.{HasAll, IsTrueTo, NotesAreOf, IsCodeAt};
+ghost use Rattle.turn_gate.specs.Steps.{HasTurn, MayPublish, HasAll, IsTrueTo, NotesAreOf, IsCodeAt};
 ghost use Rattle.turn_gate.specs.Views.{with_turn, published, at_rest, noted};
 
 use crate::machine::Machine;
@@ -34,8 +34,8 @@ pub struct Gate<M: Machine> {
 }
 
 impl<M: Machine> Model for Gate<M> {
-    ghost use Rattle.std.specs.Prelude.{◌≡◌};
     ghost use Rattle.atomic_table.specs.Seated.{TableId, table_id_coded};
+    ghost use Rattle.turn_gate.specs.Known.{HasCounts};
 
     ghost Value = { TableId };
 
@@ -43,11 +43,11 @@ impl<M: Machine> Model for Gate<M> {
 
     ghost view = { λ g. g.table.shared.table_id };
 
-    ghost invariant = { λ g. (g.table.shared.table_id.words ≡ 2) × (g.table.shared.table_id.slots ≡ 1) };
+    ghost invariant = { λ g. HasCounts g.table.shared.table_id };
 }
 
 impl<M: Machine> Gate<M> {
-    /// Waits for the turn, and takes the machine. A thread that waits sleeps.
+    /// Waits for the turn, and takes the machine. A thread that waits long sleeps.
     pub fn turn<R: Wait>(&self, rt: &R, seat: &mut Seat<M>) -> M
         requires of_this_gate { seat.old.gate ≡ self.now }
         requires has_a_part { 0 < length seat.old.view.parts }
@@ -59,10 +59,12 @@ impl<M: Machine> Gate<M> {
         ensures own_entries { PartsFit M.tells (M.account result) seat.old.view.parts }
         ensures polled { NotesAreOf M.code_after seat.old.view (M.account result).entries }
         // While a seat has all parts, nothing comes between its turns.
-        ensures nothing_came { HasAll seat.old.view → (M.account result).entries ≡ seat.old.view.seen }
+        ensures nothing_came { HasAll seat.old.view
+            → (M.account result).entries ≡ seat.old.view.seen }
     {
         for _ in rt.forever() {
-            if self.table.shared.swap::<Ask>(&mut seat.inner, TURN, 1) == 0 {
+            let free = self.table.shared.swap::<Ask>(&mut seat.inner, TURN, 1) == 0;
+            if free {
                 let machine = self.table.shared.exchange(&mut seat.inner, 0, None);
                 let Some(machine) = machine else {
                     unreachable!()
@@ -93,12 +95,12 @@ impl<M: Machine> Gate<M> {
     fn publish_as<J: Told<M>>(&self, seat: &mut Seat<M>, machine: &M, rise: u64)
         requires told { (J.told ≡ Some machine.now) × (J.rise ≡ rise) }
         requires of_this_gate { seat.old.gate ≡ self.now }
-        requires in_turn { seat.old.view.held ≡ None → ⊥ }
-        requires goes_on { IfSome seat.old.view.held
-            (λ found. MayBecome M.tells seat.old.view.parts found (M.account machine.now) rise) }
+        requires in_turn { HasTurn seat.old.view }
+        requires goes_on { MayPublish M.tells seat.old.view (M.account machine.now) rise }
         requires is_true { IsTrueTo M.fixed M.stands seat.old.view machine.now }
         ensures same_gate { seat.new.gate ≡ seat.old.gate }
-        ensures published { seat.new.view ≡ published M.tells (M.account machine.now) rise seat.old.view }
+        ensures published { seat.new.view
+            ≡ published M.tells (M.account machine.now) rise seat.old.view }
         ensures goes_on { IsPrefix seat.old.view.seen (M.account machine.now).entries }
     {
         let _ = rise;
@@ -108,16 +110,17 @@ impl<M: Machine> Gate<M> {
             .store::<Publish<J>>(&mut seat.inner, COUNT, word);
     }
 
-    /// Tells all seats of the machine's list. It has gone on from that of the turn by the entry that
-    /// was found pending or by nothing, and then by at most one entry of this seat's parts, or of none.
+    /// Tells all seats of the machine's list. It went on from that of the turn by the entry found
+    /// pending or by nothing, and then by at most one entry, of this seat's parts or of none.
     pub fn publish(&self, seat: &mut Seat<M>, machine: &M, rise: u64)
         requires of_this_gate { seat.old.gate ≡ self.now }
-        requires in_turn { (seat.old.view.held ≡ None → ⊥) × (seat.old.view.published ≡ false) }
-        requires goes_on { IfSome seat.old.view.held
-            (λ found. MayBecome M.tells seat.old.view.parts found (M.account machine.now) rise) }
+        requires in_turn { HasTurn seat.old.view }
+        requires not_yet { seat.old.view.published ≡ false }
+        requires goes_on { MayPublish M.tells seat.old.view (M.account machine.now) rise }
         requires is_true { IsTrueTo M.fixed M.stands seat.old.view machine.now }
         ensures same_gate { seat.new.gate ≡ seat.old.gate }
-        ensures published { seat.new.view ≡ published M.tells (M.account machine.now) rise seat.old.view }
+        ensures published { seat.new.view
+            ≡ published M.tells (M.account machine.now) rise seat.old.view }
         ensures goes_on { IsPrefix seat.old.view.seen (M.account machine.now).entries }
     {
         self.publish_as::<Brand>(seat, machine, rise);
@@ -126,7 +129,8 @@ impl<M: Machine> Gate<M> {
     /// Gives the turn back, with the machine as it was published.
     pub fn give(&self, seat: &mut Seat<M>, machine: M)
         requires of_this_gate { seat.old.gate ≡ self.now }
-        requires as_published { (seat.old.view.held ≡ Some (M.account machine)) × (seat.old.view.published ≡ true) }
+        requires published { seat.old.view.published ≡ true }
+        requires as_published { seat.old.view.held ≡ Some (M.account machine) }
         requires is_true { IsTrueTo M.fixed M.stands seat.old.view machine }
         ensures same_gate { seat.new.gate ≡ seat.old.gate }
         ensures given { seat.new.view ≡ at_rest seat.old.view }
@@ -147,7 +151,8 @@ impl<M: Machine> Gate<M> {
         requires of_this_gate { seat.old.gate ≡ self.now }
         ensures same_gate { seat.new.gate ≡ seat.old.gate }
         ensures noted { seat.new.view ≡ noted result.0 result.1 seat.old.view }
-        ensures not_before { (length seat.old.view.seen ≤ result.0) × NotAbove result.0 seat.old.view.notes }
+        ensures not_before_seen { length seat.old.view.seen ≤ result.0 }
+        ensures not_before_polled { NotAbove result.0 seat.old.view.notes }
         ensures is_code { IsCodeAt M.code_after seat.old.view result.0 result.1 }
     {
         let word = self.table.shared.load::<Poll>(&mut seat.inner, COUNT);

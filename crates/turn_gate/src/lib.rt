@@ -1,9 +1,9 @@
 //! A machine that threads share: one history behind a turn, and polls that never wait.
 //!
-//! Layer: stands on the kit's `atomic_table`, and on nothing else of this repository. The gates of a
+//! Layer: stands on the kit's `atomic_table`, and on no crate of this repository. The gates of a
 //! node and of the master stand on it.
-//! Its one contract: between any two steps of all seats the gate rule holds (`specs/Rule.antt`), for
-//! every `Machine`; so what a seat has seen is a beginning of the one list that `close` hands back.
+//! Its one contract: between any two steps of all seats the gate rule holds (`specs/Rule.antt`),
+//! for every `Machine`; so what a seat has seen begins the one list that `close` hands back.
 #![tactic(auto)]
 
 mod gate;

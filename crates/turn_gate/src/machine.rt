@@ -32,7 +32,8 @@ pub trait Machine {
 
     /// The status code after the list, below 16.
     fn code(&self) -> u8
-        ensures { (o : Self.Opening) → stands self.now o → result ≡ code_after o (account self.now).entries };
+        ensures { (o : Self.Opening) → stands self.now o
+            → result ≡ code_after o (account self.now).entries };
 
     /// How often its device has failed. It never falls.
     fn faults(&self) -> u64

@@ -3,7 +3,7 @@ ghost use mathlib.Core.List.{IsPrefix};
 ghost use Rattle.turn_gate.specs.Parts.{numbers_of, parts_of, AllDiffer, IsAmong, PartsFit, TellsOnly, at_most_last};
 ghost use Rattle.turn_gate.specs.Rule.{NotesFit};
 ghost use Rattle.turn_gate.specs.Seats.{one_each, AllRest, HaveAll, OneSaw, AllSawBeginnings, parts_in, notes_in, rises_in, fixed_in};
-ghost use Rattle.turn_gate.specs.Steps.{HasAll, IsTrueTo, NotesAreOf};
+ghost use Rattle.turn_gate.specs.Steps.{CoversRises, HasAll, IsTrueTo, NotesAreOf};
 ghost use Rattle.turn_gate.specs.Views.{fixed_by, first_view, left_with, split_off, joined};
 
 use crate::gate::{COUNT, Gate, TURN};
@@ -33,8 +33,9 @@ impl<M: Machine> Gate<M> {
         requires tells_only_parts { TellsOnly M.tells parts.now (M.account machine) }
         ensures gate { IfOk result (λ made. made.1.gate ≡ made.0) }
         ensures seat { IfOk result
-            (λ made. made.1.view ≡ first_view (fixed_by M.opening M.fixed M.account machine parts.now)
-            (M.account machine) (parts_of M.tells (M.account machine) parts.now)) }
+            (λ made. made.1.view ≡ first_view
+            (fixed_by M.opening M.fixed M.account machine parts.now) (M.account machine)
+            (parts_of M.tells (M.account machine) parts.now)) }
         ensures handed_back { IfErr result (λ refused. refused.0 ≡ machine) }
     {
         let _ = parts;
@@ -66,8 +67,8 @@ impl<M: Machine> Gate<M> {
         requires parts_differ { AllDiffer parts.now }
         requires tells_only_parts { TellsOnly M.tells parts.now (M.account machine) }
         ensures one_seat_each { IfOk result
-            (λ made. made.1.items ≡ one_each made.0
-            (first_view (fixed_by M.opening M.fixed M.account machine parts.now) (M.account machine))
+            (λ made. made.1.items ≡ one_each made.0 (first_view
+            (fixed_by M.opening M.fixed M.account machine parts.now) (M.account machine))
             (parts_of M.tells (M.account machine) parts.now)) }
         ensures handed_back { IfErr result (λ refused. refused.0 ≡ machine) }
     {
@@ -107,7 +108,8 @@ impl<M: Machine> Gate<M> {
         self.split_as::<Brand>(seat, part)
     }
 
-    /// Two seats are made one, which has seen what either had, and has the parts, notes and rises of both.
+    /// Two seats are made one, which has seen what either had. It has the parts, the notes and the
+    /// rises of both.
     pub fn join(&self, seat: &mut Seat<M>, other: Seat<M>)
         requires of_this_gate { (seat.old.gate ≡ self.now) × (other.gate ≡ self.now) }
         requires no_turn { (seat.old.view.held ≡ None) × (other.view.held ≡ None) }
@@ -129,7 +131,7 @@ impl<M: Machine> Gate<M> {
         ensures list { (M.account result).entries ≡ seat.view.seen }
         ensures own_entries { PartsFit M.tells (M.account result) seat.view.parts }
         ensures polled { NotesAreOf M.code_after seat.view (M.account result).entries }
-        ensures faults { IfSome seat.view.fixed (λ f. at_most_last (f.faults + seat.view.rises) ≤ (M.account result).faults) }
+        ensures faults { CoversRises seat.view (M.account result).faults }
         ensures is_true { IsTrueTo M.fixed M.stands seat.view result }
     {
         let Gate { table, asleep: _ } = self;
@@ -149,7 +151,8 @@ impl<M: Machine> Gate<M> {
         ensures all_saw { AllSawBeginnings (M.account result).entries seats.items }
         ensures own_entries { PartsFit M.tells (M.account result) (parts_in seats.items) }
         ensures polled { IfSome (fixed_in seats.items)
-            (λ f. NotesFit M.code_after f.opening (M.account result).entries (notes_in seats.items)) }
+            (λ f. NotesFit M.code_after f.opening (M.account result).entries
+            (notes_in seats.items)) }
         ensures faults { IfSome (fixed_in seats.items)
             (λ f. at_most_last (f.faults + rises_in seats.items) ≤ (M.account result).faults) }
         ensures is_true { IfSome (fixed_in seats.items)

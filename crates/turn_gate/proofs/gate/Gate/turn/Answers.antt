@@ -6,8 +6,8 @@ use Rattle.turn_gate.proofs.Slots.{no_slot}
 use Rattle.turn_gate.proofs.Turns.{turns}
 use Rattle.turn_gate.proofs.gate.Gate.turn.Goals as goal
 
-pub swap-requires : goal.swap-requires
-swap-requires g c =
+pub swap-free-requires : goal.swap-free-requires
+swap-free-requires g c =
     let f = is_some _ c.seat.invariant.made in
     let slots = no_slot _ _ _ c.seat.invariant.slot (subst (λ k. k.view.held ≡ None) (sym c.seat.view_is) c.requires.no_turn) in
     let has = subst (λ k. 0 < length k.view.parts) (sym c.seat.view_is) c.requires.has_a_part in
@@ -16,10 +16,10 @@ swap-requires g c =
 
 pub exchange-machine-requires : goal.exchange-machine-requires
 exchange-machine-requires g c =
-    let has = MatchBool-at_true _ _ (eq-eqb _ _ c.if-swap-eq0.true) c.swap.ensures.2 in
+    let has = MatchBool-at_true _ _ (eq-eqb _ _ c.if-free.true) c.swap-free.ensures.2 in
     (search rules, (Some has.machine, has.slot ∙ ap (λ r. (0, Some has.machine) ∷ r) (sym (ap rest has.slot))))
 
 pub loop-preserved : goal.loop-preserved
 loop-preserved g c =
-    let same = MatchBool-at_false _ _ (ne_eqb _ _ c.if-swap-eq0.false) c.swap.ensures.2 in
-    (tt, tt, c.swap.ensures.0 ∙ c.loop.invariant.2, c.swap.ensures.1 ∙ c.loop.invariant.3, same ∙ c.loop.invariant.4)
+    let same = MatchBool-at_false _ _ (ne_eqb _ _ c.if-free.false) c.swap-free.ensures.2 in
+    (tt, tt, c.swap-free.ensures.0 ∙ c.loop.invariant.2, c.swap-free.ensures.1 ∙ c.loop.invariant.3, same ∙ c.loop.invariant.4)
