@@ -1,16 +1,15 @@
-//! Times turns on one gate: `gate_bench THREADS TURNS`, with 1, 2, 4 or 8 threads that make so many
-//! turns each, prints the microseconds that they took. Without arguments it makes a few, and times none.
+//! Times turns on one gate. `gate_bench THREADS TURNS`, with 1, 2, 4 or 8 threads that make so many
+//! turns each, prints the microseconds that they took. Without words it makes a few and times none.
 //!
 //! Layer: stands on `gate_counter`; nothing stands on it. It promises no time.
 #![tactic(auto)]
 
 use gate_counter::{Counter, count_together};
 use std::alloc::Global;
-use std::env;
-use std::io;
 use std::sync::Wait;
 use std::thread::Threads;
 use std::time::Instant;
+use std::{env, io};
 use turn_gate::OutOfMemory;
 
 fn count<R: Threads + Wait + Sync>(

@@ -1,14 +1,13 @@
 -- Rows of seats, one for each part.
-use Rattle.std.proofs.Common.{◌≡◌, ℕ, suc, ◌+◌, ◌<◌, List, [], ◌∷◌, ◌++◌, length, refl, sym, ◌∙◌, ap, subst, arith, Option, Some, None, IfSome}
+use Rattle.std.proofs.Common.{◌≡◌, ℕ, ◌<◌, List, [], ◌∷◌, ◌++◌, length, refl, sym, ◌∙◌, ap, subst, arith, Option, Some, IfSome}
 use Rattle.atomic_table.specs.Seated.{TableId}
 use Rattle.turn_gate.specs.declared.view.Account.{Account}
 use Rattle.turn_gate.specs.declared.view.Fixed.{Fixed}
 use Rattle.turn_gate.specs.declared.view.Part.{Part}
-use Rattle.turn_gate.specs.declared.view.View.{View}
 use Rattle.turn_gate.specs.Known.{Known}
 use Rattle.turn_gate.specs.Parts.{times, numbers_of, parts_of}
 use Rattle.turn_gate.specs.Seats.{one_each, AllRest, HaveAll, parts_in, fixed_in}
-use Rattle.turn_gate.specs.Views.{first_view, fixed_to}
+use Rattle.turn_gate.specs.Views.{first_view}
 use Rattle.gate_counter.specs.declared.tick.Tick.{Tick}
 use Rattle.gate_counter.specs.Seats.{IsSeatOf, AreSeatsOf}
 

@@ -1,5 +1,5 @@
 -- Laws of a counter.
-use Rattle.std.specs.Prelude.{ℕ, ◌<◌, ◌^◌, ◌%◌, List, length}
+use Rattle.std.specs.Prelude.{◌<◌, ◌^◌, ◌%◌, List, length}
 use Rattle.std.proofs.Common.{arith}
 use Rattle.gate_counter.specs.declared.counter.Counter.{Counter}
 use Rattle.gate_counter.specs.declared.tick.Tick.{Tick}

@@ -1,4 +1,5 @@
 pub mod Ticks
 pub mod Rises
+pub mod Counters
 pub mod Laws
 pub mod Seats

@@ -1,5 +1,5 @@
 -- Seats of a counter's gate.
-use Rattle.std.specs.Prelude.{◌≡◌, ℕ, List, [], ◌∷◌, Option, Some, None}
+use Rattle.std.specs.Prelude.{◌≡◌, ℕ, List, [], ◌∷◌, None}
 use Rattle.atomic_table.specs.Seated.{TableId}
 use Rattle.turn_gate.specs.Known.{Known}
 use Rattle.turn_gate.specs.Parts.{numbers_of}

@@ -74,15 +74,14 @@ impl Counter {
         }
     }
 
-    pub fn ticks(&self) -> &[Tick] {
+    /// What was counted, oldest first.
+    pub fn ticks(&self) -> &[Tick]
+        ensures { result.now ≡ self.now.ticks.items }
+    {
         self.ticks.as_slice()
     }
 
-    pub fn pending(&self) -> Option<Tick> {
-        self.pending
-    }
-
-    // The newest number of this part, or 0.
+    // The newest number of this part, or 0. A test alone says so.
     fn newest(&self, by: u8) -> u32 {
         for tick in self.ticks.iter().rev() {
             if tick.by == by {
@@ -96,7 +95,8 @@ impl Counter {
     fn settle(&mut self)
         requires room { vec_len self.old.ticks + 1 < vec_capacity self.old.ticks }
         requires short { length self.old.ticks.items < 2 ^ 50 }
-        ensures stood { (stood : List Tick) × StoodOrNot self.old.pending stood × (self.new.ticks.items ≡ self.old.ticks.items ++ stood) }
+        ensures stood { (stood : List Tick) × StoodOrNot self.old.pending stood
+            × (self.new.ticks.items ≡ self.old.ticks.items ++ stood) }
         ensures none { self.new.pending ≡ None }
         ensures faults { self.new.faults ≡ self.old.faults }
         ensures room { vec_len self.new.ticks < vec_capacity self.new.ticks }
@@ -112,7 +112,9 @@ impl Counter {
 
     // Whether the device fails at this call.
     fn fails(&mut self) -> bool
-        ensures { (self.new.ticks ≡ self.old.ticks) × (self.new.pending ≡ self.old.pending) × (self.new.faults ≡ self.old.faults) }
+        ensures ticks { self.new.ticks ≡ self.old.ticks }
+        ensures pending { self.new.pending ≡ self.old.pending }
+        ensures faults { self.new.faults ≡ self.old.faults }
     {
         self.calls = self.calls.wrapping_add(1);
         self.period > 0 && self.calls % self.period == 0

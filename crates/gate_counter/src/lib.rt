@@ -1,4 +1,8 @@
-//! A counter behind a gate.
+//! A counter with a failing device behind a gate, counted up by threads: what a machine, its turns and
+//! its seats look like to a caller of `turn_gate`, and the tests of the gate with threads.
+//!
+//! Layer: stands on `turn_gate`; `gate_bench` stands on it, and no part of the product does.
+//! Its one contract: a turn counts once for the part of its seat, and nothing else.
 #![tactic(auto)]
 
 mod counter;

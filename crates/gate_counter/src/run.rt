@@ -1,8 +1,10 @@
-ghost use Rattle.std.specs.Prelude.{◌≡◌, ◌+◌, ◌<◌, ◌≤◌, [], ◌∷◌, ℕ, length, vec_capacity, vec_len, None, Some};
+ghost use Rattle.std.specs.Prelude.{◌≡◌, ◌+◌, ◌<◌, ◌≤◌, [], ◌∷◌, ℕ, IfOk, length, vec_capacity, vec_len, None, Some};
 ghost use mathlib.Core.List.{IsPrefix};
 ghost use Rattle.gate_counter.specs.Seats.{IsSeatOf, AreSeatsOf};
+ghost use Rattle.gate_counter.specs.Counters.{account_of};
 ghost use Rattle.gate_counter.specs.Rises.{rise_of};
-ghost use Rattle.turn_gate.specs.Parts.{AllDiffer};
+ghost use Rattle.gate_counter.specs.Ticks.{tells};
+ghost use Rattle.turn_gate.specs.Parts.{AllDiffer, TellsOnly};
 ghost use Rattle.turn_gate.specs.Seats.{fixed_in};
 ghost use denote.Param.Send.{IsSync};
 
@@ -14,12 +16,7 @@ use std::thread::{Threads, join};
 use turn_gate::{Gate, OutOfMemory, Seat, Seats};
 
 /// One turn: counts once for the seat's part.
-pub fn count_once<R: Wait>(
-    rt: &R,
-    gate: &Gate<Counter>,
-    seat: &mut Seat<Counter>,
-    by: u8,
-) -> Answer
+pub fn count_once<R: Wait>(rt: &R, gate: &Gate<Counter>, seat: &mut Seat<Counter>, by: u8) -> Answer
     requires ours { IsSeatOf gate.now by seat.old }
     ensures ours { IsSeatOf gate.now by seat.new }
     ensures fixed { seat.new.view.fixed ≡ seat.old.view.fixed }
@@ -83,7 +80,8 @@ pub fn count_beside<R: Threads + Wait + Sync>(
     requires ours { AreSeatsOf gate.now parts.now seats.items }
     ensures ours { AreSeatsOf gate.now parts.now result.items }
     ensures fixed { fixed_in result.items ≡ fixed_in seats.items }
-    ensures room { (vec_capacity result ≡ vec_capacity seats) × (vec_len result ≡ vec_len seats) }
+    ensures room { vec_capacity result ≡ vec_capacity seats }
+    ensures as_many { vec_len result ≡ vec_len seats }
 {
     let Some(seat) = seats.pop() else {
         return seats;
@@ -100,7 +98,9 @@ pub fn count_beside<R: Threads + Wait + Sync>(
         { count_all(rt, gate, seat, by, count) },
         move || -> Seats<Counter>
             requires { IsSync R.row × AreSeatsOf gate.now before.now seats.items }
-            ensures { AreSeatsOf gate.entry.now before.entry.now result.items × (fixed_in result.items ≡ fixed_in seats.items) × (vec_capacity result ≡ vec_capacity seats) × (vec_len result ≡ vec_len seats) }
+            ensures { AreSeatsOf gate.entry.now before.entry.now result.items
+                × (fixed_in result.items ≡ fixed_in seats.items)
+                × (vec_capacity result ≡ vec_capacity seats) × (vec_len result ≡ vec_len seats) }
         { count_beside(rt, gate, seats, before, count) },
     );
     seats.push_reserved(seat);
@@ -117,6 +117,7 @@ pub fn count_together<R: Threads + Wait + Sync>(
 ) -> Result<Counter, OutOfMemory>
     requires some_part { 0 < length parts.now }
     requires parts_differ { AllDiffer parts.now }
+    ensures only_they { IfOk result (λ counter. TellsOnly tells parts.now (account_of counter)) }
 {
     let counter = Counter::new(alloc, period);
     match Gate::new(alloc, counter, parts) {

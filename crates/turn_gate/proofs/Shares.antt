@@ -9,10 +9,10 @@ use Rattle.turn_gate.specs.declared.view.Account.{Account}
 use Rattle.turn_gate.specs.declared.view.Fixed.{Fixed}
 use Rattle.turn_gate.specs.declared.view.View.{View}
 use Rattle.std.proofs.lemmas.Bool.{cases_eq, cases_lt, lt-ltb, le-ltb, cond-true, cond-false, cond_both}
-use Rattle.turn_gate.specs.Parts.{PartsFit, at_most_last}
+use Rattle.turn_gate.specs.Parts.{PartsFit, TellsOnly, at_most_last}
 use Rattle.turn_gate.specs.Views.{left_with, split_off, merged, spent, longer}
 use Rattle.turn_gate.specs.Rule.{Meaning, NotesFit, Home, Away, Newest}
-use Rattle.turn_gate.specs.Steps.{HasAll, IsTrueTo, NotesAreOf}
+use Rattle.turn_gate.specs.Steps.{HasAll, IsTrueTo, TellsParts, NotesAreOf}
 use Rattle.turn_gate.proofs.Sums.{total_set, total_at, total_snoc, times-append, fit-append, times-split, fit-without, fit-only, length-split}
 use Rattle.turn_gate.proofs.Prefixes.{prefix_same, prefix_length, prefix_whole, prefix_of_longer, is_some, some_none, set_there, each_set, at_same, found_in_set, found_in_snoc}
 use Rattle.turn_gate.proofs.Rules.{notes_append, begin_append, Runs, Rule, Each, count_of, rises_of, runs, fits_at, alone, whole_seen}
@@ -187,6 +187,7 @@ module _ {M E O : Type 0} (law : Meaning M E O) where
   pub record Ended (v : View E O) (it : M) : Type 0 where
     pub list_is : (law.account_of it).entries ≡ v.seen
     pub own_is : PartsFit law.tells (law.account_of it) v.parts
+    pub tells_parts : TellsParts law.tells v (law.account_of it)
     pub notes_are : NotesAreOf law.code v (law.account_of it).entries
     pub faults_are : IfSome v.fixed (λ f. at_most_last (f.faults + v.rises) ≤ (law.account_of it).faults)
     pub is_true : IsTrueTo law.fixed law.stands v it
@@ -217,6 +218,7 @@ module _ {M E O : Type 0} (law : Meaning M E O) where
         record {
           list_is = ap (λ (x : Account E). x.entries) h.account_is ∙ sym seen;
           own_is = subst (λ (x : Account E). PartsFit law.tells x w.parts) (sym h.account_is) fit.parts_have_their_entries;
+          tells_parts = subst (λ (o : Option (Fixed O)). IfSome o (λ x. TellsOnly law.tells x.all (law.account_of h.machine))) (sym fixed_is) (subst (λ (x : Account E). TellsOnly law.tells r.fixed_at.all x) (sym h.account_is) r.tells_only_parts);
           notes_are = subst (λ (o : Option (Fixed O)). IfSome o (λ x. NotesFit law.code x.opening (law.account_of h.machine).entries w.notes)) (sym fixed_is) (subst (λ (x : Account E). NotesFit law.code r.fixed_at.opening x.entries w.notes) (sym h.account_is) fit.notes_are_true);
           faults_are = subst (λ (o : Option (Fixed O)). IfSome o (λ x. at_most_last (x.faults + w.rises) ≤ (law.account_of h.machine).faults)) (sym fixed_is) (let is = ap (λ (x : Account E). x.faults) h.account_is in omega (arith, few, r.faults_cover_rises, is));
           is_true = subst (λ (o : Option (Fixed O)). IfSome o (λ x. (law.fixed h.machine ≡ x.numbers) × law.stands h.machine x.opening)) (sym fixed_is) (h.fixed_is, h.stands_for);

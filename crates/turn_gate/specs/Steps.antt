@@ -3,7 +3,7 @@ use Rattle.std.specs.Prelude.{◌≡◌, ℕ, ◌+◌, ◌*◌, ◌<◌, ◌≤�
 use Rattle.std.specs.Bool.{MatchBool}
 use mathlib.Core.List.{IsPrefix}
 use Rattle.atomic_table.specs.Table.{Me}
-use Rattle.turn_gate.specs.Parts.{numbers_of, times, parts_of, at_most_last, MayBecome, PartsFit}
+use Rattle.turn_gate.specs.Parts.{numbers_of, times, parts_of, at_most_last, MayBecome, PartsFit, TellsOnly}
 use Rattle.turn_gate.specs.Views.{fixed_to, with_turn, published, at_rest, noted, compared, making}
 use Rattle.turn_gate.specs.Rule.{Meaning, NotAbove, NotesFit, AllBegin}
 use Rattle.turn_gate.specs.declared.view.Account.{Account}
@@ -23,6 +23,10 @@ module _ {E O : Type 0} where
   -- the count of faults is at least that of the making and this seat's rises
   abbrev pub CoversRises : View E O → ℕ → Type 0
   CoversRises v faults = IfSome v.fixed (λ f. at_most_last (f.faults + v.rises) ≤ faults)
+
+  -- each number that an entry tells, or the pending one, is a part of the making
+  abbrev pub TellsParts : (E → Option ℕ) → View E O → Account E → Type 0
+  TellsParts tells v a = IfSome v.fixed (λ f. TellsOnly tells f.all a)
 
   -- the view has each part of the making
   abbrev pub HasAll : View E O → Type 0

@@ -3,7 +3,7 @@ ghost use mathlib.Core.List.{IsPrefix};
 ghost use Rattle.turn_gate.specs.Parts.{numbers_of, parts_of, AllDiffer, IsAmong, PartsFit, TellsOnly, at_most_last};
 ghost use Rattle.turn_gate.specs.Rule.{NotesFit};
 ghost use Rattle.turn_gate.specs.Seats.{one_each, AllRest, HaveAll, OneSaw, AllSawBeginnings, parts_in, notes_in, rises_in, fixed_in};
-ghost use Rattle.turn_gate.specs.Steps.{CoversRises, HasAll, IsTrueTo, NotesAreOf};
+ghost use Rattle.turn_gate.specs.Steps.{CoversRises, TellsParts, HasAll, IsTrueTo, NotesAreOf};
 ghost use Rattle.turn_gate.specs.Views.{fixed_by, first_view, left_with, split_off, joined};
 
 use crate::gate::{COUNT, Gate, TURN};
@@ -130,6 +130,7 @@ impl<M: Machine> Gate<M> {
         requires all_parts { HasAll seat.view }
         ensures list { (M.account result).entries ≡ seat.view.seen }
         ensures own_entries { PartsFit M.tells (M.account result) seat.view.parts }
+        ensures tells_parts { TellsParts M.tells seat.view (M.account result) }
         ensures polled { NotesAreOf M.code_after seat.view (M.account result).entries }
         ensures faults { CoversRises seat.view (M.account result).faults }
         ensures is_true { IsTrueTo M.fixed M.stands seat.view result }
@@ -150,6 +151,8 @@ impl<M: Machine> Gate<M> {
         ensures list { OneSaw (M.account result).entries seats.items }
         ensures all_saw { AllSawBeginnings (M.account result).entries seats.items }
         ensures own_entries { PartsFit M.tells (M.account result) (parts_in seats.items) }
+        ensures tells_parts { IfSome (fixed_in seats.items)
+            (λ f. TellsOnly M.tells f.all (M.account result)) }
         ensures polled { IfSome (fixed_in seats.items)
             (λ f. NotesFit M.code_after f.opening (M.account result).entries
             (notes_in seats.items)) }

@@ -1,4 +1,4 @@
-use Rattle.std.proofs.Common.{rules, arith, ◌≡◌, ◌++◌, ◌∷◌, [], ◌∙◌, sym, ap, subst}
+use Rattle.std.proofs.Common.{rules, arith, ◌++◌, ◌∷◌, [], ◌∙◌, sym, ap, subst}
 use Rattle.gate_counter.specs.Seats.{AreSeatsOf}
 use Rattle.turn_gate.specs.Seats.{fixed_in}
 use Rattle.gate_counter.proofs.Rows.{last_of, with_last, fixed_last}

@@ -1,4 +1,6 @@
-use Rattle.std.proofs.Common.{refl, ◌≡◌, ◌∙◌, [], sym, ap, subst}
+use Rattle.std.proofs.Common.{refl, ◌∙◌, [], sym, ap, subst, IfSome}
+use Rattle.turn_gate.specs.Parts.{TellsOnly}
+use Rattle.gate_counter.specs.Counters.{account_of}
 use Rattle.gate_counter.specs.Seats.{AreSeatsOf}
 use Rattle.turn_gate.specs.Seats.{fixed_in}
 use Rattle.turn_gate.specs.Views.{account, fixed_to}
@@ -22,3 +24,10 @@ close-requires-clause-all_parts g c =
     have_all c.in-Ok.gate c.args.parts.now c.count_beside-seats.result.items f c.requires.some_part refl
     (c.count_beside-seats.ensures.fixed ∙ ap fixed_in c.in-Ok.ensures.one_seat_each ∙ fixed_first c.in-Ok.gate f tells (account it.ticks.items it.pending it.faults) c.args.parts.now c.requires.some_part)
     c.count_beside-seats.ensures.ours
+
+pub returns-in-Ok : goal.returns-in-Ok
+returns-in-Ok g c =
+    let it = c.new-counter.result in
+    let f = fixed_to 0 [] it.faults c.args.parts.now in
+    let fixed = c.count_beside-seats.ensures.fixed ∙ ap fixed_in c.in-Ok.ensures.one_seat_each ∙ fixed_first c.in-Ok.gate f tells (account it.ticks.items it.pending it.faults) c.args.parts.now c.requires.some_part in
+    record { only_they = subst (λ o. IfSome o (λ x. TellsOnly tells x.all (account_of c.close.result))) fixed c.close.ensures.tells_parts }

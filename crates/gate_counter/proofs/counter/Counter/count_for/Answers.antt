@@ -1,4 +1,4 @@
-use Rattle.std.proofs.Common.{refl, arith, ◌≤◌}
+use Rattle.std.proofs.Common.{refl, arith}
 use Rattle.gate_counter.specs.Ticks.{tells}
 use Rattle.turn_gate.proofs.Becomes.{stays}
 use Rattle.gate_counter.proofs.counter.Counter.count_for.Goals as goal
