@@ -10,4 +10,5 @@ tells t = Some t.by
 
 -- the list went on as a turn of this part may do it
 abbrev pub HasCounted : ℕ → Account Tick → Account Tick → ℕ → Type 0
-HasCounted by old new rise = (parts : List (Part Tick)) → 0 < times by (numbers_of parts) → MayBecome tells parts old new rise
+HasCounted by old new rise =
+    (parts : List (Part Tick)) → 0 < times by (numbers_of parts) → MayBecome tells parts old new rise

@@ -61,16 +61,22 @@ IsAmong (Some n) ns = 0 < times n ns
 -- a part has just the entries that tell it, or these and its doubt;
 -- and a pending entry that tells it is its doubt, and isn't among them
 pub record PartFits {E : Type 0} (tells : E → Option ℕ) (a : Account E) (p : Part E) : Type 0 where
-  pub own_is : (own tells p.number a.entries ≡ p.mine) ⊎ ((d : E) × (p.doubt ≡ Some d) × (own tells p.number a.entries ≡ p.mine ++ d ∷ []))
-  pub pending_is : (e : E) → a.pending ≡ Some e → is_of (tells e) p.number ≡ true → (p.doubt ≡ Some e) × (own tells p.number a.entries ≡ p.mine)
+  pub own_is : (own tells p.number a.entries ≡ p.mine)
+      ⊎ ((d : E) × (p.doubt ≡ Some d) × (own tells p.number a.entries ≡ p.mine ++ d ∷ []))
+  pub pending_is : (e : E) → a.pending ≡ Some e → is_of (tells e) p.number ≡ true
+      → (p.doubt ≡ Some e) × (own tells p.number a.entries ≡ p.mine)
 
 abbrev pub PartsFit : {E : Type 0} → (E → Option ℕ) → Account E → List (Part E) → Type 0
 PartsFit tells a [] = Unit {0}
 PartsFit tells a (p ∷ ps) = PartFits tells a p × PartsFit tells a ps
 
+-- what is pending doesn't tell this number
+abbrev pub NonePending : {E : Type 0} → (E → Option ℕ) → Account E → ℕ → Type 0
+NonePending tells a n = (e : _) → a.pending ≡ Some e → is_of (tells e) n ≡ true → ⊥
+
 -- no entry tells this number, and the pending one doesn't
 abbrev pub IsUntold : {E : Type 0} → (E → Option ℕ) → Account E → ℕ → Type 0
-IsUntold tells a n = (own tells n a.entries ≡ []) × ((e : _) → a.pending ≡ Some e → is_of (tells e) n ≡ true → ⊥)
+IsUntold tells a n = (own tells n a.entries ≡ []) × NonePending tells a n
 
 -- each number that an entry tells is one of these
 abbrev pub TellsOnly : {E : Type 0} → (E → Option ℕ) → List ℕ → Account E → Type 0
@@ -93,12 +99,14 @@ abbrev pub AtMostOne : {E : Type 0} → (E → Option ℕ) → List (Part E) →
 AtMostOne tells parts more = (more ≡ []) ⊎ ((e : _) × (more ≡ e ∷ []) × IsOurs tells parts e)
 
 -- none, or the one found pending where it wasn't added, or a new one that is ours
-abbrev pub IsPendingAfter : {E : Type 0} → (E → Option ℕ) → List (Part E) → Option E → List E → Option E → Type 0
+abbrev pub IsPendingAfter : {E : Type 0}
+    → (E → Option ℕ) → List (Part E) → Option E → List E → Option E → Type 0
 IsPendingAfter tells parts found stood later =
     (later ≡ None) ⊎ ((stood ≡ []) × (later ≡ found)) ⊎ ((e : _) × (later ≡ Some e) × IsOurs tells parts e)
 
 -- what a turn may make of what it found
-pub record MayBecome {E : Type 0} (tells : E → Option ℕ) (parts : List (Part E)) (found new : Account E) (rise : ℕ) : Type 0 where
+pub record MayBecome {E : Type 0} (tells : E → Option ℕ) (parts : List (Part E))
+    (found new : Account E) (rise : ℕ) : Type 0 where
   pub stood : List E
   pub more : List E
   pub list_goes_on : new.entries ≡ found.entries ++ stood ++ more
@@ -107,11 +115,21 @@ pub record MayBecome {E : Type 0} (tells : E → Option ℕ) (parts : List (Part
   pub pending_is : IsPendingAfter tells parts found.pending stood new.pending
   pub faults_rose : at_most_last (found.faults + rise) ≤ new.faults
 
--- what a turn does to the entries of a number that isn't its own: nothing, or it adds the entry that was pending
+-- the entries of this number stay, and nothing new that tells it is pending
+abbrev pub Stays : {E : Type 0} → (E → Option ℕ) → Account E → Account E → ℕ → Type 0
+Stays tells old new n =
+    (own tells n new.entries ≡ own tells n old.entries)
+    × ((e : _) → new.pending ≡ Some e → is_of (tells e) n ≡ true → old.pending ≡ Some e)
+
+-- the entry of this number that was pending stood
+abbrev pub Stood : {E : Type 0} → (E → Option ℕ) → Account E → Account E → ℕ → Type 0
+Stood tells old new n =
+    (e : _) × (old.pending ≡ Some e) × (is_of (tells e) n ≡ true)
+    × (own tells n new.entries ≡ own tells n old.entries ++ e ∷ []) × NonePending tells new n
+
+-- what a turn does to the entries of a number that isn't its own
 abbrev pub StaysOrStood : {E : Type 0} → (E → Option ℕ) → Account E → Account E → ℕ → Type 0
-StaysOrStood tells old new n =
-    ((own tells n new.entries ≡ own tells n old.entries) × ((e : _) → new.pending ≡ Some e → is_of (tells e) n ≡ true → old.pending ≡ Some e))
-    ⊎ ((e : _) × (old.pending ≡ Some e) × (is_of (tells e) n ≡ true) × (own tells n new.entries ≡ own tells n old.entries ++ e ∷ []) × ((d : _) → new.pending ≡ Some d → is_of (tells d) n ≡ true → ⊥))
+StaysOrStood tells old new n = Stays tells old new n ⊎ Stood tells old new n
 
 abbrev pub total : {A : Type 0} → (A → ℕ) → List A → ℕ
 total f [] = 0

@@ -19,7 +19,8 @@ pub record Meaning (M E O : Type 0) : Type 1 where
   pub stands : M → O → Type 0
   pub code : O → List E → ℕ
 
-abbrev pub meaning : {M E O : Type 0} → (M → Account E) → (M → List ℕ) → (E → Option ℕ) → (M → O → Type 0) → (O → List E → ℕ) → Meaning M E O
+abbrev pub meaning : {M E O : Type 0} → (M → Account E) → (M → List ℕ) → (E → Option ℕ)
+    → (M → O → Type 0) → (O → List E → ℕ) → Meaning M E O
 meaning account_of fixed tells stands code =
     record { account_of = account_of; fixed = fixed; tells = tells; stands = stands; code = code }
 
@@ -40,7 +41,8 @@ module _ {E O : Type 0} where
   NotesFit code o g (n ∷ ns) = (n.0 ≤ length g) × (n.1 ≡ code o (take n.0 g)) × NotesFit code o g ns
 
   -- what the view of a seat that was made has to do with the list
-  pub record Fits (tells : E → Option ℕ) (code : O → List E → ℕ) (f : Fixed O) (a : Account E) (v : View E O) : Type 0 where
+  pub record Fits (tells : E → Option ℕ) (code : O → List E → ℕ) (f : Fixed O) (a : Account E)
+      (v : View E O) : Type 0 where
     pub fixed_is_that_of_the_making : v.fixed ≡ Some f
     pub seen_begins_the_list : IsPrefix v.seen a.entries
     pub parts_have_their_entries : PartsFit tells a v.parts
@@ -49,7 +51,8 @@ module _ {E O : Type 0} where
 
 module _ {M E O : Type 0} (law : Meaning M E O) where
   -- the machine is at home, and no view holds
-  pub record Home (f : Fixed O) (now : Account E) (homes : List (Slot (Option M))) (views : List (View E O)) : Type 0 where
+  pub record Home (f : Fixed O) (now : Account E) (homes : List (Slot (Option M)))
+      (views : List (View E O)) : Type 0 where
     pub machine : M
     pub at_home : homes ≡ some (Some machine) ∷ []
     pub account_is : law.account_of machine ≡ now
@@ -75,24 +78,31 @@ module _ {M E O : Type 0} (law : Meaning M E O) where
     pub has_part : 0 < length view.parts
     pub all_seen : view.seen ≡ g
 
-  -- once the gate was made: what the making fixed, and the account of the holding view or of the machine at home
+  -- once the gate was made: what the making fixed, and the account of the view that holds, or of the
+  -- machine at home
   pub record Running (s : Table (Option M) (View E O)) : Type 0 where
     pub fixed_at : Fixed O
     pub now : Account E
     pub turn : ℕ
-    pub word_is_length_and_code : s.words ≡ (16 * length now.entries + law.code fixed_at.opening now.entries) ∷ turn ∷ []
-    pub home_or_one_holds : ((turn ≡ 0) × Home fixed_at now s.homes s.views) ⊎ ((turn ≡ 1) × Away now s.homes s.views)
-    pub each_fits_or_is_spent : (i : ℕ) (v : View E O) → get_elem? s.views i ≡ some v → Fits law.tells law.code fixed_at now v ⊎ (v ≡ spent)
-    pub each_part_once : (n : ℕ) → total (λ (v : View E O). times n (numbers_of v.parts)) s.views ≡ times n fixed_at.all
+    pub word_is_length_and_code :
+        s.words ≡ (16 * length now.entries + law.code fixed_at.opening now.entries) ∷ turn ∷ []
+    pub home_or_one_holds :
+        ((turn ≡ 0) × Home fixed_at now s.homes s.views) ⊎ ((turn ≡ 1) × Away now s.homes s.views)
+    pub each_fits_or_is_spent : (i : ℕ) (v : View E O) → get_elem? s.views i ≡ some v
+        → Fits law.tells law.code fixed_at now v ⊎ (v ≡ spent)
+    pub each_part_once : (n : ℕ)
+        → total (λ (v : View E O). times n (numbers_of v.parts)) s.views ≡ times n fixed_at.all
     pub parts_differ : AllDiffer fixed_at.all
     pub tells_only_parts : TellsOnly law.tells fixed_at.all now
     pub one_has_seen_all : Newest now.entries s.views
-    pub faults_cover_rises : at_most_last (fixed_at.faults + total (λ (v : View E O). v.rises) s.views) ≤ now.faults
+    pub faults_cover_rises :
+        at_most_last (fixed_at.faults + total (λ (v : View E O). v.rises) s.views) ≤ now.faults
 
   -- before that: one seat, which finds the empty slot at home or has it in hand
   pub record Unmade (s : Table (Option M) (View E O)) : Type 0 where
     pub words : s.words ≡ 0 ∷ 1 ∷ []
-    pub stage : ((s.views ≡ fresh ∷ []) × (s.homes ≡ some None ∷ [])) ⊎ ((s.views ≡ making ∷ []) × (s.homes ≡ none ∷ []))
+    pub stage : ((s.views ≡ fresh ∷ []) × (s.homes ≡ some None ∷ []))
+        ⊎ ((s.views ≡ making ∷ []) × (s.homes ≡ none ∷ []))
 
   abbrev pub Kept : Table (Option M) (View E O) → Type 0
   Kept s = Unmade s ⊎ Running s

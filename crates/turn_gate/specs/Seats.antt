@@ -39,7 +39,8 @@ module _ {E O : Type 0} where
   -- the seats together have each part of the making
   abbrev pub HaveAll : List (Known E O) → Type 0
   HaveAll [] = ⊥
-  HaveAll (s ∷ ss) = IfSome s.view.fixed (λ f. (n : ℕ) → times n (numbers_of (parts_in (s ∷ ss))) ≡ times n f.all)
+  HaveAll (s ∷ ss) =
+      IfSome s.view.fixed (λ f. (n : ℕ) → times n (numbers_of (parts_in (s ∷ ss))) ≡ times n f.all)
 
   -- what each has seen is a beginning of the list
   abbrev pub AllSawBeginnings : List E → List (Known E O) → Type 0

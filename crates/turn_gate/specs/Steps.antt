@@ -32,7 +32,8 @@ module _ {E O : Type 0} where
   abbrev pub HasAll : View E O → Type 0
   HasAll v = IfSome v.fixed (λ f. (n : ℕ) → times n (numbers_of v.parts) ≡ times n f.all)
 
-  -- the machine has the fixed list of the making, and stands for its list and its pending entry from the opening of the making
+  -- the machine has the fixed list of the making, and stands for its list and its pending entry from
+  -- the opening of the making
   abbrev pub IsTrueTo : {M : Type 0} → (M → List ℕ) → (M → O → Type 0) → View E O → M → Type 0
   IsTrueTo fixed stands v it = IfSome v.fixed (λ f. (fixed it ≡ f.numbers) × stands it f.opening)
 
@@ -64,7 +65,8 @@ module _ {M E O : Type 0} (law : Meaning M E O) where
   asked m n after = MatchBool (n == 0) (HasMachine m.0 after) (after ≡ m)
 
   abbrev pub publishes : Option M → ℕ → Sat → ℕ → Sat → Type 0
-  publishes told rise m n after = IfSome told (λ it. after ≡ (published law.tells (law.account_of it) rise m.0, m.1))
+  publishes told rise m n after =
+      IfSome told (λ it. after ≡ (published law.tells (law.account_of it) rise m.0, m.1))
 
   abbrev pub gave : Sat → ℕ → Sat → Type 0
   gave m n after = after ≡ (at_rest m.0, [])
@@ -82,9 +84,10 @@ module _ {M E O : Type 0} (law : Meaning M E O) where
   abbrev pub polls : Sat → ℕ → Sat → Type 0
   polls m n after = Polled m.0 n after m.1
 
-  -- what two seats had seen begins what their one seat has seen, as far as it isn't longer
+  -- what this seat and those that it was made of have seen are beginnings of one list
   abbrev pub compares : Sat → ℕ → Sat → Type 0
-  compares m n after = (after ≡ (compared m.0, m.1)) × ((g : List E) × IsPrefix m.0.seen g × AllBegin g m.0.earlier)
+  compares m n after =
+      (after ≡ (compared m.0, m.1)) × ((g : List E) × IsPrefix m.0.seen g × AllBegin g m.0.earlier)
 
   -- the steps of the making
   abbrev pub takes_slot : Sat → ℕ → Sat → Type 0
