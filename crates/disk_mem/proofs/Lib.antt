@@ -1,0 +1,4 @@
+pub mod Content
+pub mod Steps
+pub mod Images
+pub mod History

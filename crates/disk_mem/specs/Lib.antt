@@ -1,0 +1,6 @@
+pub mod Pages
+pub mod Events
+pub mod Medium
+pub mod Strikes
+pub mod Obeys
+pub mod Laws

@@ -1,0 +1,15 @@
+//! A disk in memory that keeps the model, with the stops and failures of its plan.
+//!
+//! Layer: stands on `disk_core`; tests and programs hand it to the durable crates.
+//! Its one contract: [`MemDisk`] is a disk of the model, and a call of it fails just where its plan says so.
+#![tactic(auto)]
+
+mod event;
+mod medium;
+mod mem;
+mod page;
+mod pages;
+mod planned;
+mod strikes;
+
+pub use mem::MemDisk;

@@ -1,0 +1,147 @@
+// The disk in memory.
+ghost use Rattle.std.specs.Prelude.{◌≡◌, replicate, IfOk};
+ghost use Rattle.disk_core.specs.Images.{Only};
+ghost use Rattle.disk_core.specs.Plans.{no_faults};
+ghost use Rattle.disk_mem.specs.Obeys.{IsNew};
+
+use crate::medium::Medium;
+use crate::pages::Pages;
+use crate::strikes::Strikes;
+use disk_core::{Disk, FailKind, Failed, FaultPlan, OutOfMemory, ReadFail};
+use std::alloc::Global;
+
+/// A disk in memory. It keeps a record of its writes and syncs, from which its crash images follow,
+/// and has memory for the pages and pieces that were written.
+///
+/// A call fails just where the armed plan says so; after a stop every read, write and sync fails until `restart`.
+#[derive(Drop)]
+pub struct MemDisk {
+    alloc: Global,
+    medium: Medium,
+    strikes: Strikes,
+    faults: u64,
+}
+
+impl MemDisk {
+    /// A disk of `size` zeros.
+    pub fn new(alloc: Global, size: u64) -> Result<MemDisk, OutOfMemory>
+        ensures zeros { IfOk result (λ d. ⟦<MemDisk as Disk>⟧.seen d ≡ replicate size 0) }
+        ensures nothing_pending { IfOk result (λ d.
+            Only (⟦<MemDisk as Disk>⟧.seen d) (⟦<MemDisk as Disk>⟧.images d)) }
+        ensures no_plan { IfOk result (λ d. ⟦<MemDisk as Disk>⟧.armed d ≡ no_faults) }
+        ensures calm { IfOk result IsNew }
+    {
+        Ok(MemDisk {
+            alloc,
+            medium: Medium {
+                pages: Pages::new(alloc, size)?,
+                events: Vec::new(alloc),
+                pieces: Vec::new(alloc),
+                clean: true,
+                room_writes: 0,
+                room_bytes: 0,
+            },
+            strikes: Strikes {
+                plan: FaultPlan::none(alloc),
+                stopped: false,
+                reads: 0,
+                writes: 0,
+                syncs: 0,
+            },
+            faults: 0,
+        })
+    }
+}
+
+impl Disk for MemDisk {
+    ghost use Rattle.std.specs.Prelude.{length, [], ℕ};
+    ghost use Rattle.std.proofs.Common.{inl};
+    ghost use Rattle.disk_mem.specs.Medium.{images, left, room_of};
+    ghost use Rattle.disk_mem.specs.Events.{ranges_from};
+    ghost use Rattle.disk_mem.specs.Laws.{only_now, reads_as_image};
+    ghost use Rattle.disk_mem.specs.Obeys.{Obeys};
+
+    ghost seen = { λ d. d.medium.pages.bytes };
+
+    ghost images = { λ d. images d.medium };
+
+    ghost moment = { λ d. length d.medium.events.items };
+
+    ghost left_since = { λ d. left d.medium };
+
+    ghost fault_count = { λ d. d.faults };
+
+    ghost armed = { λ d. d.strikes.plan };
+
+    ghost room = { λ d. room_of d.medium };
+
+    ghost obeys = { Obeys };
+
+    fn size(&self) -> u64 {
+        self.medium.pages.size()
+    }
+
+    fn faults(&self) -> u64 {
+        self.faults
+    }
+
+    fn reserve(&mut self, writes: u32, bytes: u64) -> Result<(), OutOfMemory> {
+        self.medium.reserve(self.alloc, writes, bytes)
+    }
+
+    fn read(&mut self, at: u64, len: usize) -> Result<Vec<u8>, ReadFail> {
+        let fate = self.strikes.next_fate(FailKind::Read);
+        if fate.is_bad() {
+            self.faults = self.faults.saturating_add(1);
+            return Err(ReadFail::Failed);
+        }
+        Ok(self.medium.pages.read(self.alloc, at, len)?)
+    }
+
+    fn write(&mut self, at: u64, bytes: &[u8]) -> Result<(), Failed> {
+        let fate = self.strikes.next_fate(FailKind::Write);
+        self.medium.wrote(at, bytes, fate.kept(bytes.len()));
+        if fate.is_bad() {
+            self.faults = self.faults.saturating_add(1);
+            return Err(Failed);
+        }
+        Ok(())
+    }
+
+    fn sync(&mut self) -> Result<(), Failed> {
+        let fate = self.strikes.next_fate(FailKind::Sync);
+        if fate.is_bad() {
+            self.faults = self.faults.saturating_add(1);
+            return Err(Failed);
+        }
+        self.medium.synced();
+        Ok(())
+    }
+
+    fn restart(&mut self) -> Result<(), Failed> {
+        self.strikes.stopped = false;
+        self.medium.synced();
+        Ok(())
+    }
+
+    fn arm(&mut self, plan: &FaultPlan) -> Result<(), OutOfMemory> {
+        self.strikes = Strikes {
+            plan: plan.copy(self.alloc)?,
+            stopped: false,
+            reads: 0,
+            writes: 0,
+            syncs: 0,
+        };
+        Ok(())
+    }
+
+    ghost reads_as_image = { λ d. reads_as_image (ranges_from [] d.medium.events.items) d.medium.pages.bytes };
+
+    ghost image_size = { λ d c here. here.size };
+
+    ghost size_fits = { λ d. d.medium.small };
+
+    ghost counts_now = { λ d t c le here. inl here };
+
+    ghost only_now = { λ d c left. only_now (length d.medium.pages.bytes) d.medium.events.items d.medium.pages.bytes d.medium.pieces.items c left };
+}
