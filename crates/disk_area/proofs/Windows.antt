@@ -1,9 +1,9 @@
 -- What a step of the disk is within a window.
-use Rattle.std.proofs.Common.{◌≡◌, ℕ, ◌+◌, ◌-◌, ◌≤◌, List, ◌++◌, length, take, drop, refl, sym, ◌∙◌, ap, subst, arith, length-drop, take-append-drop}
+use Rattle.std.proofs.Common.{◌≡◌, ℕ, ◌+◌, ◌-◌, ◌≤◌, List, ◌++◌, length, take, drop, sym, ◌∙◌, ap, subst, arith, length-drop, take-append-drop}
 use Rattle.std.proofs.lemmas.List.{take-take, drop-take, drop-drop, drop_at, length-take-le}
 use Rattle.std.specs.List.{slice_range}
 use Rattle.disk_core.specs.Bytes.{put_at, Puts, Torn}
-use Rattle.disk_core.proofs.Pieces.{put_torn, put_back, put_take, range_take, torn_none}
+use Rattle.disk_core.proofs.Pieces.{put_torn, put_back, put_take, range_take}
 use Rattle.disk_area.specs.declared.area.Area.{Area}
 use Rattle.disk_area.specs.Windows.{window, IsInside, InArea}
 

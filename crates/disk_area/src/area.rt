@@ -82,8 +82,8 @@ impl Area {
         requires inside { IsInside self.now (D.seen disk.old) }
         requires range { at + length bytes.now ≤ self.now.len }
         requires room { HasRoom 1 (length bytes.now) (D.room disk.old) }
-        ensures written { OnOk result
-            (InArea self.now (Puts at bytes.now) (D.seen disk.old) (D.seen disk.new)) }
+        ensures written { OnOk result (EachImage (D.images disk.new)
+            (InArea self.now (Puts at bytes.now) (D.seen disk.old))) }
         ensures durable { OnOk result (Only (D.seen disk.new) (D.images disk.new)) }
 
         // A crash at any moment of the call leaves any bytes in the range, and no others elsewhere.

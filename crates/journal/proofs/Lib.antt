@@ -1,0 +1,4 @@
+pub mod Lists
+pub mod Appends
+pub mod Moments
+pub mod Firsts

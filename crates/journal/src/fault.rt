@@ -1,0 +1,39 @@
+// Why an append didn't succeed.
+ghost use Rattle.std.specs.Prelude.{◌≡◌};
+ghost use Rattle.journal.specs.declared.fault.JournalFault.TheVariants.{Failed as faulted, OutOfMemory as no_memory};
+
+use disk_core::{Failed, OutOfMemory};
+
+#[derive(Clone, Copy, Debug, PartialEq, Eq, Drop)]
+pub enum JournalFault {
+    /// The record doesn't fit into the area; nothing was written.
+    Full,
+    /// The disk failed; the list is as before or has the payload.
+    Failed,
+    /// Want of memory; nothing was written.
+    OutOfMemory,
+}
+
+impl From<OutOfMemory> for JournalFault {
+    ghost from_gives = { λ _ e. e ≡ no_memory };
+
+    fn from(_: OutOfMemory) -> Self {
+        JournalFault::OutOfMemory
+    }
+}
+
+impl From<wire::OutOfMemory> for JournalFault {
+    ghost from_gives = { λ _ e. e ≡ no_memory };
+
+    fn from(_: wire::OutOfMemory) -> Self {
+        JournalFault::OutOfMemory
+    }
+}
+
+impl From<Failed> for JournalFault {
+    ghost from_gives = { λ _ e. e ≡ faulted };
+
+    fn from(_: Failed) -> Self {
+        JournalFault::Failed
+    }
+}
