@@ -1,5 +1,5 @@
 -- What a step of the disk is within a window.
-use Rattle.std.proofs.Common.{◌≡◌, ℕ, ◌+◌, ◌-◌, ◌≤◌, List, ◌++◌, length, take, drop, sym, ◌∙◌, ap, subst, arith, length-drop, take-append-drop}
+use Rattle.std.proofs.Common.{◌≡◌, ◌⊎◌, inl, inr, ℕ, ◌+◌, ◌-◌, ◌≤◌, List, ◌++◌, length, take, drop, sym, ◌∙◌, ap, subst, arith, length-drop, take-append-drop}
 use Rattle.std.proofs.lemmas.List.{take-take, drop-take, drop-drop, drop_at, length-take-le}
 use Rattle.std.specs.List.{slice_range}
 use Rattle.disk_core.specs.Bytes.{put_at, Puts, Torn}
@@ -62,3 +62,17 @@ window_put area k piece old new fits inside is = record {
 
     behind : put_at (take area.at old ++ drop area.at old) (area.at + k) piece ≡ take area.at old ++ put_at (drop area.at old) k piece
     behind = put_back (take area.at old) (drop area.at old) (area.at + k) k piece (omega (arith, front))
+
+-- a window beside the one that changes
+pub window_apart : (area other : Area) (old new : List ℕ) → (other.at + other.len ≤ area.at) ⊎ (area.at + area.len ≤ other.at) → Torn area.at area.len old new → window other new ≡ window other old
+window_apart area other old new (inl before) torn = fronts new ∙ ap (λ (xs : List ℕ). drop other.at (take (other.at + other.len) xs)) torn.before ∙ sym (fronts old)
+  where
+    fronts : (xs : List ℕ) → window other xs ≡ drop other.at (take (other.at + other.len) (take area.at xs))
+    fronts xs = sym (ap (λ (ys : List ℕ). drop other.at ys) (take-take (other.at + other.len) area.at xs before) ∙ drop-take other.at other.len xs)
+window_apart area other old new (inr behind) torn = backs new ∙ ap (λ (xs : List ℕ). take other.len (drop (other.at - (area.at + area.len)) xs)) torn.after ∙ sym (backs old)
+  where
+    place : other.at ≡ area.at + area.len + (other.at - (area.at + area.len))
+    place = omega (arith, behind)
+
+    backs : (xs : List ℕ) → window other xs ≡ take other.len (drop (other.at - (area.at + area.len)) (drop (area.at + area.len) xs))
+    backs xs = ap (λ (n : ℕ). take other.len (drop n xs)) place ∙ ap (λ (ys : List ℕ). take other.len ys) (sym (drop-drop (other.at - (area.at + area.len)) (area.at + area.len) xs))

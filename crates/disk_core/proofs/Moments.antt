@@ -1,12 +1,16 @@
 -- How a run of calls goes on: what a crash at any of its moments may leave.
-use Rattle.std.proofs.Common.{inl, inr, ⊎_elim, ℕ, List, arith}
-use Rattle.disk_core.specs.Images.{EachImage}
+use Rattle.std.proofs.Common.{inl, inr, ⊎_elim, ℕ, List, sym, subst, arith}
+use Rattle.disk_core.specs.Images.{EachImage, Only}
 use Rattle.disk_core.specs.Moments.{Elapses, LeavesOnly}
 
 module _ {D : Type 0} (moment : D → ℕ) (left_since : D → ℕ → List ℕ → Type 0) where
   -- before the first call
   pub started : (old : D) (P : List ℕ → Type 0) → EachImage (left_since old (moment old)) P → LeavesOnly moment left_since old old P
   started old P here = record { later = omega arith; each = here; earlier = λ t c le left. inl left }
+
+  -- before the first call, where nothing is pending
+  pub settled : (old : D) (image : List ℕ) (images P : List ℕ → Type 0) → Only image images → EachImage (left_since old (moment old)) images → P image → LeavesOnly moment left_since old old P
+  settled old image images P only here p = started old P (λ c left. subst P (sym (only c (here c left))) p)
 
   -- one call of the disk more
   pub goes_on : (old mid new : D) (P images : List ℕ → Type 0) → LeavesOnly moment left_since old mid P → Elapses (moment mid) (moment new) (left_since mid) (left_since new) images

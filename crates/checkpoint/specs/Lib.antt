@@ -1,0 +1,4 @@
+pub mod Halves
+pub mod Counting
+pub mod Faults
+pub mod Quiet

@@ -1,0 +1,20 @@
+//! Checkpoints: two halves of a disk, of which one counts, and the switch from one to the other.
+//!
+//! Layer: stands on `disk_area` and `wire`; the stores of nodes and of the master stand on it.
+//! Its one contract: until `open_half` each crash image stands for the old state, within it for the old or the new.
+//!
+//! Half h begins at h * 2,097,152: a gate byte, open where it is 1; the generation in eight bytes; the state behind its
+//! length of four bytes, at most 131,072 bytes; zeros; and from 262,144 on the half's journal.
+#![tactic(auto)]
+
+mod fault;
+mod layout;
+mod open;
+mod read;
+mod writing;
+
+pub use fault::StoreFault;
+pub use layout::{HALF, JOURNAL_AT, STATE_MAX, journal_area};
+pub use open::open_half;
+pub use read::{HalfBytes, read_half};
+pub use writing::prepare;
