@@ -1,9 +1,9 @@
 -- Bodies that are written and read.
-use Rattle.std.proofs.Common.{◌≡◌, ℕ, suc, ◌+◌, ◌-◌, ◌<◌, ◌≤◌, ◌^◌, Bool, true, cond, eqb, leb, List, [], ◌∷◌, ◌++◌, length, take, drop, get_or, replicate, Option, Some, None, refl, sym, ◌∙◌, ap, subst, arith, append_assoc, length-append, length-drop, take-append-drop, w32, w64}
+use Rattle.std.proofs.Common.{◌≡◌, ℕ, ◌+◌, ◌-◌, ◌<◌, ◌≤◌, ◌^◌, cond, eqb, leb, List, ◌++◌, length, take, drop, get_or, replicate, Option, Some, None, refl, sym, ◌∙◌, ap, arith, append_assoc, length-append, take-append-drop, w32, w64}
 use Rattle.std.specs.Int.{to_be_bytes, from_be_bytes}
 use Rattle.std.specs.List.{slice_range}
 use Rattle.std.proofs.lemmas.Bool.{eq-eqb, cond-true, cond-false, le-leb, lt-leb}
-use Rattle.std.proofs.lemmas.List.{get_or_read, length-replicate, get_or-take, get_or-drop, get_or-append_right, get_or_append_left, get_or-replicate, take_at, take-take, drop-take, drop-drop, length-take-le}
+use Rattle.std.proofs.lemmas.List.{get_or_read, length-replicate, get_or-take, get_or-drop, get_or-append_right, get_or-replicate, take_at, take-take, drop-take, drop-drop, length-take-le}
 use Rattle.std.proofs.lemmas.Nat.{from_be_bytes-to_be_bytes_4, from_be_bytes-to_be_bytes_8}
 use Rattle.checkpoint.specs.Halves.{Body, body_of, read_of, padded}
 

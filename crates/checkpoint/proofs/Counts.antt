@@ -1,11 +1,10 @@
 -- Which half counts when one of them changes.
-use Rattle.std.proofs.Common.{◌≡◌, ◌≢◌, ◌⊎◌, inl, inr, ℕ, zero, suc, ◌+◌, ◌*◌, ◌-◌, ◌<◌, ◌≤◌, Bool, true, false, cond, ltb, List, Option, Some, None, refl, sym, ◌∙◌, ap, subst, arith}
+use Rattle.std.proofs.Common.{◌≡◌, ◌≢◌, ◌⊎◌, inl, inr, ℕ, zero, suc, ◌+◌, ◌*◌, ◌-◌, ◌<◌, ◌≤◌, ltb, List, Option, Some, None, refl, sym, ◌∙◌, ap, subst, arith}
 use Rattle.std.proofs.lemmas.Bool.{cases_Bool, cond-true, cond-false}
 use Rattle.std.proofs.lemmas.Bool.Decides.{nat_tests}
 use Rattle.std.specs.Option.{option_map, IfSome}
 use Rattle.disk_core.specs.Bytes.{Torn}
-use Rattle.disk_area.specs.declared.area.Area.{Area}
-use Rattle.disk_area.specs.Windows.{window, InArea}
+use Rattle.disk_area.specs.Windows.{window}
 use Rattle.disk_area.proofs.Windows.{window_apart}
 use Rattle.checkpoint.specs.Halves.{Body, head_area, half_of, read_of, stored_in}
 use Rattle.checkpoint.specs.Counting.{newest, current, IsSpare, IsNewer, IsAbove}

@@ -1,12 +1,10 @@
 -- What writes at the gate of a head, and behind it, do to what it reads as.
-use Rattle.std.proofs.Common.{◌≡◌, ◌≢◌, ◌⊎◌, inl, inr, ℕ, ◌+◌, ◌-◌, ◌<◌, ◌≤◌, ◌^◌, Bool, true, false, cond, eqb, List, [], ◌∷◌, ◌++◌, length, take, drop, get_or, replicate, Option, Some, None, refl, sym, ◌∙◌, ap, subst, arith, append_assoc, length-append, length-drop, w32, w64}
-use Rattle.std.specs.Int.{to_be_bytes, from_be_bytes}
-use Rattle.std.proofs.lemmas.Bool.{cases_eq, eq-eqb, ne_eqb, cond-true, cond-false, le-leb}
-use Rattle.std.proofs.lemmas.List.{get_or-take, take_at, drop_at, get_or_at, length-take-le, take-append-le}
-use Rattle.std.proofs.lemmas.Nat.{from_be_bytes-to_be_bytes_4, from_be_bytes-to_be_bytes_8}
-use Rattle.disk_core.specs.Bytes.{put_at, Puts, Torn}
+use Rattle.std.proofs.Common.{◌≡◌, ◌≢◌, ◌⊎◌, inl, inr, ℕ, ◌+◌, ◌<◌, ◌≤◌, eqb, List, [], ◌∷◌, ◌++◌, length, take, drop, get_or, None, refl, sym, ◌∙◌, ap, subst, arith, append_assoc}
+use Rattle.std.proofs.lemmas.Bool.{cases_eq, eq-eqb, ne_eqb, cond-true, cond-false}
+use Rattle.std.proofs.lemmas.List.{get_or-take, take_at, drop_at, length-take-le}
+use Rattle.disk_core.specs.Bytes.{Puts, Torn}
 use Rattle.disk_core.proofs.Pieces.{put_torn}
-use Rattle.checkpoint.specs.Halves.{Body, body_of, read_of, padded}
+use Rattle.checkpoint.specs.Halves.{body_of, read_of}
 use Rattle.checkpoint.specs.Quiet.{Quiet, Shut, Rewritten}
 
 -- behind a gate that isn't 1 a head reads as nothing

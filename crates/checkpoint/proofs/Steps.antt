@@ -1,6 +1,5 @@
 -- The moments of the calls on halves, from a disk with nothing pending.
-use Rattle.std.proofs.Common.{◌≡◌, ℕ, List, [], ◌∷◌, ◌≤◌, sym, subst, arith}
-use Rattle.disk_core.specs.Bytes.{Puts, Torn}
+use Rattle.std.proofs.Common.{ℕ, List, sym, subst}
 use Rattle.disk_core.specs.Images.{EachImage, Only, SameImages, From}
 use Rattle.disk_core.specs.Moments.{Elapses, LeavesOnly}
 use Rattle.disk_core.proofs.Moments.{settled, goes_on, joined}

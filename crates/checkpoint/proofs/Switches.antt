@@ -1,5 +1,5 @@
 -- From steps in a head to the half that counts.
-use Rattle.std.proofs.Common.{◌≡◌, ◌≢◌, ◌⊎◌, inl, inr, ℕ, ◌+◌, ◌*◌, ◌-◌, ◌<◌, ◌≤◌, ◌^◌, List, [], ◌∷◌, length, take, drop, get_or, Option, Some, None, sym, ◌∙◌, ap, subst, arith, lit<}
+use Rattle.std.proofs.Common.{◌≡◌, inl, inr, ℕ, ◌-◌, ◌<◌, ◌≤◌, ◌^◌, List, [], ◌∷◌, length, take, drop, get_or, Option, Some, sym, ◌∙◌, ap, subst, arith, lit<}
 use Rattle.disk_core.specs.Bytes.{Puts, Torn}
 use Rattle.disk_area.specs.declared.area.Area.{Area}
 use Rattle.disk_area.specs.Windows.{window, IsInside, InArea}

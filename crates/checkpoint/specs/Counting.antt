@@ -2,7 +2,7 @@
 use Rattle.std.specs.Prelude.{◌≡◌, ◌≢◌, ◌⊎◌, ℕ, ◌+◌, ◌*◌, ◌-◌, ◌<◌, ◌≤◌, nat_lt, if◌then◌else◌, List, length, slice_index, Option, Some, None, IfSome}
 use Rattle.std.specs.Option.{option_map}
 use Rattle.disk_core.specs.Bytes.{Torn}
-use Rattle.disk_area.specs.Windows.{window, InArea}
+use Rattle.disk_area.specs.Windows.{window}
 use Rattle.checkpoint.specs.Halves.{Body, head_area, half_of, stored_in}
 
 -- of two halves that read the one with the greater generation counts, of equal ones half 0

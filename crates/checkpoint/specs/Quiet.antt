@@ -1,6 +1,5 @@
 -- What the writes of `prepare` do to a head.
-use Rattle.std.specs.Prelude.{◌≡◌, ◌≢◌, ◌⊎◌, ℕ, ◌+◌, List, length, take, drop, slice_index, None}
-use Rattle.disk_core.specs.Bytes.{put_at}
+use Rattle.std.specs.Prelude.{◌≡◌, ◌≢◌, ◌⊎◌, ℕ, List, length, take, drop, slice_index, None}
 use Rattle.checkpoint.specs.Halves.{read_of}
 
 -- the head reads as before, or as nothing

@@ -1,10 +1,9 @@
-use Rattle.std.proofs.Common.{◌≡◌, ◌<◌, ◌≤◌, ℕ, List, [], ◌∷◌, length, inl, inr, refl, sym, ◌∙◌, ap, subst, arith}
+use Rattle.std.proofs.Common.{ℕ, List, [], ◌∷◌, inl, refl, subst}
 use Rattle.disk_core.specs.Bytes.{Puts, Torn}
 use Rattle.disk_core.proofs.Pieces.{torn_none}
 use Rattle.disk_area.specs.declared.area.Area.{Area}
 use Rattle.disk_area.specs.Windows.{InArea}
-use Rattle.checkpoint.specs.Halves.{head_area}
-use Rattle.checkpoint.specs.Counting.{Keeps, MayOpen}
+use Rattle.checkpoint.specs.Counting.{MayOpen}
 use Rattle.checkpoint.proofs.Steps.{unwritten, stepped}
 use Rattle.checkpoint.proofs.Switches.{may_open, opens}
 use Rattle.checkpoint.proofs.open.open_half.Goals as goal

@@ -1,11 +1,11 @@
-use Rattle.std.proofs.Common.{◌≡◌, ◌<◌, ◌≤◌, ◌+◌, ℕ, List, Option, None, length, drop, take, get_or, refl, sym, ◌∙◌, ap, subst, arith, lit<, lit≤}
+use Rattle.std.proofs.Common.{◌+◌, ℕ, List, sym, ◌∙◌, ap, lit<, lit≤}
 use Rattle.std.specs.List.{slice_range}
 use Rattle.disk_core.proofs.Moments.{started, goes_on}
 use Rattle.disk_area.specs.declared.area.Area.{Area}
 use Rattle.disk_area.specs.Windows.{window}
-use Rattle.checkpoint.specs.Halves.{Body, read_of, head_area}
+use Rattle.checkpoint.specs.Halves.{read_of}
 use Rattle.checkpoint.proofs.Gates.{shut_none}
-use Rattle.checkpoint.proofs.Bodies.{gate_of, too_long, read_body}
+use Rattle.checkpoint.proofs.Bodies.{too_long, read_body}
 use Rattle.checkpoint.proofs.Switches.{head_gate}
 use Rattle.checkpoint.proofs.read.read_half.Goals as goal
 

@@ -1,4 +1,4 @@
-use Rattle.std.proofs.Common.{◌≡◌, ◌≢◌, ◌<◌, ◌≤◌, ℕ, List, [], ◌∷◌, length, get_or, inl, refl, sym, ◌∙◌, ap, subst, arith}
+use Rattle.std.proofs.Common.{◌≡◌, ℕ, List, [], ◌∷◌, length, get_or, inl, refl, sym, ◌∙◌, subst, arith}
 use Rattle.disk_core.specs.Bytes.{Puts, Torn}
 use Rattle.disk_area.specs.Windows.{window, InArea}
 use Rattle.disk_area.proofs.Windows.{length-window}

@@ -1,15 +1,14 @@
-use Rattle.std.proofs.Common.{◌≡◌, ◌+◌, ◌<◌, ◌≤◌, ◌^◌, ℕ, List, length, refl, sym, ◌∙◌, ap, subst, arith, rules, inl}
+use Rattle.std.proofs.Common.{◌≡◌, ◌+◌, ◌≤◌, ℕ, List, length, refl, ◌∙◌, ap, subst, arith, rules}
 use Rattle.std.proofs.lemmas.Result.{on_ok_weaker}
 use Rattle.disk_core.proofs.Pieces.{torn_none}
 use Rattle.disk_core.proofs.Moments.{settled, joined}
 use Rattle.disk_area.specs.declared.area.Area.{Area}
-use Rattle.disk_area.specs.Windows.{IsInside, InArea}
-use Rattle.checkpoint.specs.Halves.{head_area, padded}
+use Rattle.disk_area.specs.Windows.{InArea}
 use Rattle.checkpoint.specs.Counting.{Keeps}
 use Rattle.checkpoint.specs.Quiet.{Quiet, Rewritten}
 use Rattle.checkpoint.proofs.Bodies.{length-padded}
 use Rattle.checkpoint.proofs.Steps.{unwritten}
-use Rattle.checkpoint.proofs.Switches.{keeps, stores, can_open, has_head}
+use Rattle.checkpoint.proofs.Switches.{keeps, stores, can_open}
 use Rattle.checkpoint.proofs.writing.prepare.Goals as goal
 
 fits_in : (len n : ℕ) → len ≡ 262145 → n ≡ 262144 → 1 + n ≤ len

@@ -1,4 +1,4 @@
-use Rattle.std.proofs.Common.{◌≡◌, ◌≢◌, ◌<◌, ◌≤◌, ℕ, List, [], ◌∷◌, length, get_or, inl, inr, refl, sym, ◌∙◌, ap, subst, arith}
+use Rattle.std.proofs.Common.{◌≡◌, ℕ, List, length, inr, subst, arith}
 use Rattle.disk_core.specs.Bytes.{Puts, Torn}
 use Rattle.disk_core.specs.Images.{From}
 use Rattle.disk_core.proofs.Moments.{joined}
