@@ -6,7 +6,7 @@ ghost use Rattle.disk_mem.specs.Obeys.{IsNew};
 
 use crate::medium::Medium;
 use crate::pages::Pages;
-use crate::strikes::Strikes;
+use crate::strikes::{Fate, Strikes};
 use disk_core::{Disk, FailKind, Failed, FaultPlan, OutOfMemory, ReadFail};
 use std::alloc::Global;
 
@@ -23,6 +23,9 @@ pub struct MemDisk {
 }
 
 impl MemDisk {
+    ghost use Rattle.std.specs.Prelude.{◌||◌, ◌≤◌, if◌then◌else◌};
+    ghost use Rattle.disk_mem.specs.Strikes.{fate_of, numbers_of, counted, is_stop, is_bad, next};
+
     /// A disk of `size` zeros.
     pub fn new(alloc: Global, size: u64) -> Result<MemDisk, OutOfMemory>
         ensures zeros { IfOk result (λ d. ⟦<MemDisk as Disk>⟧.seen d ≡ replicate size 0) }
@@ -50,6 +53,24 @@ impl MemDisk {
             },
             faults: 0,
         })
+    }
+
+    // What becomes of the next call of this kind. A failure is counted.
+    fn strike(&mut self, kind: FailKind) -> Fate
+        ensures fate { result ≡ fate_of kind self.old.strikes }
+        ensures stopped { self.new.strikes.stopped ≡ (self.old.strikes.stopped || is_stop result) }
+        ensures numbers { numbers_of self.new.strikes ≡ counted kind self.old.strikes }
+        ensures plan { self.new.strikes.plan ≡ self.old.strikes.plan }
+        ensures faults { self.new.faults
+            ≡ (if is_bad result then next self.old.faults else self.old.faults) }
+        ensures no_fewer { self.old.faults ≤ self.new.faults }
+        ensures medium { self.new.medium ≡ self.old.medium }
+    {
+        let fate = self.strikes.next_fate(kind);
+        if fate.is_bad() {
+            self.faults = self.faults.saturating_add(1);
+        }
+        fate
     }
 }
 
@@ -90,28 +111,23 @@ impl Disk for MemDisk {
     }
 
     fn read(&mut self, at: u64, len: usize) -> Result<Vec<u8>, ReadFail> {
-        let fate = self.strikes.next_fate(FailKind::Read);
-        if fate.is_bad() {
-            self.faults = self.faults.saturating_add(1);
+        if self.strike(FailKind::Read).is_bad() {
             return Err(ReadFail::Failed);
         }
         Ok(self.medium.pages.read(self.alloc, at, len)?)
     }
 
     fn write(&mut self, at: u64, bytes: &[u8]) -> Result<(), Failed> {
-        let fate = self.strikes.next_fate(FailKind::Write);
+        let fate = self.strike(FailKind::Write);
         self.medium.wrote(at, bytes, fate.kept(bytes.len()));
         if fate.is_bad() {
-            self.faults = self.faults.saturating_add(1);
             return Err(Failed);
         }
         Ok(())
     }
 
     fn sync(&mut self) -> Result<(), Failed> {
-        let fate = self.strikes.next_fate(FailKind::Sync);
-        if fate.is_bad() {
-            self.faults = self.faults.saturating_add(1);
+        if self.strike(FailKind::Sync).is_bad() {
             return Err(Failed);
         }
         self.medium.synced();

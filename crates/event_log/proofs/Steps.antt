@@ -1,13 +1,11 @@
 -- From what the journal says of an append to a run of events.
-use Rattle.std.proofs.Common.{◌≡◌, ◌⊎◌, inl, inr, ⊎_elim, ℕ, ◌+◌, ◌<◌, ◌≤◌, List, [], ◌∷◌, ◌++◌, length, take, sym, ◌∙◌, ap, subst, arith, append_assoc}
-use Rattle.std.proofs.lemmas.Bool.{cases_lt}
+use Rattle.std.proofs.Common.{◌≡◌, inl, inr, ⊎_elim, ℕ, ◌+◌, ◌≤◌, List, [], ◌∷◌, ◌++◌, length, take, sym, ◌∙◌, ap, subst, arith, append_assoc}
 use Rattle.disk_core.specs.Images.{EachImage, From}
 use Rattle.disk_core.specs.Moments.{LeavesOnly}
 use Rattle.disk_core.proofs.Moments.{weaker, joined}
 use Rattle.disk_area.specs.declared.area.Area.{Area}
-use Rattle.disk_area.specs.Windows.{window, InArea}
-use Rattle.journal.specs.Records.{journal_list}
-use Rattle.journal.specs.Ready.{IsReady, Grows, MayGrow}
+use Rattle.disk_area.specs.Windows.{InArea}
+use Rattle.journal.specs.Ready.{Grows, MayGrow}
 use Rattle.event_log.specs.Log.{Holds, BeforeOrWith}
 use Rattle.event_log.specs.Runs.{HoldsFirst, Acknowledges}
 

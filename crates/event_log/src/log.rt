@@ -95,6 +95,8 @@ impl<D: Disk> EventLog<D> {
             self.old.disk self.new.disk k }
         ensures cause { IsErrOf result.1 JournalFault.Failed
             → HasRisen (D.fault_count self.old.disk) (D.fault_count self.new.disk) }
+        ensures faults { D.fault_count self.old.disk ≤ D.fault_count self.new.disk }
+        ensures plan { D.armed self.new.disk ≡ D.armed self.old.disk }
     {
         for (done, event) in events.iter().enumerate() {
             let event = event.as_slice();

@@ -1,6 +1,6 @@
-use Rattle.std.proofs.Common.{◌≡◌, ◌+◌, ◌-◌, ◌^◌, ◌≤◌, ◌<◌, ℕ, List, [], ◌∷◌, ◌++◌, take, length, get_or, refl, sym, ◌∙◌, ap, subst, arith, ⊎_elim, min}
+use Rattle.std.proofs.Common.{◌≡◌, ◌+◌, ◌<◌, ℕ, List, [], ◌∷◌, ◌++◌, take, length, get_or, refl, sym, ◌∙◌, ap, subst, arith, ⊎_elim}
 use Rattle.std.proofs.lemmas.Bool.{cases_lt}
-use Rattle.std.proofs.lemmas.List.{append-nil, take_more, take_all, get_or_default}
+use Rattle.std.proofs.lemmas.List.{append-nil, take_more, get_or_default}
 use Rattle.disk_core.specs.Images.{EachImage, From}
 use Rattle.disk_core.specs.Moments.{LeavesOnly}
 use Rattle.disk_core.proofs.Moments.{started, weaker}
@@ -8,7 +8,7 @@ use Rattle.disk_area.specs.declared.area.Area.{Area}
 use Rattle.disk_area.specs.Windows.{InArea}
 use Rattle.journal.specs.Ready.{IsReady, Grows, MayGrow}
 use Rattle.event_log.specs.Log.{Holds}
-use Rattle.event_log.specs.Runs.{HoldsFirst, Acknowledges}
+use Rattle.event_log.specs.Runs.{Acknowledges}
 use Rattle.event_log.proofs.Steps.{just, wider, held_next, first_or_next, run_on, still, marked, wider_mark}
 use Rattle.event_log.proofs.log.EventLog.record_all.Goals as goal
 
@@ -29,6 +29,7 @@ loop-done-init g c =
       acknowledged = λ k le. subst (λ (n : ℕ). Acknowledges d.moment d.left_since log.journal.area g.before c.args.events.now 0 log.disk log.disk n) (omega (arith, le))
           (marked log.journal.area g.before c.args.events.now d.moment d.left_since d.images log.disk log.disk log.journal.used 0 (omega arith) (g.met.D.Disk.only_now log.disk) held);
       faults = omega arith;
+      plan = refl;
     }
 
 pub append-requires : goal.append-requires
@@ -65,9 +66,10 @@ loop-done-preserved g c =
       acknowledged = λ k le. ⊎_elim
           (λ lt. still area g.before events used done event next d.moment d.left_since d.images start.disk log.disk c.append.new.disk inv.open_now more k (omega (arith, lt)) (inv.acknowledged k (omega (arith, lt))))
           (λ ge. subst (λ (n : ℕ). Acknowledges d.moment d.left_since area g.before events (done + 1) start.disk c.append.new.disk n) (omega (arith, le, ge))
-              (marked area g.before events d.moment d.left_since d.images start.disk c.append.new.disk c.append.new.self.used (done + 1) (omega (arith, inv.run.later, more.later)) (g.met.D.Disk.only_now c.append.new.disk) held))
+          (marked area g.before events d.moment d.left_since d.images start.disk c.append.new.disk c.append.new.self.used (done + 1) (omega (arith, inv.run.later, more.later)) (g.met.D.Disk.only_now c.append.new.disk) held))
           (cases_lt k (done + 1));
       faults = omega (arith, inv.faults, c.append.ensures.faults);
+      plan = c.append.ensures.plan ∙ inv.plan;
     }
 
 pub returns-in-Err-clause-now : goal.returns-in-Err-clause-now

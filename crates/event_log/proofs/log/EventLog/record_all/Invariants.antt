@@ -12,4 +12,5 @@ invariant-loop-done g l = record {
   run : LeavesOnly g.D.Disk.moment g.D.Disk.left_since l.fn.self.disk l.self.disk (HoldsFirst l.fn.self.journal.area g.before l.events 0 l.done);
   acknowledged : (k : ℕ) → k ≤ l.done → Acknowledges g.D.Disk.moment g.D.Disk.left_since l.fn.self.journal.area g.before l.events l.done l.fn.self.disk l.self.disk k;
   faults : g.D.Disk.fault_count l.fn.self.disk ≤ g.D.Disk.fault_count l.self.disk;
+  plan : g.D.Disk.armed l.self.disk ≡ g.D.Disk.armed l.fn.self.disk;
 }
