@@ -1,0 +1,13 @@
+//! Rows over a disk in memory: appends and switches that are stopped, or fail, at each of their calls.
+//!
+//! Layer: at the top of the disks; it has no contract for others, and its tests are the tables.
+#![tactic(auto)]
+
+mod switches;
+mod tries;
+
+pub use switches::{Switched, blank, try_switch};
+pub use tries::{Tried, TryFault, fresh, try_append};
+
+#[cfg(test)]
+mod rows;

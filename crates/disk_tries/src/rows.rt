@@ -1,0 +1,132 @@
+// The tables. A record takes five bytes and its payload, and one byte must remain for the next gate.
+use crate::{try_append, try_switch};
+use disk_core::{FailKind, Fails, FaultPlan, Stops};
+use journal::JournalFault;
+use std::test::Fail;
+
+/// An area of 64 bytes takes 20 bytes and then 33, and refuses an empty payload; one of 63 bytes refuses the 33.
+#[test]
+fn an_area_takes_what_fits(rt: HostRuntime) -> Result<(), Fail> {
+    let alloc = rt.alloc();
+    let plan = FaultPlan::none(alloc);
+    let both = try_append(alloc, 64, &plan, &[7; 20], &[8; 33]).map_err(|_| "no try")?;
+    assert!(rt; matches!(both.ended, Ok(())));
+    assert!(rt; both.records.len() == 2);
+    assert!(rt; both.records.taken() == 63);
+    let tight = try_append(alloc, 63, &plan, &[7; 20], &[8; 33]).map_err(|_| "no try")?;
+    assert!(rt; matches!(tight.ended, Err(JournalFault::Full)));
+    assert!(rt; tight.records.len() == 1);
+    let full = try_append(alloc, 64, &plan, &[7; 58], &[]).map_err(|_| "no try")?;
+    assert!(rt; matches!(full.ended, Err(JournalFault::Full)));
+    Ok(())
+}
+
+/// Stopped at its first write, whatever it keeps, an append leaves the list; at its second it adds the record just
+/// where the gate byte is kept.
+#[test]
+fn a_stop_leaves_the_list_before_or_with(rt: HostRuntime) -> Result<(), Fail> {
+    let alloc = rt.alloc();
+    for keep in 0..=40 {
+        let plan = FaultPlan {
+            stops: Stops::of(vec![in alloc; (1u64, keep)].map_err(|_| "memory")?),
+            fails: Fails::of(Vec::new(alloc)),
+        };
+        let tried = try_append(alloc, 64, &plan, &[7; 20], &[8; 33]).map_err(|_| "no try")?;
+        assert!(rt; matches!(tried.ended, Err(JournalFault::Failed)));
+        assert!(rt; tried.faults == 1);
+        assert!(rt; tried.records.len() == 1);
+    }
+    for (keep, records) in [(0u64, 1usize), (1, 2), (2, 2)] {
+        let plan = FaultPlan {
+            stops: Stops::of(vec![in alloc; (2u64, keep)].map_err(|_| "memory")?),
+            fails: Fails::of(Vec::new(alloc)),
+        };
+        let tried = try_append(alloc, 64, &plan, &[7; 20], &[8; 33]).map_err(|_| "no try")?;
+        assert!(rt; matches!(tried.ended, Err(JournalFault::Failed)));
+        assert!(rt; tried.records.len() == records);
+    }
+    Ok(())
+}
+
+/// A write or a sync that fails leaves the list before the append, or with its record.
+#[test]
+fn a_failure_leaves_the_list_before_or_with(rt: HostRuntime) -> Result<(), Fail> {
+    let alloc = rt.alloc();
+    let rows = [
+        (FailKind::Write, 1u64, 1usize),
+        (FailKind::Sync, 1, 1),
+        (FailKind::Write, 2, 1),
+        (FailKind::Sync, 2, 2),
+    ];
+    for (kind, number, records) in rows {
+        let plan = FaultPlan {
+            stops: Stops::of(Vec::new(alloc)),
+            fails: Fails::of(vec![in alloc; (kind, number)].map_err(|_| "memory")?),
+        };
+        let tried = try_append(alloc, 64, &plan, &[7; 20], &[8; 33]).map_err(|_| "no try")?;
+        assert!(rt; matches!(tried.ended, Err(JournalFault::Failed)));
+        assert!(rt; tried.faults == 1);
+        assert!(rt; tried.records.len() == records);
+    }
+    Ok(())
+}
+
+/// An append makes two writes, two syncs and no read, and a list one read: a third or a second one isn't there to fail.
+#[test]
+fn an_append_makes_four_calls(rt: HostRuntime) -> Result<(), Fail> {
+    let alloc = rt.alloc();
+    for (kind, number) in [
+        (FailKind::Write, 3u64),
+        (FailKind::Sync, 3),
+        (FailKind::Read, 2),
+    ] {
+        let plan = FaultPlan {
+            stops: Stops::of(Vec::new(alloc)),
+            fails: Fails::of(vec![in alloc; (kind, number)].map_err(|_| "memory")?),
+        };
+        let tried = try_append(alloc, 64, &plan, &[7; 20], &[8; 33]).map_err(|_| "no try")?;
+        assert!(rt; matches!(tried.ended, Ok(())));
+        assert!(rt; tried.faults == 0);
+        assert!(rt; tried.records.len() == 2);
+    }
+    Ok(())
+}
+
+/// A switch to half 0 that is stopped, or fails, at each of its calls leaves no half, or the new one; whole, it makes
+/// one read, two writes and two syncs.
+#[test]
+fn a_switch_leaves_the_old_state_or_the_new(rt: HostRuntime) -> Result<(), Fail> {
+    let alloc = rt.alloc();
+    for (write, keep, reads) in [
+        (1u64, 0u64, false),
+        (1, 1, false),
+        (1, 300_000, false),
+        (2, 0, false),
+        (2, 1, true),
+        (3, 0, true),
+    ] {
+        let plan = FaultPlan {
+            stops: Stops::of(vec![in alloc; (write, keep)].map_err(|_| "memory")?),
+            fails: Fails::of(Vec::new(alloc)),
+        };
+        let tried = try_switch(alloc, 2_097_152, &plan, b"state").map_err(|_| "no try")?;
+        assert!(rt; tried.half.is_some() == reads);
+        assert!(rt; tried.faults == u64::from(write < 3));
+    }
+    for (kind, number, reads) in [
+        (FailKind::Read, 1u64, false),
+        (FailKind::Write, 1, false),
+        (FailKind::Sync, 1, false),
+        (FailKind::Write, 2, false),
+        (FailKind::Sync, 2, true),
+        (FailKind::Sync, 3, true),
+    ] {
+        let plan = FaultPlan {
+            stops: Stops::of(Vec::new(alloc)),
+            fails: Fails::of(vec![in alloc; (kind, number)].map_err(|_| "memory")?),
+        };
+        let tried = try_switch(alloc, 2_097_152, &plan, b"state").map_err(|_| "no try")?;
+        assert!(rt; tried.half.is_some() == reads);
+    }
+    Ok(())
+}

@@ -1,0 +1,84 @@
+// A journal on a fresh disk, and an append under a plan.
+ghost use Rattle.std.specs.Prelude.{◌≡◌, ◌≤◌, ◌<◌, ◌^◌, length, IfOk};
+ghost use Rattle.disk_core.specs.Images.{EachImage};
+ghost use Rattle.disk_core.specs.Plans.{no_faults};
+ghost use Rattle.journal.specs.Ready.{IsReady};
+
+use disk_area::Area;
+use disk_core::{Disk, FaultPlan, OutOfMemory, ReadFail};
+use disk_mem::MemDisk;
+use journal::{Journal, JournalFault, Records, list};
+use std::alloc::Global;
+
+/// Why nothing was tried.
+#[derive(Clone, Copy, Debug, PartialEq, Eq, Drop)]
+pub enum TryFault {
+    Memory,
+    /// The append before the plan was armed didn't succeed.
+    Before(JournalFault),
+    /// The list wasn't read again.
+    Read(ReadFail),
+    /// The disk didn't restart.
+    Restart,
+}
+
+impl From<OutOfMemory> for TryFault {
+    fn from(_: OutOfMemory) -> Self {
+        TryFault::Memory
+    }
+}
+
+/// How an append ended, what was read after a restart, and how often the disk had failed.
+#[derive(Drop)]
+pub struct Tried {
+    pub ended: Result<(), JournalFault>,
+    pub records: Records,
+    pub faults: u64,
+}
+
+/// A disk of `size` zeros with a fresh journal on its first `len` bytes.
+pub fn fresh(alloc: Global, size: u64, len: u64) -> Result<(MemDisk, Journal), OutOfMemory>
+    requires some { 0 < len }
+    requires inside { len ≤ size }
+    ensures ready { IfOk result (λ made. EachImage (⟦<MemDisk as Disk>⟧.images made.0)
+        (IsReady made.1.area made.1.used)) }
+    ensures area { IfOk result (λ made. (made.1.area.at ≡ 0) × (made.1.area.len ≡ len)) }
+    ensures size { IfOk result (λ made. length (⟦<MemDisk as Disk>⟧.seen made.0) ≡ size) }
+    ensures unarmed { IfOk result (λ made. ⟦<MemDisk as Disk>⟧.armed made.0 ≡ no_faults) }
+{
+    let disk = MemDisk::new(alloc, size)?;
+    Ok((disk, Journal::fresh(Area::of(0, len))))
+}
+
+/// Appends the first payload, arms the plan, appends the second one, restarts and reads the list again.
+pub fn try_append(
+    alloc: Global,
+    len: u64,
+    plan: &FaultPlan,
+    first: &[u8],
+    second: &[u8],
+) -> Result<Tried, TryFault>
+    requires some { 0 < len }
+    requires first_short { length first.now < 2 ^ 32 }
+    requires second_short { length second.now < 2 ^ 32 }
+{
+    let (mut disk, mut journal) = fresh(alloc, len, len)?;
+    let area = journal.area;
+    if let Err(fault) = journal.append(alloc, &mut disk, first) {
+        return Err(TryFault::Before(fault));
+    }
+    disk.arm(plan)?;
+    let ended = journal.append(alloc, &mut disk, second);
+    let faults = disk.faults();
+    if let Err(_) = disk.restart() {
+        return Err(TryFault::Restart);
+    }
+    match list(alloc, &mut disk, area) {
+        Ok(records) => Ok(Tried {
+            ended,
+            records,
+            faults,
+        }),
+        Err(fault) => Err(TryFault::Read(fault)),
+    }
+}
