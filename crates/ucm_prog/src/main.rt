@@ -12,13 +12,22 @@ mod status;
 #[cfg(test)]
 mod tests;
 
+use disk_core::OutOfMemory;
+use disk_mem::MemDisk;
 use status::ExitStatus;
 use std::alloc::{AllocError, Global};
 use std::env;
 use std::io::{self, ErrorKind};
 use std::process::ExitCode;
 use std::rt::Env;
+use ucm_base::limits::NODE_LIMIT;
 use ucm_ports::{StdSink, StdSource};
+
+/// The bytes of a node's disk.
+const NODE_DISK: u64 = 46_137_344;
+
+/// The bytes of the master's disk.
+const MASTER_DISK: u64 = 4_194_304;
 
 /// The program's words, or why they can't be had.
 fn words<R: Env + Alloc<A = Global>>(rt: &R) -> io::Result<Vec<String>> {
@@ -29,14 +38,30 @@ fn words<R: Env + Alloc<A = Global>>(rt: &R) -> io::Result<Vec<String>> {
     Ok(words)
 }
 
+/// The master's disk and those of eight nodes, each of zeros.
+fn disks(alloc: Global) -> Result<Vec<MemDisk>, OutOfMemory> {
+    let mut disks = Vec::new(alloc);
+    for node in 0..=NODE_LIMIT {
+        let size = if node == 0 { MASTER_DISK } else { NODE_DISK };
+        let disk = MemDisk::new(alloc, size)?;
+        if disks.push(disk).is_err() {
+            return Err(OutOfMemory);
+        }
+    }
+    Ok(disks)
+}
+
 fn main(rt: HostRuntime) -> ExitCode {
     let alloc = rt.alloc();
     let mut source = StdSource::new(rt.stdin());
     let mut sink = StdSink::new(rt.stdout());
-    let status = match words(&rt) {
-        Ok(words) => plain::ucm_plain(alloc, words.as_slice(), &mut source, &mut sink),
-        Err(e) if e.kind() == ErrorKind::OutOfMemory => ExitStatus::OutOfMemory,
-        Err(_) => plain::ucm_plain(alloc, &[], &mut source, &mut sink),
+    let Ok(disks) = disks(alloc) else {
+        return ExitCode::from(ExitStatus::OutOfMemory as u8);
+    };
+    let (status, _) = match words(&rt) {
+        Ok(words) => plain::ucm_plain(alloc, words.as_slice(), &mut source, &mut sink, disks),
+        Err(e) if e.kind() == ErrorKind::OutOfMemory => (ExitStatus::OutOfMemory, disks),
+        Err(_) => plain::ucm_plain(alloc, &[], &mut source, &mut sink, disks),
     };
     ExitCode::from(status as u8)
 }

@@ -7,6 +7,7 @@ ghost use Rattle.ucm_prog.specs.Replay.{IsOutput, output_of, too_long_output};
 
 use crate::replay::{Output, replay};
 use crate::status::ExitStatus;
+use disk_core::Disk;
 use std::alloc::{AllocError, Global};
 use ucm_base::limits::INPUT_LIMIT;
 use ucm_ports::{ReadFault, Sink, Source, put_all, read_all};
@@ -16,8 +17,32 @@ const USAGE: &str =
 
 /// Carries out a command that never waits; so far `replay` alone.
 ///
-/// It reads the whole source, of at most 67,108,864 bytes, and writes the command's output to the sink.
-pub fn ucm_plain<S: Source, K: Sink>(
+/// It reads the whole source, of at most 67,108,864 bytes, and writes the command's output to the sink. It hands the
+/// disks back, of which no command makes a call so far.
+pub fn ucm_plain<S: Source, K: Sink, D: Disk>(
+    alloc: Global,
+    words: &[String],
+    source: &mut S,
+    sink: &mut K,
+    disks: Vec<D>,
+) -> (ExitStatus, Vec<D>)
+    ensures usage { (result.0 ≡ ExitStatus.Usage) ↔ (is_replay (map string_bytes words.now) ≡ false) }
+    ensures usage_reads_nothing { result.0 ≡ ExitStatus.Usage → source.new ≡ source.old }
+    ensures usage_is_written { result.0 ≡ ExitStatus.Usage → IsWritten (K.written sink.old) (K.written sink.new) usage_line (K.fault_count sink.old) (K.fault_count sink.new) }
+    ensures output { IsEnded result.0 → IfSome (S.left source.old) (λ input. (result.0 ≡ (output_of input).status) × Puts (K.written sink.old) (K.written sink.new) (output_of input).text) }
+    ensures read_fault { result.0 ≡ ExitStatus.ReadFault → HasRisen (S.fault_count source.old) (S.fault_count source.new) }
+    ensures read_fault_writes_nothing { result.0 ≡ ExitStatus.ReadFault → sink.new ≡ sink.old }
+    ensures write_fault { result.0 ≡ ExitStatus.WriteFault → HasRisen (K.fault_count sink.old) (K.fault_count sink.new) }
+    ensures write_fault_leaves_a_prefix { result.0 ≡ ExitStatus.WriteFault → IfSome (S.left source.old) (λ input. PutsPrefix (K.written sink.old) (K.written sink.new) (output_of input).text) }
+    ensures out_of_memory_writes_nothing { result.0 ≡ ExitStatus.OutOfMemory → sink.new ≡ sink.old }
+    ensures served { IsPlain result.0 }
+    ensures disks { result.1 ≡ disks }
+{
+    let status = carry_out(alloc, words, source, sink);
+    (status, disks)
+}
+
+fn carry_out<S: Source, K: Sink>(
     alloc: Global,
     words: &[String],
     source: &mut S,

@@ -1,6 +1,7 @@
 //! Scripts and what they print, and the faults of a source and a sink.
 use crate::plain::ucm_plain;
 use crate::status::ExitStatus;
+use disk_mem::MemDisk;
 use std::alloc::{AllocError, Global};
 use std::test::Fail;
 use ucm_ports::{Fails, MemSink, MemSource};
@@ -20,7 +21,8 @@ fn outcome(
         Fails::of(Vec::from_slice(alloc, takes)?),
     );
     let mut sink = MemSink::new(alloc, Fails::of(Vec::from_slice(alloc, puts)?));
-    let status = ucm_plain(alloc, words.as_slice(), &mut source, &mut sink);
+    let disks: Vec<MemDisk> = Vec::new(alloc);
+    let (status, _) = ucm_plain(alloc, words.as_slice(), &mut source, &mut sink, disks);
     Ok((status, Vec::from_slice(alloc, sink.as_slice())?))
 }
 
