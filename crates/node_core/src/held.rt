@@ -26,7 +26,8 @@ impl Model for Held {
       past = drop h.header.received h.bytes.items;
     } };
 
-    ghost invariant = { λ h. (h.header.received ≤ length h.bytes.items) × (h.header.next_counter ≤ h.header.received + 1) };
+    ghost invariant = { λ h. (h.header.received ≤ length h.bytes.items) ×
+        (h.header.next_counter ≤ h.header.received + 1) };
 }
 
 impl Held {
@@ -74,7 +75,8 @@ impl Held {
     /// Stages a block where this is the transfer of the id.
     pub(crate) fn stage_for(&mut self, id: u32, block: &[u8]) -> Result<(), AllocError>
         ensures same { self.new.transfer ≡ self.old.transfer }
-        ensures staged { OnOk result (self.new.transfer.header.id ≡ id → self.new.past ≡ block.now) }
+        ensures staged { OnOk result (self.new.transfer.header.id ≡ id
+            → self.new.past ≡ block.now) }
     {
         if !self.has_id(id) {
             return Ok(());

@@ -93,7 +93,8 @@ impl Core {
         })
     }
 
-    /// Takes all memory that the call needs, and stages a block that the table accepts. The node stays as it is.
+    /// Takes all memory that the call needs, and stages a block that the table accepts. The node
+    /// stays as it is.
     pub fn reserve(&mut self, client: ClientId, no: CallNo, call: &Call) -> Result<(), Hold>
         ensures node { node_of self.new ≡ node_of self.old }
         ensures reserved { OnOk result (IsReserved self.new client no call.now) }
@@ -125,7 +126,8 @@ impl Core {
         block: &[u8],
     ) -> Result<(), AllocError>
         ensures node { node_of self.new ≡ node_of self.old }
-        ensures ready { OnOk result (IsReady self.new client (Call.TransferData id counter block.now)) }
+        ensures ready { OnOk result (IsReady self.new client
+            (Call.TransferData id counter block.now)) }
     {
         let found = self.transfers.find(client, id);
         match data_refusal(found, counter, block.len() as u64) {
@@ -167,7 +169,8 @@ impl Core {
         requires ready { IsReady self.old client call.now }
         requires entries { self.old.entries < entry_limit }
         ensures reply { result ≡ reply_to (node_of self.old) client call.now (Ok []) }
-        ensures node { node_of self.new ≡ after_call (node_of self.old) client no call.now (Ok []) result }
+        ensures node { node_of self.new
+            ≡ after_call (node_of self.old) client no call.now (Ok []) result }
         ensures entries { self.new.entries ≡ self.old.entries + 1 }
     {
         let reply = self.judge(client, call);
@@ -178,7 +181,9 @@ impl Core {
 
     fn keep(&mut self, client: ClientId, no: CallNo, call: CallName, reply: &Reply)
         requires { self.old.entries < entry_limit }
-        ensures node { node_of self.new ≡ with_entry (Happened.Numbered client no call (reply_code reply.now)) (with_kept client no reply.now (node_of self.old)) }
+        ensures node { node_of self.new
+            ≡ with_entry (Happened.Numbered client no call (reply_code reply.now))
+            (with_kept client no reply.now (node_of self.old)) }
         ensures entries { self.new.entries ≡ self.old.entries + 1 }
     {
         self.last[client.number() as usize] = Some(Kept { no, reply: *reply });
@@ -197,7 +202,8 @@ impl Core {
         requires served { is_served call.now ≡ true }
         requires ready { IsReady self.old client call.now }
         ensures reply { result ≡ reply_to (node_of self.old) client call.now (Ok []) }
-        ensures node { node_of self.new ≡ after_reply (node_of self.old) client call.now (Ok []) result }
+        ensures node { node_of self.new
+            ≡ after_reply (node_of self.old) client call.now (Ok []) result }
         ensures entries { self.new.entries ≡ self.old.entries }
     {
         match call {
@@ -222,8 +228,10 @@ impl Core {
     }
 
     fn start(&mut self, client: ClientId, size: u64) -> Reply
-        ensures reply { result ≡ reply_to (node_of self.old) client (Call.TransferStart size) (Ok []) }
-        ensures node { node_of self.new ≡ after_reply (node_of self.old) client (Call.TransferStart size) (Ok []) result }
+        ensures reply { result ≡ reply_to (node_of self.old) client (Call.TransferStart size)
+            (Ok []) }
+        ensures node { node_of self.new
+            ≡ after_reply (node_of self.old) client (Call.TransferStart size) (Ok []) result }
         ensures entries { self.new.entries ≡ self.old.entries }
     {
         if let Some(refusal) = start_refusal(self.next_id, self.transfers.count(), size) {
@@ -237,8 +245,11 @@ impl Core {
 
     fn block(&mut self, client: ClientId, id: u32, counter: u64, block: &[u8]) -> Reply
         requires { IsReady self.old client (Call.TransferData id counter block.now) }
-        ensures reply { result ≡ reply_to (node_of self.old) client (Call.TransferData id counter block.now) (Ok []) }
-        ensures node { node_of self.new ≡ after_reply (node_of self.old) client (Call.TransferData id counter block.now) (Ok []) result }
+        ensures reply { result ≡ reply_to (node_of self.old) client
+            (Call.TransferData id counter block.now) (Ok []) }
+        ensures node { node_of self.new
+            ≡ after_reply (node_of self.old) client (Call.TransferData id counter block.now)
+            (Ok []) result }
         ensures entries { self.new.entries ≡ self.old.entries }
     {
         let found = self.transfers.find(client, id);
@@ -250,8 +261,10 @@ impl Core {
     }
 
     fn delete(&mut self, client: ClientId, id: u32) -> Reply
-        ensures reply { result ≡ reply_to (node_of self.old) client (Call.DeleteTransfer id) (Ok []) }
-        ensures node { node_of self.new ≡ after_reply (node_of self.old) client (Call.DeleteTransfer id) (Ok []) result }
+        ensures reply { result ≡ reply_to (node_of self.old) client (Call.DeleteTransfer id)
+            (Ok []) }
+        ensures node { node_of self.new
+            ≡ after_reply (node_of self.old) client (Call.DeleteTransfer id) (Ok []) result }
         ensures entries { self.new.entries ≡ self.old.entries }
     {
         if let Some(refusal) = delete_refusal(self.transfers.find(client, id)) {

@@ -10,7 +10,8 @@ use std::alloc::{AllocError, Global};
 use std::marker::Model;
 use ucm_base::ClientId;
 
-/// At most eight transfers with their bytes, by rising ids, seen as their list. It has room for them from its making.
+/// At most eight transfers with their bytes, by rising ids, seen as their list. It has room for
+/// them from its making.
 #[derive(Drop)]
 pub(crate) struct Transfers {
     held: Vec<Held>,
@@ -46,14 +47,16 @@ impl Transfers {
 
     /// The client's transfer of this id, as the table reads it.
     pub(crate) fn find(&self, client: ClientId, id: u32) -> Option<Header>
-        ensures { result ≡ header_of (find (λ t. is_of client id t.header) (transfers_of self.now)) }
+        ensures { result ≡ header_of (find (λ t. is_of client id t.header)
+            (transfers_of self.now)) }
     {
         find_in(self.held.as_slice(), client, id)
     }
 
     /// The ids of the client's transfers.
     pub(crate) fn ids(&self, client: ClientId) -> IdList
-        ensures { result ≡ map (λ t. t.header.id) (filter (λ t. t.header.client == client) (transfers_of self.now)) }
+        ensures { result ≡ map (λ t. t.header.id) (filter (λ t. t.header.client == client)
+            (transfers_of self.now)) }
     {
         let mut ids = IdList::new();
         for held in &self.held {
@@ -68,7 +71,9 @@ impl Transfers {
     /// A transfer begins. It takes no memory.
     pub(crate) fn start(&mut self, alloc: Global, id: u32, client: ClientId, size: u64)
         requires { length self.old < transfer_limit }
-        ensures { transfers_of self.new ≡ transfers_of self.old ++ record { header = fresh id client size; bytes = []; parts = [] } ∷ [] }
+        ensures { transfers_of self.new
+            ≡ transfers_of self.old
+            ++ record { header = fresh id client size; bytes = []; parts = [] } ∷ [] }
     {
         let held = Held::new(alloc, id, client, size);
         self.held.push(held).unwrap();
@@ -86,14 +91,16 @@ impl Transfers {
     pub(crate) fn accept(&mut self, id: u32, block: &[u8])
         requires some { 0 < length block.now }
         requires staged { IsStaged id block.now self.old }
-        ensures { transfers_of self.new ≡ map (accepted_block id block.now) (transfers_of self.old) }
+        ensures { transfers_of self.new
+            ≡ map (accepted_block id block.now) (transfers_of self.old) }
     {
         accept_in(self.held.as_mut_slice(), id, block);
     }
 
     /// The transfer of this id is gone.
     pub(crate) fn remove(&mut self, id: u32)
-        ensures { transfers_of self.new ≡ filter (λ t. not (t.header.id == id)) (transfers_of self.old) }
+        ensures { transfers_of self.new
+            ≡ filter (λ t. not (t.header.id == id)) (transfers_of self.old) }
     {
         self.held.retain(|held| !held.has_id(id));
     }

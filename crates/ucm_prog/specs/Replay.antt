@@ -1,5 +1,5 @@
 -- What `replay` writes.
-use Rattle.std.specs.Prelude.{◌≡◌, ℕ, nat_lt, if◌then◌else◌, List, [], ◌∷◌, ◌++◌, length, replicate, codes, Result, Ok, Err}
+use Rattle.std.specs.Prelude.{◌≡◌, ℕ, nat_lt, if◌then◌else◌, List, [], ◌∷◌, ◌++◌, length, replicate, codes, Result, Ok, Err, Option, IfSome}
 use Rattle.std.specs.Fmt.{decimal}
 use Rattle.ucm_base.specs.Limits.{input_limit}
 use Rattle.pm_types.specs.declared.calls.Call.{Call}
@@ -14,6 +14,7 @@ use Rattle.ucm_prog.specs.declared.script.ScriptCall.TheVariants.{Given, Filled}
 use Rattle.ucm_prog.specs.declared.script.CallLine.{CallLine}
 use Rattle.ucm_prog.specs.declared.status.ExitStatus.{ExitStatus}
 use Rattle.ucm_prog.specs.declared.status.ExitStatus.TheVariants.{Successful, InputRefused}
+use Rattle.ucm_prog.specs.Outcome.{Puts, PutsPrefix}
 use Rattle.ucm_prog.specs.Script.{calls_of}
 
 -- the call that a line's words mean
@@ -59,3 +60,12 @@ output_of input = if nat_lt input_limit (length input) then too_long_output else
 pub record IsOutput (output : Output) (ended : ExitStatus) (written : List ℕ) : Type 0 where
   pub status : ended ≡ output.status
   pub text : written ≡ output.text
+
+-- the status and what was put are the output, where the source tells its input
+abbrev pub IsOutputOf : Option (List ℕ) → ExitStatus → Option (List ℕ) → Option (List ℕ) → Type 0
+IsOutputOf left ended earlier later =
+    IfSome left (λ input. (ended ≡ (output_of input).status) × Puts earlier later (output_of input).text)
+
+-- a prefix of the output was put
+abbrev pub LeavesPrefixOf : Option (List ℕ) → Option (List ℕ) → Option (List ℕ) → Type 0
+LeavesPrefixOf left earlier later = IfSome left (λ input. PutsPrefix earlier later (output_of input).text)

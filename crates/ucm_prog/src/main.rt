@@ -1,7 +1,8 @@
 //! The program `ucm`: update managers of a vehicle's computers.
 //!
-//! Layer: the top. Its one contract is that of [`plain::ucm_plain`], which `main` calls: what a command writes is the
-//! output that the definitions in `specs/` say, and each exit status has its cause.
+//! Layer: the top. Its one contract is that of [`plain::ucm_plain`], which `main` calls: what a
+//! command writes is the output that the definitions in `specs/` say, and each exit status has its
+//! cause.
 #![tactic(auto)]
 
 mod plain;

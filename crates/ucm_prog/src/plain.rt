@@ -3,7 +3,7 @@ ghost use Rattle.std.specs.Prelude.{◌≡◌, ◌↔◌, ◌⊎◌, IfSome, IfO
 ghost use Rattle.ucm_ports.specs.Faults.{HasRisen};
 ghost use Rattle.ucm_prog.specs.Commands.{is_replay, usage_line};
 ghost use Rattle.ucm_prog.specs.Outcome.{IsEnded, IsPlain, IsWritten, Puts, PutsPrefix};
-ghost use Rattle.ucm_prog.specs.Replay.{IsOutput, output_of, too_long_output};
+ghost use Rattle.ucm_prog.specs.Replay.{IsOutput, IsOutputOf, LeavesPrefixOf, output_of, too_long_output};
 
 use crate::replay::{Output, replay};
 use crate::status::ExitStatus;
@@ -17,8 +17,8 @@ const USAGE: &str =
 
 /// Carries out a command that never waits; so far `replay` alone.
 ///
-/// It reads the whole source, of at most 67,108,864 bytes, and writes the command's output to the sink. It hands the
-/// disks back, of which no command makes a call so far.
+/// It reads the whole source, of at most 67,108,864 bytes, and writes the command's output to the
+/// sink. It hands the disks back, of which no command makes a call so far.
 pub fn ucm_plain<S: Source, K: Sink, D: Disk>(
     alloc: Global,
     words: &[String],
@@ -26,47 +26,35 @@ pub fn ucm_plain<S: Source, K: Sink, D: Disk>(
     sink: &mut K,
     disks: Vec<D>,
 ) -> (ExitStatus, Vec<D>)
-    ensures usage { (result.0 ≡ ExitStatus.Usage) ↔ (is_replay (map string_bytes words.now) ≡ false) }
+    ensures usage { (result.0 ≡ ExitStatus.Usage)
+        ↔ (is_replay (map string_bytes words.now) ≡ false) }
     ensures usage_reads_nothing { result.0 ≡ ExitStatus.Usage → source.new ≡ source.old }
-    ensures usage_is_written { result.0 ≡ ExitStatus.Usage → IsWritten (K.written sink.old) (K.written sink.new) usage_line (K.fault_count sink.old) (K.fault_count sink.new) }
-    ensures output { IsEnded result.0 → IfSome (S.left source.old) (λ input. (result.0 ≡ (output_of input).status) × Puts (K.written sink.old) (K.written sink.new) (output_of input).text) }
-    ensures read_fault { result.0 ≡ ExitStatus.ReadFault → HasRisen (S.fault_count source.old) (S.fault_count source.new) }
-    ensures read_fault_writes_nothing { result.0 ≡ ExitStatus.ReadFault → sink.new ≡ sink.old }
-    ensures write_fault { result.0 ≡ ExitStatus.WriteFault → HasRisen (K.fault_count sink.old) (K.fault_count sink.new) }
-    ensures write_fault_leaves_a_prefix { result.0 ≡ ExitStatus.WriteFault → IfSome (S.left source.old) (λ input. PutsPrefix (K.written sink.old) (K.written sink.new) (output_of input).text) }
-    ensures out_of_memory_writes_nothing { result.0 ≡ ExitStatus.OutOfMemory → sink.new ≡ sink.old }
+    ensures usage_is_written { result.0 ≡ ExitStatus.Usage
+        → IsWritten (K.written sink.old) (K.written sink.new) usage_line
+        (K.fault_count sink.old) (K.fault_count sink.new) }
+    ensures output { IsEnded result.0
+        → IsOutputOf (S.left source.old) result.0 (K.written sink.old) (K.written sink.new) }
+    ensures read_fault { result.0 ≡ ExitStatus.ReadFault
+        → HasRisen (S.fault_count source.old) (S.fault_count source.new) }
+    ensures read_fault_writes_nothing { result.0 ≡ ExitStatus.ReadFault
+        → sink.new ≡ sink.old }
+    ensures write_fault { result.0 ≡ ExitStatus.WriteFault
+        → HasRisen (K.fault_count sink.old) (K.fault_count sink.new) }
+    ensures write_fault_leaves_a_prefix { result.0 ≡ ExitStatus.WriteFault
+        → LeavesPrefixOf (S.left source.old) (K.written sink.old) (K.written sink.new) }
+    ensures out_of_memory_writes_nothing { result.0 ≡ ExitStatus.OutOfMemory
+        → sink.new ≡ sink.old }
     ensures served { IsPlain result.0 }
     ensures disks { result.1 ≡ disks }
 {
-    let status = carry_out(alloc, words, source, sink);
-    (status, disks)
-}
-
-fn carry_out<S: Source, K: Sink>(
-    alloc: Global,
-    words: &[String],
-    source: &mut S,
-    sink: &mut K,
-) -> ExitStatus
-    ensures usage { (result ≡ ExitStatus.Usage) ↔ (is_replay (map string_bytes words.now) ≡ false) }
-    ensures usage_reads_nothing { result ≡ ExitStatus.Usage → source.new ≡ source.old }
-    ensures usage_is_written { result ≡ ExitStatus.Usage → IsWritten (K.written sink.old) (K.written sink.new) usage_line (K.fault_count sink.old) (K.fault_count sink.new) }
-    ensures output { IsEnded result → IfSome (S.left source.old) (λ input. (result ≡ (output_of input).status) × Puts (K.written sink.old) (K.written sink.new) (output_of input).text) }
-    ensures read_fault { result ≡ ExitStatus.ReadFault → HasRisen (S.fault_count source.old) (S.fault_count source.new) }
-    ensures read_fault_writes_nothing { result ≡ ExitStatus.ReadFault → sink.new ≡ sink.old }
-    ensures write_fault { result ≡ ExitStatus.WriteFault → HasRisen (K.fault_count sink.old) (K.fault_count sink.new) }
-    ensures write_fault_leaves_a_prefix { result ≡ ExitStatus.WriteFault → IfSome (S.left source.old) (λ input. PutsPrefix (K.written sink.old) (K.written sink.new) (output_of input).text) }
-    ensures out_of_memory_writes_nothing { result ≡ ExitStatus.OutOfMemory → sink.new ≡ sink.old }
-    ensures served { IsPlain result }
-{
     if !is_replay_command(words) {
         let _ = put_all(sink, USAGE.as_bytes());
-        return ExitStatus::Usage;
+        return (ExitStatus::Usage, disks);
     }
     match run(alloc, source) {
-        Ok(output) => written(sink, output.text.as_bytes(), output.status),
-        Err(RunFault::Failed) => ExitStatus::ReadFault,
-        Err(RunFault::OutOfMemory) => ExitStatus::OutOfMemory,
+        Ok(output) => (written(sink, output.text.as_bytes(), output.status), disks),
+        Err(RunFault::Failed) => (ExitStatus::ReadFault, disks),
+        Err(RunFault::OutOfMemory) => (ExitStatus::OutOfMemory, disks),
     }
 }
 
@@ -78,9 +66,11 @@ enum RunFault {
 
 /// Reads the whole source, and makes the output.
 fn run<S: Source>(alloc: Global, source: &mut S) -> Result<Output, RunFault>
-    ensures output { IfOk result (λ o. IfSome (S.left source.old) (λ input. IsOutput (output_of input) o.status (string_bytes o.text))) }
+    ensures output { IfOk result (λ o. IfSome (S.left source.old)
+        (λ input. IsOutput (output_of input) o.status (string_bytes o.text))) }
     ensures ended { IfOk result (λ o. IsEnded o.status) }
-    ensures cause { IfErr result (λ e. e ≡ RunFault.Failed → HasRisen (S.fault_count source.old) (S.fault_count source.new)) }
+    ensures cause { IfErr result (λ e. e ≡ RunFault.Failed
+        → HasRisen (S.fault_count source.old) (S.fault_count source.new)) }
 {
     match read_all(alloc, source, INPUT_LIMIT as usize) {
         Ok(input) => match replay(alloc, input.as_slice()) {
@@ -118,9 +108,12 @@ fn is_replay_command(words: &[String]) -> bool
 /// Writes a text, and answers the status, or that the sink failed.
 fn written<K: Sink>(sink: &mut K, text: &[u8], status: ExitStatus) -> ExitStatus
     requires { IsEnded status }
-    ensures ended { IsEnded result → (result ≡ status) × Puts (K.written sink.old) (K.written sink.new) text.now }
-    ensures prefix { result ≡ ExitStatus.WriteFault → PutsPrefix (K.written sink.old) (K.written sink.new) text.now }
-    ensures cause { result ≡ ExitStatus.WriteFault → HasRisen (K.fault_count sink.old) (K.fault_count sink.new) }
+    ensures ended { IsEnded result
+        → (result ≡ status) × Puts (K.written sink.old) (K.written sink.new) text.now }
+    ensures prefix { result ≡ ExitStatus.WriteFault
+        → PutsPrefix (K.written sink.old) (K.written sink.new) text.now }
+    ensures cause { result ≡ ExitStatus.WriteFault
+        → HasRisen (K.fault_count sink.old) (K.fault_count sink.new) }
     ensures either { (result ≡ status) ⊎ (result ≡ ExitStatus.WriteFault) }
 {
     match put_all(sink, text) {

@@ -23,7 +23,8 @@ pub struct Output {
 
 /// What `replay` of a whole input writes.
 pub fn replay(alloc: Global, input: &[u8]) -> Result<Output, AllocError>
-    ensures { IfOk result (λ output. IsOutput (output_of_calls (calls_of input.now)) output.status (string_bytes output.text)) }
+    ensures { IfOk result (λ output. IsOutput (output_of_calls
+        (calls_of input.now)) output.status (string_bytes output.text)) }
 {
     match read_script(alloc, input) {
         Ok(calls) => Ok(Output {
@@ -71,7 +72,8 @@ fn new_node(alloc: Global) -> Result<Core, AllocError>
 
 /// Prints a line's number and what its call gave.
 fn print_line(text: &mut String, line: u64, reached: &Reached) -> Result<(), AllocError>
-    ensures { OnOk result (string_bytes text.new ≡ string_bytes text.old ++ line_text line reached.now) }
+    ensures { OnOk result (string_bytes text.new
+        ≡ string_bytes text.old ++ line_text line reached.now) }
 {
     write!(text, "{line} {reached}\n")
 }
@@ -79,7 +81,8 @@ fn print_line(text: &mut String, line: u64, reached: &Reached) -> Result<(), All
 /// Executes the call of a line.
 fn reach(alloc: Global, core: &mut Core, line: &CallLine) -> Result<Reached, AllocError>
     requires { core.old.entries < entry_limit }
-    ensures reached { IfOk result (λ reached. reached ≡ (after_line (node_of core.old) line.now).1) }
+    ensures reached { IfOk result (λ reached. reached
+        ≡ (after_line (node_of core.old) line.now).1) }
     ensures node { OnOk result (node_of core.new ≡ (after_line (node_of core.old) line.now).0) }
     ensures entries { core.new.entries ≤ core.old.entries + 1 }
 {
@@ -113,7 +116,8 @@ fn filled_call(
     size: u32,
     byte: u8,
 ) -> Result<Call, AllocError>
-    ensures call { IfOk result (λ call. call ≡ call_meant (ScriptCall.Filled id counter size byte)) }
+    ensures call { IfOk result (λ call. call
+        ≡ call_meant (ScriptCall.Filled id counter size byte)) }
     ensures served { IfOk result (λ call. is_served call ≡ true) }
 {
     let bytes = filled_block(alloc, size, byte)?;
@@ -128,8 +132,10 @@ fn executed(
 ) -> Result<Reached, AllocError>
     requires served { is_served call.now ≡ true }
     requires entries { core.old.entries < entry_limit }
-    ensures reached { IfOk result (λ reached. reached ≡ (step (node_of core.old) client no call.now (Ok [])).1) }
-    ensures node { OnOk result (node_of core.new ≡ (step (node_of core.old) client no call.now (Ok [])).0) }
+    ensures reached { IfOk result (λ reached. reached
+        ≡ (step (node_of core.old) client no call.now (Ok [])).1) }
+    ensures node { OnOk result (node_of core.new
+        ≡ (step (node_of core.old) client no call.now (Ok [])).0) }
     ensures entries { core.new.entries ≤ core.old.entries + 1 }
 {
     match core.reserve(client, no, call) {

@@ -1,7 +1,8 @@
 //! Scripts of numbered calls to one node.
 //!
-//! A script is lines of words; an empty line and one that begins with `#` are passed over. Each other line is
-//! `call 1 <client> <epoch>.<number> <call>`, with a number above the client's numbers on the lines above it.
+//! A script is lines of words; an empty line and one that begins with `#` are passed over. Each
+//! other line is `call 1 <client> <epoch>.<number> <call>`, with a number above the client's
+//! numbers on the lines above it.
 ghost use Rattle.std.specs.Prelude.{◌≡◌, ◌+◌, ◌<◌, ◌≤◌, ◌^◌, ◌==◌, ◌∷◌, [], length, codes, IfOk, IfSome, IfErr, map, option_map, option_and_then, replicate, Ok, Err, Some, None, slice_index_or, ℕ};
 ghost use Rattle.std.specs.List.{slice_split};
 ghost use Rattle.ucm_base.specs.Limits.{client_limit};
@@ -21,7 +22,8 @@ const FILL_LIMIT: u64 = 1_000_000;
 /// The most digits of a block in hexadecimal text.
 const HEX_LIMIT: usize = 8192;
 
-/// A call as its words give it; one of a long block of one byte isn't spelled out before it is made.
+/// A call as its words give it; one of a long block of one byte isn't spelled out before it is
+/// made.
 #[derive(Drop)]
 pub enum ScriptCall {
     Given(ServedCall),
@@ -86,15 +88,18 @@ impl From<AllocFailed<CallLine>> for ScriptFault {
 /// The calls of a script, in order.
 pub fn read_script(alloc: Global, script: &[u8]) -> Result<Vec<CallLine>, ScriptFault>
     ensures calls { IfOk result (λ calls. calls_of script.now ≡ Ok calls.items) }
-    ensures later { IfErr result (λ e. (line : ℕ) → e ≡ ScriptFault.Later line → calls_of script.now ≡ Err line) }
+    ensures later { IfErr result (λ e. (line : ℕ) → e ≡ ScriptFault.Later line
+        → calls_of script.now ≡ Err line) }
 {
     let lines = cut_at(alloc, script, b'\n')?;
     calls_in(alloc, lines.as_slice())
 }
 
 fn calls_in(alloc: Global, lines: &[&[u8]]) -> Result<Vec<CallLine>, ScriptFault>
-    ensures calls { IfOk result (λ calls. calls_from (replicate client_limit None) 1 (map (λ line. line.now) lines.now) ≡ Ok calls.items) }
-    ensures later { IfErr result (λ e. (n : ℕ) → e ≡ ScriptFault.Later n → calls_from (replicate client_limit None) 1 (map (λ line. line.now) lines.now) ≡ Err n) }
+    ensures calls { IfOk result (λ calls. calls_from (replicate client_limit None) 1 (map
+        (λ line. line.now) lines.now) ≡ Ok calls.items) }
+    ensures later { IfErr result (λ e. (n : ℕ) → e ≡ ScriptFault.Later n
+        → calls_from (replicate client_limit None) 1 (map (λ line. line.now) lines.now) ≡ Err n) }
 {
     let mut last = [None; 32];
     let mut calls = Vec::new(alloc);
@@ -182,7 +187,8 @@ fn call_no_of(alloc: Global, word: &[u8]) -> Result<Option<CallNo>, AllocError>
 }
 
 fn call_no_of_parts(epoch: &[u8], number: &[u8]) -> Option<CallNo>
-    ensures { result ≡ option_and_then (λ e. option_and_then (call_no e) (small_number number.now)) (small_number epoch.now) }
+    ensures { result ≡ option_and_then (λ e. option_and_then (call_no e)
+        (small_number number.now)) (small_number epoch.now) }
 {
     CallNo::of(small_number_of(epoch)?, small_number_of(number)?)
 }
@@ -195,7 +201,8 @@ fn filled_call(
     size: &[u8],
     byte: &[u8],
 ) -> Result<Option<ScriptCall>, AllocError>
-    ensures { IfOk result (λ call. call ≡ block_of_pieces id counter (kind.now ∷ size.now ∷ byte.now ∷ [])) }
+    ensures { IfOk result (λ call. call
+        ≡ block_of_pieces id counter (kind.now ∷ size.now ∷ byte.now ∷ [])) }
 {
     if kind != b"fill".as_slice() {
         return Ok(None);
@@ -222,7 +229,8 @@ fn filled_of(id: u32, counter: u64, size: Option<u64>, bytes: Option<Vec<u8>>) -
 
 fn given_of(id: u32, counter: u64, bytes: Option<Vec<u8>>) -> Option<ScriptCall>
     requires { IfSome bytes (λ v. length v.items < 2 ^ 32) }
-    ensures { result ≡ option_map (λ items. ScriptCall.Given (Call.TransferData id counter items)) (option_map (λ v. v.items) bytes) }
+    ensures { result ≡ option_map (λ items. ScriptCall.Given
+        (Call.TransferData id counter items)) (option_map (λ v. v.items) bytes) }
 {
     let bytes = Block::of(bytes?);
     let call = ServedCall::of(Call::TransferData { id, counter, bytes });
@@ -251,7 +259,8 @@ fn block_call(
     counter: u64,
     block: &[u8],
 ) -> Result<Option<ScriptCall>, AllocError>
-    ensures { IfOk result (λ call. call ≡ block_of_pieces id counter (slice_split (λ b. b == 58) block.now)) }
+    ensures { IfOk result (λ call. call
+        ≡ block_of_pieces id counter (slice_split (λ b. b == 58) block.now)) }
 {
     let pieces = cut_at(alloc, block, b':')?;
     match pieces.as_slice() {
@@ -268,7 +277,8 @@ fn data_call_of(
     counter: &[u8],
     block: &[u8],
 ) -> Result<Option<ScriptCall>, AllocError>
-    ensures { IfOk result (λ call. call ≡ call_of_words (name.now ∷ id.now ∷ counter.now ∷ block.now ∷ [])) }
+    ensures { IfOk result (λ call. call
+        ≡ call_of_words (name.now ∷ id.now ∷ counter.now ∷ block.now ∷ [])) }
 {
     if name != b"data".as_slice() {
         return Ok(None);
@@ -350,7 +360,9 @@ fn numbered(
     no: &[u8],
     call: &[&[u8]],
 ) -> Result<Option<CallLine>, AllocError>
-    ensures { IfOk result (λ x. x ≡ numbered_call line client (call_no_of_word no.now) (call_of_words (map (λ word. word.now) call.now))) }
+    ensures { IfOk result (λ x. x
+        ≡ numbered_call line client (call_no_of_word no.now) (call_of_words (map
+        (λ word. word.now) call.now))) }
 {
     let Some(no) = call_no_of(alloc, no)? else {
         return Ok(None);

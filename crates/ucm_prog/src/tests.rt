@@ -6,7 +6,8 @@ use std::alloc::{AllocError, Global};
 use std::test::Fail;
 use ucm_ports::{Fails, MemSink, MemSource};
 
-/// What a run with these words and this input ends with and writes, where these calls of the source and the sink fail.
+/// What a run with these words and this input ends with and writes, where these calls of the source
+/// and the sink fail.
 fn outcome(
     alloc: Global,
     word: &str,

@@ -1,5 +1,5 @@
 use Rattle.ucm_prog.proofs.Outputs.{whole-output, prefix-output}
-use Rattle.ucm_prog.proofs.plain.carry_out.Goals as goal
+use Rattle.ucm_prog.proofs.plain.ucm_plain.Goals as goal
 
 pub returns-in-Ok-clause-output : goal.returns-in-Ok-clause-output
 returns-in-Ok-clause-output g c =
