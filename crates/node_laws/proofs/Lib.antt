@@ -14,3 +14,4 @@ pub mod KeptPackages
 pub mod Entries
 pub mod Kept
 pub mod Opened
+pub mod Legal

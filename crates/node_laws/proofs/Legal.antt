@@ -1,0 +1,36 @@
+-- The history that calls make is legal.
+use Rattle.std.proofs.Common.{◌≡◌, ◌++◌, ◌∙◌, [], ◌∷◌, Option, Some, None, refl, ap}
+use Rattle.std.specs.declared.cmp.Ordering.{Ordering}
+use Rattle.std.specs.declared.cmp.Ordering.TheVariants.{Less, Equal, Greater}
+use Rattle.pm_types.specs.declared.replies.Reached.{Reached}
+use Rattle.pm_types.specs.declared.state.Kept.{Kept}
+use Rattle.pm_types.specs.NodeState.{NodeState, of_client}
+use Rattle.pm_types.specs.Steps.{by_last, by_order, call_no_cmp, executed}
+use Rattle.pm_types.specs.Histories.{Reading, IsLegal, verdict_for}
+use Rattle.node_laws.specs.Runs.{MakesLegal, entries_of, entry_of}
+
+module _ (read : Reading) where
+  pub makes-legal : MakesLegal read
+  makes-legal s [] clients = tt
+  makes-legal s (a ∷ calls) clients = by_kept (of_client s.last a.client) refl (λ t. makes-legal t calls clients.1)
+    where
+      done : NodeState × Reached
+      done = executed s a.client a.no a.call (verdict_for read s a.client a.call)
+
+      -- what the first call left and gave, and the entries of the others
+      Legal : NodeState × Reached → Type 0
+      Legal now = IsLegal read s (entry_of a now.1 ++ entries_of read now.0 calls)
+
+      -- that the others are legal after any state
+      Rest : Type 0
+      Rest = (t : NodeState) → IsLegal read t (entries_of read t calls)
+
+      by_kept : (kept : Option Kept) → of_client s.last a.client ≡ kept → Rest → Legal (by_last s done a.no kept)
+      by_kept None e rest = ((clients.0, ap (λ k. (by_last s done a.no k).1) e), rest done.0)
+      by_kept (Some kept) e rest = by_order_of (call_no_cmp a.no kept.no) refl
+        where
+          by_order_of : (o : Ordering) → call_no_cmp a.no kept.no ≡ o → Legal (by_order s done kept o)
+          by_order_of Less f = rest s
+          by_order_of Equal f = rest s
+          by_order_of Greater f =
+              ((clients.0, ap (λ k. (by_last s done a.no k).1) e ∙ ap (λ o. (by_order s done kept o).1) f), rest done.0)
