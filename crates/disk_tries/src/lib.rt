@@ -5,9 +5,11 @@
 
 mod switches;
 mod tries;
+mod turns;
 
 pub use switches::{Switched, blank, try_switch};
 pub use tries::{Tried, TryFault, fresh, try_append};
+pub use turns::{TurnFault, Turned, try_third};
 
 #[cfg(test)]
 mod rows;

@@ -1,6 +1,7 @@
 // The tables. A record takes five bytes and its payload, and one byte must remain for the next gate.
-use crate::{try_append, try_switch};
-use disk_core::{FailKind, Fails, FaultPlan, Stops};
+use crate::{TryFault, TurnFault, try_append, try_switch, try_third};
+use checkpoint::{HalfBytes, StoreFault};
+use disk_core::{FailKind, Fails, FaultPlan, ReadFail, Stops};
 use journal::JournalFault;
 use std::test::Fail;
 
@@ -126,6 +127,102 @@ fn a_switch_leaves_the_old_state_or_the_new(rt: HostRuntime) -> Result<(), Fail>
         };
         let tried = try_switch(alloc, 2_097_152, &plan, b"state").map_err(|_| "no try")?;
         assert!(rt; tried.half.is_some() == reads);
+    }
+    Ok(())
+}
+
+/// A list makes one read, and one that fails says so.
+#[test]
+fn a_list_that_is_not_read_says_so(rt: HostRuntime) -> Result<(), Fail> {
+    let alloc = rt.alloc();
+    let plan = FaultPlan {
+        stops: Stops::of(Vec::new(alloc)),
+        fails: Fails::of(vec![in alloc; (FailKind::Read, 1u64)].map_err(|_| "memory")?),
+    };
+    let tried = try_append(alloc, 64, &plan, &[7; 20], &[8; 33]);
+    assert!(rt; matches!(tried, Err(TryFault::Read(ReadFail::Failed))));
+    Ok(())
+}
+
+// The generation of what a half reads as, 0 where it reads as nothing.
+fn generation(half: &Option<HalfBytes>) -> u64 {
+    match half {
+        Some(body) => body.generation,
+        None => 0,
+    }
+}
+
+/// A switch to a half whose gate is open, stopped at each of its writes: it closes the gate, writes the body, opens
+/// the gate, and until then the other half counts.
+#[test]
+fn a_stop_leaves_a_half_that_counts(rt: HostRuntime) -> Result<(), Fail> {
+    let alloc = rt.alloc();
+    for (write, keep, left) in [
+        (1u64, 0u64, 1u64),
+        (1, 1, 0),
+        (2, 0, 0),
+        (2, 8, 0),
+        (2, 300_000, 0),
+        (3, 0, 0),
+        (3, 1, 3),
+        (4, 0, 3),
+    ] {
+        let plan = FaultPlan {
+            stops: Stops::of(vec![in alloc; (write, keep)].map_err(|_| "memory")?),
+            fails: Fails::of(Vec::new(alloc)),
+        };
+        let turned = try_third(alloc, 4_194_304, &plan, b"state").map_err(|_| "no try")?;
+        assert!(rt; turned.faults == u64::from(write < 4));
+        assert!(rt; turned.ended.is_ok() == (write == 4));
+        assert!(rt; generation(&turned.half_0) == left);
+        assert!(rt; generation(&turned.half_1) == 2);
+    }
+    Ok(())
+}
+
+/// The same switch with a failure at each of its calls. Before it the halves are read, in two reads each; it makes one
+/// read, three writes and three syncs, so to prepare takes five calls and to open two, and no more are there to fail.
+#[test]
+fn a_failure_leaves_a_half_that_counts(rt: HostRuntime) -> Result<(), Fail> {
+    let alloc = rt.alloc();
+    for (kind, number, left) in [
+        (FailKind::Read, 4u64, 1u64),
+        (FailKind::Read, 5, 1),
+        (FailKind::Write, 1, 1),
+        (FailKind::Sync, 1, 0),
+        (FailKind::Write, 2, 0),
+        (FailKind::Sync, 2, 0),
+        (FailKind::Write, 3, 0),
+        (FailKind::Sync, 3, 3),
+    ] {
+        let plan = FaultPlan {
+            stops: Stops::of(Vec::new(alloc)),
+            fails: Fails::of(vec![in alloc; (kind, number)].map_err(|_| "memory")?),
+        };
+        let turned = try_third(alloc, 4_194_304, &plan, b"state").map_err(|_| "no try")?;
+        assert!(rt; turned.faults == 1);
+        let failed = match turned.ended {
+            Err(TurnFault::Read(ReadFail::Failed)) => number == 4,
+            Err(TurnFault::Store(StoreFault::Failed)) => number != 4,
+            _ => false,
+        };
+        assert!(rt; failed);
+        assert!(rt; generation(&turned.half_0) == left);
+        assert!(rt; generation(&turned.half_1) == 2);
+    }
+    for (kind, number) in [
+        (FailKind::Write, 4u64),
+        (FailKind::Sync, 4),
+        (FailKind::Read, 10),
+    ] {
+        let plan = FaultPlan {
+            stops: Stops::of(Vec::new(alloc)),
+            fails: Fails::of(vec![in alloc; (kind, number)].map_err(|_| "memory")?),
+        };
+        let turned = try_third(alloc, 4_194_304, &plan, b"state").map_err(|_| "no try")?;
+        assert!(rt; turned.faults == 0);
+        assert!(rt; turned.ended.is_ok());
+        assert!(rt; generation(&turned.half_0) == 3);
     }
     Ok(())
 }

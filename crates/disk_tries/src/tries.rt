@@ -4,6 +4,7 @@ ghost use Rattle.disk_core.specs.Images.{EachImage};
 ghost use Rattle.disk_core.specs.Plans.{no_faults};
 ghost use Rattle.journal.specs.Ready.{IsReady};
 
+use crate::TurnFault;
 use disk_area::Area;
 use disk_core::{Disk, FaultPlan, OutOfMemory, ReadFail};
 use disk_mem::MemDisk;
@@ -18,6 +19,8 @@ pub enum TryFault {
     Before(JournalFault),
     /// The list wasn't read again.
     Read(ReadFail),
+    /// A switch before the plan was armed didn't succeed.
+    Turn(TurnFault),
     /// The disk didn't restart.
     Restart,
 }
@@ -25,6 +28,18 @@ pub enum TryFault {
 impl From<OutOfMemory> for TryFault {
     fn from(_: OutOfMemory) -> Self {
         TryFault::Memory
+    }
+}
+
+impl From<ReadFail> for TryFault {
+    fn from(fault: ReadFail) -> Self {
+        TryFault::Read(fault)
+    }
+}
+
+impl From<TurnFault> for TryFault {
+    fn from(fault: TurnFault) -> Self {
+        TryFault::Turn(fault)
     }
 }
 

@@ -1,4 +1,3 @@
-use Rattle.std.proofs.Common.{◌≡◌}
 use Rattle.std.proofs.lemmas.Result.{IfOk-weaker}
 use Rattle.disk_mem.specs.declared.mem.MemDisk.{MemDisk}
 use Rattle.disk_tries.proofs.Blanks.{blank_has, blank_spare, blank_newer}

@@ -1,4 +1,4 @@
-use Rattle.std.proofs.Common.{◌≡◌, ℕ, sym, ◌∙◌, ap, subst, arith}
+use Rattle.std.proofs.Common.{ℕ, sym, ◌∙◌, subst, arith}
 use Rattle.disk_area.specs.declared.area.Area.{Area}
 use Rattle.journal.specs.Ready.{IsReady}
 use Rattle.disk_tries.proofs.Zeros.{ready_on_zeros}
