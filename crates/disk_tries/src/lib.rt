@@ -8,7 +8,7 @@ mod tries;
 mod turns;
 
 pub use switches::{Switched, blank, try_switch};
-pub use tries::{Tried, TryFault, fresh, try_append};
+pub use tries::{Tried, TryFault, fresh, try_append, try_three};
 pub use turns::{TurnFault, Turned, try_third};
 
 #[cfg(test)]

@@ -1,11 +1,11 @@
 // The tables. A record takes five bytes and its payload, and one byte must remain for the next gate.
-use crate::{TryFault, TurnFault, try_append, try_switch, try_third};
+use crate::{TryFault, TurnFault, try_append, try_switch, try_third, try_three};
 use checkpoint::{HalfBytes, StoreFault};
 use disk_core::{FailKind, Fails, FaultPlan, ReadFail, Stops};
 use journal::JournalFault;
 use std::test::Fail;
 
-/// An area of 64 bytes takes 20 bytes and then 33, and refuses an empty payload; one of 63 bytes refuses the 33.
+/// An area of 64 bytes takes 20 bytes and then 33, and then refuses an empty payload; one of 63 bytes refuses the 33.
 #[test]
 fn an_area_takes_what_fits(rt: HostRuntime) -> Result<(), Fail> {
     let alloc = rt.alloc();
@@ -16,8 +16,10 @@ fn an_area_takes_what_fits(rt: HostRuntime) -> Result<(), Fail> {
     let tight = try_append(alloc, 63, &plan, &[7; 20], &[8; 33]).map_err(|_| "no try")?;
     assert!(rt; matches!(tight.ended, Err(JournalFault::Full)));
     assert!(rt; tight.records.len() == 1);
-    let full = try_append(alloc, 64, &plan, &[7; 58], &[]).map_err(|_| "no try")?;
-    assert!(rt; matches!(full.ended, Err(JournalFault::Full)));
+    let full = try_three(alloc, 64, &[7; 20], &[8; 33], &[]).map_err(|_| "no try")?;
+    assert!(rt; matches!(full, Err(JournalFault::Full)));
+    let room = try_three(alloc, 69, &[7; 20], &[8; 33], &[]).map_err(|_| "no try")?;
+    assert!(rt; matches!(room, Ok(())));
     Ok(())
 }
 
@@ -175,6 +177,16 @@ fn a_stop_leaves_a_half_that_counts(rt: HostRuntime) -> Result<(), Fail> {
         assert!(rt; turned.faults == u64::from(write < 4));
         assert!(rt; turned.ended.is_ok() == (write == 4));
         assert!(rt; generation(&turned.half_0) == left);
+        assert!(rt; generation(&turned.half_1) == 2);
+    }
+    // The generation, the length and the state of the body are 17 bytes.
+    for keep in 0..=18 {
+        let plan = FaultPlan {
+            stops: Stops::of(vec![in alloc; (2u64, keep)].map_err(|_| "memory")?),
+            fails: Fails::of(Vec::new(alloc)),
+        };
+        let turned = try_third(alloc, 4_194_304, &plan, b"state").map_err(|_| "no try")?;
+        assert!(rt; turned.half_0.is_none());
         assert!(rt; generation(&turned.half_1) == 2);
     }
     Ok(())

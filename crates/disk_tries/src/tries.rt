@@ -97,3 +97,26 @@ pub fn try_append(
         Err(fault) => Err(TryFault::Read(fault)),
     }
 }
+
+/// Appends the three payloads to a fresh journal: how the last append ends, where the first two succeed.
+pub fn try_three(
+    alloc: Global,
+    len: u64,
+    first: &[u8],
+    second: &[u8],
+    third: &[u8],
+) -> Result<Result<(), JournalFault>, TryFault>
+    requires some { 0 < len }
+    requires first_short { length first.now < 2 ^ 32 }
+    requires second_short { length second.now < 2 ^ 32 }
+    requires third_short { length third.now < 2 ^ 32 }
+{
+    let (mut disk, mut journal) = fresh(alloc, len, len)?;
+    if let Err(fault) = journal.append(alloc, &mut disk, first) {
+        return Err(TryFault::Before(fault));
+    }
+    if let Err(fault) = journal.append(alloc, &mut disk, second) {
+        return Err(TryFault::Before(fault));
+    }
+    Ok(journal.append(alloc, &mut disk, third))
+}
