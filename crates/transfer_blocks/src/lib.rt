@@ -1,0 +1,14 @@
+//! The transfers of a node, and the areas in which their bytes and the clusters' contents lie.
+//!
+//! Layer: stands on `pm_types`, whose transfer table it carries out; `node_core` stands on it.
+//! Its one contract: the four calls of [`Transfers`] are the transfer table, and after a put on a [`Staging`] the area
+//! holds the bytes at their place, all else being as before.
+#![tactic(auto)]
+
+mod area;
+mod fault;
+mod staging;
+
+pub use area::Area;
+pub use fault::StagingFault;
+pub use staging::Staging;
