@@ -1,5 +1,5 @@
 -- What lies in an area, and what a put changes.
-use Rattle.std.specs.Prelude.{◌≡◌, ℕ, ◌+◌, ◌<◌, ◌≤◌, ◌==◌, if◌then◌else◌, [], ◌++◌, length, take, drop, slice_index_or, slice_set}
+use Rattle.std.specs.Prelude.{◌≡◌, ℕ, ◌+◌, ◌<◌, ◌≤◌, ◌==◌, if◌then◌else◌, [], ◌++◌, length, take, drop, replicate, slice_index_or, slice_set}
 use Rattle.ucm_base.specs.Limits.{transfer_limit, cluster_limit, package_limit}
 use Rattle.ucm_base.specs.Parts.{Bytes}
 use Rattle.pm_types.specs.Stored.{Areas}
@@ -32,6 +32,10 @@ with_content (Side place side) content areas =
 -- the content with these bytes at this place
 abbrev pub overwritten : ℕ → Bytes → Bytes → Bytes
 overwritten at bytes content = take at content ++ bytes ++ drop (at + length bytes) content
+
+-- all areas, with nothing in them
+abbrev pub no_contents : Areas
+no_contents = record { slots = replicate transfer_limit []; sides = replicate cluster_limit ([], []) }
 
 -- every area is there, and none is longer than a package
 pub record AreasFit (areas : Areas) : Type 0 where

@@ -6,9 +6,13 @@
 #![tactic(auto)]
 
 mod area;
+mod content;
+mod contents;
 mod fault;
+mod mem;
 mod staging;
 
 pub use area::Area;
 pub use fault::StagingFault;
+pub use mem::MemStaging;
 pub use staging::Staging;
