@@ -1,5 +1,5 @@
 -- Lists of clusters in order of name, and what planned changes make of them.
-use Rattle.std.specs.Prelude.{ℕ, Bool, ◌+◌, ◌-◌, ◌/◌, max, not, List, [], ◌∷◌, ◌++◌, length, map, filter, sum_by, Option, find}
+use Rattle.std.specs.Prelude.{ℕ, Bool, ◌+◌, ◌-◌, ◌/◌, max, not, List, [], ◌∷◌, ◌++◌, length, map, filter, sum_by, Option, Some, None, find}
 use Rattle.std.specs.List.{list_any}
 use Rattle.std.specs.Str.{bytes_eq}
 use Rattle.ucm_base.specs.declared.parts.Action.{Action}
@@ -11,6 +11,11 @@ use Rattle.ucm_base.specs.Parts.{Bytes}
 use Rattle.pm_types.specs.declared.clusters.Part.{Part}
 use Rattle.pm_types.specs.declared.clusters.Cluster.{Cluster}
 use Rattle.pm_types.specs.declared.clusters.Change.{Change}
+
+-- a value that may be missing, as a list
+abbrev pub one_or_none : {X : Type 0} → Option X → List X
+one_or_none None = []
+one_or_none (Some x) = x ∷ []
 
 -- the name of the cluster that a part changes
 abbrev pub cluster_of : {C : Type 0} → Part C → List ℕ

@@ -2,6 +2,9 @@
 //!
 //! `C` is what a content is: the bytes themselves in definitions, where they lie in code.
 
+ghost use Rattle.std.specs.Prelude.{◌≡◌, IfOk};
+
+use std::alloc::{AllocError, Global};
 use ucm_base::{ClusterName, Manifest, Needs, VersionText};
 
 /// An installed piece of software.
@@ -13,12 +16,29 @@ pub struct Cluster<C> {
     pub content: C,
 }
 
+impl<C: Copy> Cluster<C> {
+    /// The same cluster.
+    pub fn copied(&self, alloc: Global) -> Result<Cluster<C>, AllocError>
+        ensures { IfOk result (λ c. c ≡ self.now) }
+    {
+        Ok(Cluster {
+            name: self.name,
+            version: self.version.clone()?,
+            needs: self.needs.copied(alloc)?,
+            content: self.content,
+        })
+    }
+}
+
 /// What a software package brings for one cluster.
 #[derive(Drop)]
 pub struct Part<C> {
     pub manifest: Manifest,
     pub payload: C,
 }
+
+/// What a whole software package has: its manifest, and its payload's length.
+pub type Contents = Part<u32>;
 
 /// A planned change of one cluster, and the id of the transfer that brought it.
 #[derive(Drop)]

@@ -62,6 +62,22 @@ impl Model for LineList {
     ghost view = { λ a. a.items.items };
 }
 
+impl LineList {
+    /// The list of these lines. It takes no memory.
+    pub fn of(items: Vec<Line>) -> LineList
+        ensures { result ≡ items.items }
+    {
+        LineList { items }
+    }
+
+    /// The lines, in order.
+    pub fn as_slice(&self) -> &[Line]
+        ensures { result.now ≡ self.now }
+    {
+        self.items.as_slice()
+    }
+}
+
 /// The newest 256 lines, seen as their list. It has room for them from its making.
 #[derive(Drop)]
 pub struct NewestLines {
@@ -86,6 +102,13 @@ impl NewestLines {
     {
         let ring = HeapCircularBuffer::with_capacity(alloc, LIMIT)?;
         Ok(NewestLines { ring })
+    }
+
+    /// The lines, in order, as two pieces.
+    pub fn as_slices(&self) -> (&[Line], &[Line])
+        ensures { result.0.now ++ result.1.now ≡ self.now }
+    {
+        self.ring.as_slices()
     }
 
     /// Adds a line, in place of the oldest where there are 256. It takes no memory.

@@ -16,7 +16,7 @@ mod text;
 mod transfers;
 
 pub use calls::{Call, CallName};
-pub use clusters::{Change, Cluster, Extent, Part};
+pub use clusters::{Change, Cluster, Contents, Extent, Part};
 pub use history::{Entry, Happened, Line, LineList, NewestLines};
 pub use queries::{
     Answer, ChangeInfo, ChangeList, ClusterInfo, ClusterList, PackageInfo, PackageList, Query,
@@ -24,4 +24,4 @@ pub use queries::{
 pub use replies::{EndMark, IdList, Reached, Refusal, Reply, SessionMark, Synced, Worked};
 pub use state::{Changes, Clusters, Kept, PartList, Session, State, StoredTransfer, TransferList};
 pub use status::{Outcome, Phase, Status};
-pub use transfers::Header;
+pub use transfers::{ExitVerdict, Header};

@@ -1,5 +1,7 @@
 //! Queries, which change nothing, and their answers.
 
+ghost use Rattle.std.specs.Prelude.{◌≡◌};
+
 use crate::{LineList, Phase, Refusal, Status};
 use std::marker::Model;
 use ucm_base::{Action, ClusterName, VersionText};
@@ -54,6 +56,22 @@ impl Model for ClusterList {
     ghost view = { λ a. a.items.items };
 }
 
+impl ClusterList {
+    /// The list of these clusters. It takes no memory.
+    pub fn of(items: Vec<ClusterInfo>) -> ClusterList
+        ensures { result ≡ items.items }
+    {
+        ClusterList { items }
+    }
+
+    /// The clusters, in order.
+    pub fn as_slice(&self) -> &[ClusterInfo]
+        ensures { result.now ≡ self.now }
+    {
+        self.items.as_slice()
+    }
+}
+
 /// Planned changes, seen as their list.
 #[derive(Drop)]
 pub struct ChangeList {
@@ -69,6 +87,22 @@ impl Model for ChangeList {
     ghost view = { λ a. a.items.items };
 }
 
+impl ChangeList {
+    /// The list of these changes. It takes no memory.
+    pub fn of(items: Vec<ChangeInfo>) -> ChangeList
+        ensures { result ≡ items.items }
+    {
+        ChangeList { items }
+    }
+
+    /// The changes, in order.
+    pub fn as_slice(&self) -> &[ChangeInfo]
+        ensures { result.now ≡ self.now }
+    {
+        self.items.as_slice()
+    }
+}
+
 /// Transfers, seen as their list.
 #[derive(Drop)]
 pub struct PackageList {
@@ -82,6 +116,22 @@ impl Model for PackageList {
     ghost Value = { List PackageInfo };
 
     ghost view = { λ a. a.items.items };
+}
+
+impl PackageList {
+    /// The list of these transfers. It takes no memory.
+    pub fn of(items: Vec<PackageInfo>) -> PackageList
+        ensures { result ≡ items.items }
+    {
+        PackageList { items }
+    }
+
+    /// The transfers, in order.
+    pub fn as_slice(&self) -> &[PackageInfo]
+        ensures { result.now ≡ self.now }
+    {
+        self.items.as_slice()
+    }
 }
 
 /// The answer to a query.

@@ -1,9 +1,11 @@
 //! A node's state as it is kept: where the bytes lie in place of the bytes.
-ghost use Rattle.std.specs.Prelude.{◌≡◌, ◌<◌, ◌++◌, ◌∷◌, [], None, length, IfOk, replicate};
+ghost use Rattle.std.specs.Prelude.{◌≡◌, ◌<◌, ◌≤◌, ◌++◌, ◌∷◌, [], None, length, vec_capacity, IfOk, IfSome, replicate};
 ghost use Rattle.pm_types.specs.Stored.{fresh_state};
-ghost use Rattle.ucm_base.specs.Limits.{transfer_limit};
+ghost use Rattle.ucm_base.specs.Limits.{cluster_limit, transfer_limit};
 
-use crate::{Change, Cluster, EndMark, Extent, Header, NewestLines, Outcome, Part, Reply, Status};
+use crate::{
+    Change, Cluster, Contents, EndMark, Extent, Header, NewestLines, Outcome, Reply, Status,
+};
 use std::alloc::{AllocError, Global};
 use std::marker::Model;
 use ucm_base::{CallNo, ClientId};
@@ -15,27 +17,43 @@ pub struct Kept {
     pub reply: Reply,
 }
 
-/// The parts of a package with the lengths of their payloads, seen as their list.
+/// What a transfer's package has, once that is known; seen as the list of its parts with the lengths of their payloads.
 #[derive(Drop)]
 pub struct PartList {
-    items: Vec<Part<u32>>,
+    part: Option<Contents>,
 }
 
 impl Model for PartList {
     ghost use Rattle.std.specs.Prelude.{ℕ, List};
     ghost use Rattle.pm_types.specs.declared.clusters.Part.{Part};
+    ghost use Rattle.pm_types.specs.Clusters.{one_or_none};
 
     ghost Value = { List (Part ℕ) };
 
-    ghost view = { λ a. a.items.items };
+    ghost view = { λ a. one_or_none a.part };
 }
 
 impl PartList {
-    /// The list of these parts. It takes no memory.
-    pub fn of(items: Vec<Part<u32>>) -> PartList
-        ensures { result ≡ items.items }
+    /// No part.
+    pub fn none() -> PartList
+        ensures { result ≡ [] }
     {
-        PartList { items }
+        PartList { part: None }
+    }
+
+    /// One part.
+    pub fn one(part: Contents) -> PartList
+        ensures { result ≡ part ∷ [] }
+    {
+        PartList { part: Some(part) }
+    }
+
+    /// The part, where there is one.
+    pub fn first(&self) -> Option<&Contents>
+        ensures some { IfSome result (λ part. self.now ≡ part.now ∷ []) }
+        ensures none { result ≡ None → self.now ≡ [] }
+    {
+        self.part.as_ref()
     }
 }
 
@@ -75,12 +93,30 @@ impl TransferList {
         Ok(TransferList { items })
     }
 
-    /// Adds a transfer behind the others. It takes no memory.
-    pub fn push(&mut self, transfer: StoredTransfer)
-        requires { length self.old < transfer_limit }
-        ensures { self.new ≡ self.old ++ transfer ∷ [] }
+    /// The list of these transfers. It takes no memory.
+    pub fn of(items: Vec<StoredTransfer>) -> TransferList
+        requires few { length items.items ≤ transfer_limit }
+        requires room { transfer_limit ≤ vec_capacity items }
+        ensures { result ≡ items.items }
     {
-        self.items.push(transfer).unwrap();
+        TransferList { items }
+    }
+
+    /// The transfers, with room for eight.
+    pub fn into_vec(self) -> Vec<StoredTransfer>
+        ensures items { result.items ≡ self }
+        ensures few { length self ≤ transfer_limit }
+        ensures room { transfer_limit ≤ vec_capacity result }
+    {
+        self.items
+    }
+
+    /// The transfers, in order.
+    pub fn as_slice(&self) -> &[StoredTransfer]
+        ensures transfers { result.now ≡ self.now }
+        ensures form { length self.now ≤ transfer_limit }
+    {
+        self.items.as_slice()
     }
 }
 
@@ -107,22 +143,69 @@ impl Clusters {
     {
         Clusters { items }
     }
+
+    /// The clusters, in order.
+    pub fn as_slice(&self) -> &[Cluster<Extent>]
+        ensures { result.now ≡ self.now }
+    {
+        self.items.as_slice()
+    }
+
+    /// The same clusters.
+    pub fn copied(&self, alloc: Global) -> Result<Clusters, AllocError>
+        ensures { IfOk result (λ clusters. clusters ≡ self.now) }
+    {
+        let mut items = Vec::with_capacity(alloc, self.items.len())?;
+        for cluster in &self.items {
+            items.push(cluster.copied(alloc)?)?;
+        }
+        Ok(Clusters { items })
+    }
 }
 
-/// Planned changes in order, with where their payloads lie, seen as their list.
+/// At most 16 planned changes in order, with where their payloads lie, seen as their list. It has room for them from
+/// its making.
 #[derive(Drop)]
 pub struct Changes {
     items: Vec<Change<Extent>>,
 }
 
 impl Model for Changes {
-    ghost use Rattle.std.specs.Prelude.{List};
+    ghost use Rattle.std.specs.Prelude.{List, ◌≤◌, length, vec_capacity};
     ghost use Rattle.pm_types.specs.declared.clusters.Change.{Change};
     ghost use Rattle.pm_types.specs.declared.clusters.Extent.{Extent};
 
     ghost Value = { List (Change Extent) };
 
     ghost view = { λ a. a.items.items };
+
+    ghost invariant = { λ a. (length a.items.items ≤ 16) × (16 ≤ vec_capacity a.items) };
+}
+
+impl Changes {
+    /// No change.
+    pub fn new(alloc: Global) -> Result<Changes, AllocError>
+        ensures { IfOk result (λ changes. changes ≡ []) }
+    {
+        let items = Vec::with_capacity(alloc, 16)?;
+        Ok(Changes { items })
+    }
+
+    /// Adds a change behind the others. It takes no memory.
+    pub fn push(&mut self, change: Change<Extent>)
+        requires { length self.old < cluster_limit }
+        ensures { self.new ≡ self.old ++ change ∷ [] }
+    {
+        self.items.push(change).unwrap();
+    }
+
+    /// The changes, in order.
+    pub fn as_slice(&self) -> &[Change<Extent>]
+        ensures changes { result.now ≡ self.now }
+        ensures form { length self.now ≤ cluster_limit }
+    {
+        self.items.as_slice()
+    }
 }
 
 /// A node's session, from an accepted ProcessSwPackage in Idle to its clean-up.

@@ -1,6 +1,6 @@
 //! Transfers of software packages, apart from their bytes.
 
-use crate::Phase;
+use crate::{Contents, Phase, Refusal};
 use ucm_base::ClientId;
 
 /// What the transfer table reads and writes of a transfer.
@@ -15,4 +15,11 @@ pub struct Header {
     /// The counter that the next block carries; the first is 1.
     pub next_counter: u64,
     pub phase: Phase,
+}
+
+/// What reading a transfer's bytes as a package says.
+#[derive(Drop)]
+pub enum ExitVerdict {
+    Good(Contents),
+    Bad(Refusal),
 }

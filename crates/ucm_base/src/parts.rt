@@ -1,8 +1,9 @@
 //! Blocks of bytes, and what a software package says of itself.
-ghost use Rattle.std.specs.Prelude.{◌≡◌, ◌<◌, ◌≤◌, ◌^◌, length};
+ghost use Rattle.std.specs.Prelude.{◌≡◌, ◌<◌, ◌≤◌, ◌^◌, length, IfOk};
 ghost use Rattle.ucm_base.specs.Limits.{need_limit};
 
 use crate::{ClusterName, ReqText, VersionText};
+use std::alloc::{AllocError, Global};
 use std::marker::Model;
 
 /// Fewer than 2^32 bytes, seen as their list.
@@ -54,6 +55,18 @@ pub struct Need {
     pub req: ReqText,
 }
 
+impl Need {
+    /// The same need.
+    pub fn copied(&self, alloc: Global) -> Result<Need, AllocError>
+        ensures { IfOk result (λ need. need ≡ self.now) }
+    {
+        Ok(Need {
+            name: self.name,
+            req: self.req.copied(alloc)?,
+        })
+    }
+}
+
 /// At most 16 needs, seen as their list.
 #[derive(Drop)]
 pub struct Needs {
@@ -80,6 +93,17 @@ impl Needs {
         Needs { items }
     }
 
+    /// The same needs.
+    pub fn copied(&self, alloc: Global) -> Result<Needs, AllocError>
+        ensures { IfOk result (λ needs. needs ≡ self.now) }
+    {
+        let mut items = Vec::new(alloc);
+        for need in &self.items {
+            items.push(need.copied(alloc)?)?;
+        }
+        Ok(Needs { items })
+    }
+
     /// The needs, in order.
     pub fn as_slice(&self) -> &[Need]
         ensures needs { result.now ≡ self.now }
@@ -98,4 +122,19 @@ pub struct Manifest {
     pub needs: Needs,
     /// The SHA-256 of the payload.
     pub sha256: [u8; 32],
+}
+
+impl Manifest {
+    /// The same manifest.
+    pub fn copied(&self, alloc: Global) -> Result<Manifest, AllocError>
+        ensures { IfOk result (λ m. m ≡ self.now) }
+    {
+        Ok(Manifest {
+            action: self.action,
+            name: self.name,
+            version: self.version.clone()?,
+            needs: self.needs.copied(alloc)?,
+            sha256: self.sha256,
+        })
+    }
 }

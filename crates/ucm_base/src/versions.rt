@@ -149,6 +149,18 @@ impl ReqText {
         self.text
     }
 
+    /// The same requirement, read again from its text.
+    pub fn copied(&self, alloc: Global) -> Result<ReqText, AllocError>
+        ensures { IfOk result (λ v. v ≡ self.now) }
+    {
+        let text = self.text();
+        match ReqText::of(alloc, text.as_bytes()) {
+            Ok(copy) => Ok(copy),
+            Err(TextFault::OutOfMemory) => Err(AllocError),
+            Err(TextFault::BadText) => unreachable!(),
+        }
+    }
+
     /// Whether the version is accepted.
     pub fn accepts(&self, version: &VersionText) -> bool
         ensures { result ≡ accepts self.now version.now }
