@@ -10,7 +10,7 @@ use Rattle.manifest.specs.Trees.{all_of}
 use Rattle.manifest.specs.Form.{need_of_tree, needs_of_tree}
 use Rattle.manifest.proofs.Lists.{items_list-view}
 
-few : (n : ℕ) → n ≤ 16 → nat_le n 16 ≡ true
+pub few : (n : ℕ) → n ≤ 16 → nat_le n 16 ≡ true
 few n h = grind arith
 
 many : (n : ℕ) → 16 < n → nat_le n 16 ≡ false

@@ -1,5 +1,8 @@
 -- A list taken in member by member.
 use Rattle.std.proofs.Common.{◌≡◌, ℕ, zero, suc, ◌+◌, ◌<◌, List, [], ◌∷◌, ◌++◌, length, take, get_or, map, Option, Some, None, option_map, option_and_then, refl, sym, ◌∙◌, ap, arith}
+use Rattle.std.proofs.lemmas.Grind.{take_at_read}
+use Rattle.std.proofs.lemmas.List.{map-append}
+use Rattle.serde_json.specs.Data.{Data}
 use Rattle.serde_json.specs.View.{view, items_view}
 use Rattle.serde_json.specs.declared.value.Value.{Value}
 use Rattle.manifest.specs.Trees.{all_of, items_list}
@@ -49,3 +52,11 @@ module _ {V A B : Type 0} (f : A → Option B) (g : V → A) where
 pub items_list-view : (vs : List Value) → items_list (items_view vs) ≡ map view vs
 items_list-view [] = refl
 items_list-view (v ∷ vs) = ap (λ ds. view v ∷ ds) (items_list-view vs)
+
+-- one more member, v, that is seen as x is
+pub mapped-more : {A : Type 0} (f : A → Data) (xs : List A) (i : ℕ) (x : A) (vs : List Value) (v : Value) → i < length xs → x ≡ get_or xs i x
+    → map view vs ≡ map f (take i xs) → view v ≡ f x → map view (vs ++ v ∷ []) ≡ map f (take (i + 1) xs)
+mapped-more f xs i x vs v h at before one =
+    let last = (take_at_read xs i x h).1 in
+    let here : view v ≡ f (get_or xs i x) = one ∙ ap f at in
+    rw (last, map-append view vs (v ∷ []), map-append f (take i xs) (get_or xs i x ∷ []), before, here) refl

@@ -5,6 +5,8 @@
 #![tactic(auto)]
 
 mod digest;
+mod print;
 mod read;
 
+pub use print::print_manifest;
 pub use read::{ManifestFault, read_manifest};
