@@ -1,3 +1,6 @@
 pub mod Bytes
 pub mod Areas
+pub mod Lists
 pub mod Meanings
+pub mod Slots
+pub mod Tables

@@ -9,10 +9,16 @@ mod area;
 mod content;
 mod contents;
 mod fault;
+mod found;
+mod judge;
+mod lookup;
 mod mem;
 mod staging;
+mod transfers;
 
 pub use area::Area;
 pub use fault::StagingFault;
+pub use found::Found;
 pub use mem::MemStaging;
 pub use staging::Staging;
+pub use transfers::Transfers;

@@ -1,0 +1,107 @@
+-- Transfers as they are stored, and what each call makes of them.
+use Rattle.std.specs.Prelude.{ℕ, ◌+◌, ◌<◌, ◌≤◌, Bool, not, ◌==◌, ◌||◌, IsTrue, if◌then◌else◌, List, [], ◌∷◌, ◌++◌, length, map, filter, find, Option, Some, None, option_map, unwrap_or}
+use Rattle.std.specs.List.{list_all, range_with_len, AllByRecursion}
+use Rattle.ucm_base.specs.Limits.{transfer_limit, package_limit}
+use Rattle.pm_types.specs.declared.clusters.Part.{Part}
+use Rattle.pm_types.specs.declared.replies.Refusal.{Refusal}
+use Rattle.pm_types.specs.declared.replies.Reply.{Reply}
+use Rattle.pm_types.specs.declared.replies.Reply.TheVariants.{Refused}
+use Rattle.pm_types.specs.declared.state.StoredTransfer.{StoredTransfer}
+use Rattle.pm_types.specs.declared.status.Phase.{Phase}
+use Rattle.pm_types.specs.declared.status.Phase.TheVariants.{Transferred, Processing, Processed}
+use Rattle.pm_types.specs.declared.transfers.ExitVerdict.{ExitVerdict}
+use Rattle.pm_types.specs.declared.transfers.ExitVerdict.TheVariants.{Good, Bad}
+use Rattle.pm_types.specs.declared.transfers.Header.{Header}
+use Rattle.pm_types.specs.NodeState.{is_in}
+use Rattle.pm_types.specs.Stored.{slots_differ}
+use Rattle.pm_types.specs.Transfers.{is_of, fresh, grown, in_phase}
+use Rattle.transfer_blocks.specs.declared.found.Found.{Found}
+
+-- the next id, and the transfers by rising ids
+pub record Table : Type 0 where
+  pub next_id : ℕ
+  pub transfers : List StoredTransfer
+
+-- the client's transfer of this id
+abbrev pub stored_of : List StoredTransfer → ℕ → ℕ → Option StoredTransfer
+stored_of transfers client id = find (λ t. is_of client id t.header) transfers
+
+abbrev pub stored_header : List StoredTransfer → ℕ → ℕ → Option Header
+stored_header transfers client id = option_map (λ t. t.header) (stored_of transfers client id)
+
+-- its header, and its slot
+abbrev pub found_of : List StoredTransfer → ℕ → ℕ → Option Found
+found_of transfers client id = option_map (λ t. record { header = t.header; slot = t.slot }) (stored_of transfers client id)
+
+-- the ids of the client's transfers
+abbrev pub stored_ids : List StoredTransfer → ℕ → List ℕ
+stored_ids transfers client = map (λ t. t.header.id) (filter (λ t. t.header.client == client) transfers)
+
+abbrev pub slots_of : List StoredTransfer → List ℕ
+slots_of transfers = map (λ t. t.slot) transfers
+
+-- whether none of the slots is this one
+abbrev pub is_free : List ℕ → ℕ → Bool
+is_free slots slot = list_all (λ other. not (other == slot)) slots
+
+-- the lowest slot that is free
+abbrev pub lowest_free : List ℕ → ℕ
+lowest_free slots = unwrap_or (find (is_free slots) (range_with_len 0 transfer_limit)) 0
+
+-- the refusal of what isn't a package, and the parts of what is one
+abbrev pub bad_refusal : ExitVerdict → Option Refusal
+bad_refusal (Good contents) = None
+bad_refusal (Bad refusal) = Some refusal
+
+abbrev pub good_parts : ExitVerdict → List (Part ℕ)
+good_parts (Good contents) = contents ∷ []
+good_parts (Bad refusal) = []
+
+-- one transfer more, in the lowest free slot
+abbrev pub with_fresh : ℕ → ℕ → Table → Table
+with_fresh client size s = record {
+  next_id = s.next_id + 1;
+  transfers = s.transfers ++ record { header = fresh s.next_id client size; slot = lowest_free (slots_of s.transfers); contents = [] } ∷ [];
+}
+
+-- the transfer of this id changed
+abbrev pub with_stored : ℕ → (StoredTransfer → StoredTransfer) → Table → Table
+with_stored id change s = record s { transfers = map (λ t. if t.header.id == id then change t else t) s.transfers }
+
+-- after a block of this length, after an exit, and in another phase
+abbrev pub received : ℕ → StoredTransfer → StoredTransfer
+received size t = record t { header = grown size t.header }
+
+abbrev pub whole : List (Part ℕ) → StoredTransfer → StoredTransfer
+whole parts t = record t { header = in_phase Transferred t.header; contents = parts }
+
+abbrev pub moved : Phase → StoredTransfer → StoredTransfer
+moved phase t = record t { header = in_phase phase t.header }
+
+-- the transfer of this id gone
+abbrev pub without : ℕ → Table → Table
+without id s = record s { transfers = filter (λ t. not (t.header.id == id)) s.transfers }
+
+-- what was processed, or was about to be, gone
+abbrev pub cleaned : Table → Table
+cleaned s = record s { transfers = filter (λ t. not (is_in Processing t.header || is_in Processed t.header)) s.transfers }
+
+-- a refusal leaves the table
+abbrev pub unless_refused : Reply → Table → Table → Table
+unless_refused (Refused refusal) old new = old
+unless_refused _ old new = new
+
+-- a transfer's counts and its slot lie in their bounds
+pub record IsBounded (next_id : ℕ) (t : StoredTransfer) : Type 0 where
+  pub id : t.header.id < next_id
+  pub received : t.header.received ≤ t.header.size
+  pub size : t.header.size ≤ package_limit
+  pub counter : t.header.next_counter ≤ t.header.received + 1
+  pub slot : t.slot < transfer_limit
+
+-- at most eight transfers, with different ids and different slots
+pub record IsTable (s : Table) : Type 0 where
+  pub few : length s.transfers ≤ transfer_limit
+  pub each : AllByRecursion (IsBounded s.next_id) s.transfers
+  pub ids : IsTrue (slots_differ (map (λ t. t.header.id) s.transfers))
+  pub slots : IsTrue (slots_differ (slots_of s.transfers))
