@@ -1,1 +1,5 @@
+pub mod Packages
+pub mod Prepared
+pub mod Places
 pub mod Core
+pub mod Holds

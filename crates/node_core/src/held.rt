@@ -1,111 +1,157 @@
-//! A transfer with its bytes.
-ghost use Rattle.std.specs.Prelude.{◌≡◌, ◌≤◌, ◌<◌, ◌++◌, [], length, take, drop, OnOk, ◌==◌};
-ghost use Rattle.pm_types.specs.Transfers.{fresh, grown};
-ghost use Rattle.node_core.specs.Core.{accepted_block};
+//! A node in memory without its form: the parts that a call or a unit changes, and what executing a call keeps.
+ghost use Rattle.std.specs.Prelude.{◌≡◌, ◌<◌, ◌+◌, None, true, option_map, slice_index_or};
+ghost use Rattle.ucm_base.specs.Limits.{client_limit, entry_limit};
+ghost use Rattle.pm_types.specs.Steps.{after_call, repeat_of, reply_code, synced, with_entry, with_kept};
+ghost use Rattle.pm_types.specs.Stored.{IsInOrder};
+ghost use Rattle.node_core.specs.Core.{IsJudged, IsReady, IsSound, is_served, mark_of, node_of, reply_by, verdict_on};
+ghost use Rattle.node_core.specs.Packages.{package_reading};
+ghost use Rattle.node_core.specs.Places.{IsCopied};
 
-use pm_types::{Header, Phase};
-use std::alloc::{AllocError, Global};
+use crate::prepared::Prepared;
+use pm_types::{
+    Call, CallName, Clusters, EndMark, Happened, Kept, NewestLines, Reached, Reply, Session,
+    SessionMark, Status, Synced,
+};
+use std::cmp::Ordering;
 use std::marker::Model;
-use ucm_base::ClientId;
+use transfer_blocks::{Staging, Transfers};
+use ucm_base::{CallNo, ClientId};
 
-/// A transfer and the bytes that came, with those of an accepted block staged behind them.
+/// A node's state in memory, its areas, and what is ready for the next call.
 #[derive(Drop)]
-pub(crate) struct Held {
-    header: Header,
-    bytes: Vec<u8>,
+pub(crate) struct Held<S: Staging> {
+    pub(crate) staging: S,
+    pub(crate) status: Status,
+    pub(crate) transfers: Transfers,
+    pub(crate) running: Clusters,
+    pub(crate) session: Option<Session>,
+    pub(crate) last: [Option<Kept>; 32],
+    pub(crate) ended: [Option<EndMark>; 32],
+    pub(crate) entries: u64,
+    pub(crate) lines: NewestLines,
+    pub(crate) prepared: Prepared,
 }
 
-impl Model for Held {
-    ghost use Rattle.std.specs.Prelude.{◌≤◌, ◌+◌, [], take, drop, length};
-    ghost use Rattle.node_core.specs.Core.{Staged};
+impl<S: Staging> Model for Held<S> {
+    ghost use Rattle.node_core.specs.Core.{Holding};
 
-    ghost Value = { Staged };
+    ghost Value = { Holding };
 
     ghost view = { λ h. record {
-      transfer = record { header = h.header; bytes = take h.header.received h.bytes.items; parts = [] };
-      past = drop h.header.received h.bytes.items;
+      areas = S.areas h.staging;
+      faults = S.fault_count h.staging;
+      state = record {
+        status = h.status;
+        next_id = h.transfers.next_id;
+        running = h.running;
+        transfers = h.transfers.transfers;
+        session = h.session;
+        last = h.last;
+        ended = h.ended;
+        entries = h.entries;
+        lines = h.lines;
+      };
+      prepared = h.prepared;
     } };
-
-    ghost invariant = { λ h. (h.header.received ≤ length h.bytes.items) ×
-        (h.header.next_counter ≤ h.header.received + 1) };
 }
 
-impl Held {
-    /// A transfer that has just begun. It takes no memory.
-    pub(crate) fn new(alloc: Global, id: u32, client: ClientId, size: u64) -> Held
-        ensures { result ≡ record { transfer = record { header = fresh id client size; bytes = []; parts = [] }; past = [] } }
+impl<S: Staging> Held<S> {
+    /// What a call gives that isn't newer than the client's last one.
+    pub(crate) fn repeated(&self, client: ClientId, no: CallNo) -> Option<Reached>
+        ensures repeat { result ≡ repeat_of no (slice_index_or self.now.state.last client None) }
+        ensures client { client < client_limit }
     {
-        let header = Header {
-            id,
+        let place = client.number() as usize;
+        let kept = self.last[place]?;
+        match no.cmp(&kept.no) {
+            Ordering::Less => Some(Reached::Stale { last: kept.no }),
+            Ordering::Equal => Some(Reached::Again(kept.reply)),
+            Ordering::Greater => None,
+        }
+    }
+
+    /// Judges a newer call, keeps its number and reply, and writes its line.
+    pub(crate) fn execute(&mut self, client: ClientId, no: CallNo, call: &Call) -> Reply
+        requires served { is_served call.now ≡ true }
+        requires sound { IsSound self.old }
+        requires ready { IsReady self.old client call.now }
+        requires entries { self.old.state.entries < entry_limit }
+        ensures reply { result ≡ reply_by self.old client call.now }
+        ensures node { node_of self.new ≡ after_call (node_of self.old) client no call.now
+            (verdict_on self.old client call.now) result }
+        ensures order { IsInOrder package_reading self.new.areas self.new.state }
+        ensures copied { IsCopied package_reading self.new.areas self.new.state }
+        ensures faults { self.new.faults ≡ self.old.faults }
+        ensures entries { self.new.state.entries ≡ self.old.state.entries + 1 }
+    {
+        let reply = self.judge(client, call);
+        self.keep(client, no, call.name(), &reply);
+        reply
+    }
+
+    fn keep(&mut self, client: ClientId, no: CallNo, call: CallName, reply: &Reply)
+        requires entries { self.old.state.entries < entry_limit }
+        requires order { IsInOrder package_reading self.old.areas self.old.state }
+        requires copied { IsCopied package_reading self.old.areas self.old.state }
+        ensures node { node_of self.new
+            ≡ with_entry (Happened.Numbered client no call (reply_code reply.now))
+            (with_kept client no reply.now (node_of self.old)) }
+        ensures order { IsInOrder package_reading self.new.areas self.new.state }
+        ensures copied { IsCopied package_reading self.new.areas self.new.state }
+        ensures faults { self.new.faults ≡ self.old.faults }
+        ensures entries { self.new.state.entries ≡ self.old.state.entries + 1 }
+    {
+        self.last[client.number() as usize] = Some(Kept { no, reply: *reply });
+        let refusal = reply.code();
+        let happened = Happened::Numbered {
             client,
-            size,
-            received: 0,
-            next_counter: 1,
-            phase: Phase::Transferring,
+            no,
+            call,
+            refusal,
         };
-        Held {
-            header,
-            bytes: Vec::new(alloc),
+        self.lines.push(self.entries, happened);
+        self.entries += 1;
+    }
+
+    fn judge(&mut self, client: ClientId, call: &Call) -> Reply
+        requires served { is_served call.now ≡ true }
+        requires sound { IsSound self.old }
+        requires ready { IsReady self.old client call.now }
+        ensures judged { IsJudged self.old client call.now result self.new }
+        ensures faults { self.new.faults ≡ self.old.faults }
+    {
+        match call {
+            Call::Sync => Reply::Synced(self.synced(client)),
+            Call::TransferStart { size } => self.start(client, *size),
+            Call::TransferData { id, counter, bytes } => {
+                self.block(client, *id, *counter, bytes.as_slice())
+            }
+            Call::TransferExit { id } => self.exit(client, *id),
+            Call::DeleteTransfer { id } => self.delete(client, *id),
+            _ => unreachable!(),
         }
     }
 
-    /// What the transfer table reads of it.
-    pub(crate) fn header(&self) -> Header
-        ensures { result ≡ self.now.transfer.header }
+    fn synced(&self, client: ClientId) -> Synced
+        ensures { result ≡ synced (node_of self.now) client }
     {
-        self.header
-    }
-
-    /// Whether it is the transfer of the id.
-    pub(crate) fn has_id(&self, id: u32) -> bool
-        ensures { result ≡ (self.now.transfer.header.id == id) }
-    {
-        self.header.id == id
-    }
-
-    /// Stages a block behind the bytes that came, in place of what was staged there.
-    pub(crate) fn stage(&mut self, block: &[u8]) -> Result<(), AllocError>
-        ensures same { self.new.transfer ≡ self.old.transfer }
-        ensures staged { OnOk result (self.new.past ≡ block.now) }
-    {
-        self.bytes.truncate(self.header.received as usize);
-        self.bytes.extend_from_slice(block)
-    }
-
-    /// Stages a block where this is the transfer of the id.
-    pub(crate) fn stage_for(&mut self, id: u32, block: &[u8]) -> Result<(), AllocError>
-        ensures same { self.new.transfer ≡ self.old.transfer }
-        ensures staged { OnOk result (self.new.transfer.header.id ≡ id
-            → self.new.past ≡ block.now) }
-    {
-        if !self.has_id(id) {
-            return Ok(());
-        }
-        self.stage(block)
-    }
-
-    /// Takes the staged block where this is the transfer of the id.
-    pub(crate) fn accept_for(&mut self, id: u32, block: &[u8])
-        requires some { 0 < length block.now }
-        requires staged { self.old.transfer.header.id ≡ id → self.old.past ≡ block.now }
-        ensures { self.new.transfer ≡ accepted_block id block.now self.old.transfer }
-    {
-        if self.has_id(id) {
-            self.accept(block.len() as u64);
+        Synced {
+            session: self.session_mark(),
+            ended: self.ended[client.number() as usize],
+            transfers: self.transfers.ids(client),
         }
     }
 
-    /// Takes the first staged bytes as the next block.
-    pub(crate) fn accept(&mut self, size: u64)
-        requires some { 0 < size }
-        requires staged { size ≤ length self.old.past }
-        ensures transfer { self.new.transfer ≡ record self.old.transfer {
-          header = grown size self.old.transfer.header;
-          bytes = self.old.transfer.bytes ++ take size self.old.past;
-        } }
-        ensures past { self.new.past ≡ drop size self.old.past }
+    fn session_mark(&self) -> Option<SessionMark>
+        ensures { result ≡ option_map (mark_of self.now.state.status) self.now.state.session }
     {
-        self.header.received += size;
-        self.header.next_counter += 1;
+        match &self.session {
+            Some(session) => Some(SessionMark {
+                owner: session.owner,
+                tag: session.tag,
+                status: self.status,
+            }),
+            None => None,
+        }
     }
 }

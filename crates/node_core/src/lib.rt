@@ -1,13 +1,14 @@
-//! One node's calls, judged by its tables, in memory.
+//! One node's calls and units of work, judged by its tables, in memory.
 //!
-//! Layer: stands on `pm_types`, whose definitions it carries out; `ucm_prog` stands on it. Its one
-//! contract: after `reserve` one `exec` is one step of the definition, and takes no memory. So far
-//! it serves Sync and the calls that transfer a package, but for TransferExit.
+//! Layer: stands on `pm_types`, whose definitions it carries out, on `package_reader`, by which it reads what was
+//! transferred, and on `transfer_blocks`; `ucm_prog` stands on it. Its one contract: after `reserve` one `exec` is one
+//! step of the definition, and takes no memory.
 #![tactic(auto)]
 
+mod core;
 mod held;
-mod judge;
-mod node;
+mod prepared;
 mod transfers;
 
-pub use node::{Core, Hold};
+pub use core::{Core, Hold};
+pub use prepared::Prepared;

@@ -1,135 +1,117 @@
-//! The transfers of a node, with the next id.
-ghost use Rattle.std.specs.Prelude.{◌≡◌, ◌≤◌, ◌<◌, ◌+◌, ◌^◌, [], ◌∷◌, ◌++◌, ℕ, length, map, filter, find, not, ◌==◌, OnOk, IfOk, IfSome, None};
-ghost use Rattle.pm_types.specs.Transfers.{fresh, header_of, is_of};
-ghost use Rattle.ucm_base.specs.Limits.{transfer_limit};
-ghost use Rattle.node_core.specs.Core.{IsStaged, accepted_block, transfers_of};
+//! The calls that bring a package in blocks.
+ghost use Rattle.std.specs.Prelude.{◌≡◌, IfOk, OnOk, IsErrOf};
+ghost use Rattle.pm_types.specs.declared.calls.Call.TheVariants.{DeleteTransfer, TransferData, TransferExit, TransferStart};
+ghost use Rattle.transfer_blocks.specs.Faults.{HasRisen};
+ghost use Rattle.node_core.specs.Core.{IsJudged, IsKept, IsReady, IsSound};
+ghost use Rattle.node_core.specs.Packages.{package_reading};
+ghost use Rattle.node_core.specs.Prepared.{IsVerdict};
 
+use crate::core::Hold;
 use crate::held::Held;
-use pm_types::{Header, IdList};
+use crate::prepared::Prepared;
+use package_reader::{PackageFault, read_contents};
+use pm_types::{ExitVerdict, Part, Refusal, Reply};
 use std::alloc::{AllocError, Global};
-use std::marker::Model;
+use transfer_blocks::{Area, Staging};
 use ucm_base::ClientId;
 
-/// At most eight transfers with their bytes, by rising ids, seen as their list. It has room for
-/// them from its making.
-#[derive(Drop)]
-pub(crate) struct Transfers {
-    held: Vec<Held>,
+impl<S: Staging> Held<S> {
+    /// TransferStart.
+    pub(crate) fn start(&mut self, client: ClientId, size: u64) -> Reply
+        requires sound { IsSound self.old }
+        ensures judged { IsJudged self.old client (TransferStart size) result self.new }
+        ensures faults { self.new.faults ≡ self.old.faults }
+    {
+        self.transfers.start(client, size)
+    }
+
+    /// TransferData, of a block that lies behind the bytes that came.
+    pub(crate) fn block(&mut self, client: ClientId, id: u32, counter: u64, block: &[u8]) -> Reply
+        requires sound { IsSound self.old }
+        requires ready { IsReady self.old client (TransferData id counter block.now) }
+        ensures judged { IsJudged self.old client (TransferData id counter block.now)
+            result self.new }
+        ensures faults { self.new.faults ≡ self.old.faults }
+    {
+        self.transfers
+            .block(client, id, counter, block.len() as u64)
+    }
+
+    /// TransferExit, by the verdict that is ready.
+    pub(crate) fn exit(&mut self, client: ClientId, id: u32) -> Reply
+        requires sound { IsSound self.old }
+        requires ready { IsReady self.old client (TransferExit id) }
+        ensures judged { IsJudged self.old client (TransferExit id) result self.new }
+        ensures faults { self.new.faults ≡ self.old.faults }
+    {
+        let verdict = self.prepared.take_verdict();
+        self.transfers.exit(client, id, verdict)
+    }
+
+    /// DeleteTransfer.
+    pub(crate) fn delete(&mut self, client: ClientId, id: u32) -> Reply
+        requires sound { IsSound self.old }
+        ensures judged { IsJudged self.old client (DeleteTransfer id) result self.new }
+        ensures faults { self.new.faults ≡ self.old.faults }
+    {
+        self.transfers.delete(client, id)
+    }
+
+    /// Stages a block that the table accepts behind the bytes that came.
+    pub(crate) fn stage(
+        &mut self,
+        client: ClientId,
+        id: u32,
+        counter: u64,
+        block: &[u8],
+    ) -> Result<(), Hold>
+        requires sound { IsSound self.old }
+        ensures kept { IsKept self.old self.new }
+        ensures ready { OnOk result
+            (IsReady self.new client (TransferData id counter block.now)) }
+        ensures cause { IsErrOf result Hold.StagingFailed
+            → HasRisen self.old.faults self.new.faults }
+    {
+        let length = block.len() as u64;
+        let Some(found) = self.transfers.taking_block(client, id, counter, length) else {
+            return Ok(());
+        };
+        let area = Area::Transfer { slot: found.slot };
+        self.staging.put(area, found.header.received, block)?;
+        Ok(())
+    }
+
+    /// Reads the bytes of a transfer that can be closed, and keeps what they are.
+    pub(crate) fn read(&mut self, alloc: Global, client: ClientId, id: u32) -> Result<(), Hold>
+        requires sound { IsSound self.old }
+        ensures kept { IsKept self.old self.new }
+        ensures ready { OnOk result (IsReady self.new client (TransferExit id)) }
+        ensures cause { IsErrOf result Hold.StagingFailed
+            → HasRisen self.old.faults self.new.faults }
+    {
+        let Some(found) = self.transfers.ending(client, id) else {
+            return Ok(());
+        };
+        let area = Area::Transfer { slot: found.slot };
+        let bytes = self.staging.get(area, 0, found.header.received as usize)?;
+        self.prepared = Prepared::Verdict(verdict(alloc, bytes.as_slice())?);
+        Ok(())
+    }
 }
 
-impl Model for Transfers {
-    ghost use Rattle.std.specs.Prelude.{List, ◌≤◌, length, vec_capacity};
-    ghost use Rattle.node_core.specs.Core.{Staged};
-
-    ghost Value = { List Staged };
-
-    ghost view = { λ t. t.held.items };
-
-    ghost invariant = { λ t. (length t.held.items ≤ 8) × (8 ≤ vec_capacity t.held) };
-}
-
-impl Transfers {
-    /// No transfer.
-    pub(crate) fn new(alloc: Global) -> Result<Transfers, AllocError>
-        ensures { IfOk result (λ t. t ≡ []) }
-    {
-        let held = Vec::with_capacity(alloc, 8)?;
-        Ok(Transfers { held })
-    }
-
-    /// How many there are.
-    pub(crate) fn count(&self) -> u64
-        ensures count { result ≡ length self.now }
-        ensures few { result ≤ transfer_limit }
-    {
-        self.held.len() as u64
-    }
-
-    /// The client's transfer of this id, as the table reads it.
-    pub(crate) fn find(&self, client: ClientId, id: u32) -> Option<Header>
-        ensures { result ≡ header_of (find (λ t. is_of client id t.header)
-            (transfers_of self.now)) }
-    {
-        find_in(self.held.as_slice(), client, id)
-    }
-
-    /// The ids of the client's transfers.
-    pub(crate) fn ids(&self, client: ClientId) -> IdList
-        ensures { result ≡ map (λ t. t.header.id) (filter (λ t. t.header.client == client)
-            (transfers_of self.now)) }
-    {
-        let mut ids = IdList::new();
-        for held in &self.held {
-            let header = held.header();
-            if header.client == client {
-                ids.push(header.id);
-            }
+/// What the bytes of a transfer are.
+fn verdict(alloc: Global, bytes: &[u8]) -> Result<ExitVerdict, AllocError>
+    ensures { IfOk result (λ v. IsVerdict v (package_reading bytes.now)) }
+{
+    match read_contents(alloc, bytes) {
+        Ok(package) => Ok(ExitVerdict::Good(Part {
+            manifest: package.manifest,
+            payload: package.payload.len() as u32,
+        })),
+        Err(PackageFault::PackageInconsistent { place }) => {
+            Ok(ExitVerdict::Bad(Refusal::PackageInconsistent { place }))
         }
-        ids
-    }
-
-    /// A transfer begins. It takes no memory.
-    pub(crate) fn start(&mut self, alloc: Global, id: u32, client: ClientId, size: u64)
-        requires { length self.old < transfer_limit }
-        ensures { transfers_of self.new
-            ≡ transfers_of self.old
-            ++ record { header = fresh id client size; bytes = []; parts = [] } ∷ [] }
-    {
-        let held = Held::new(alloc, id, client, size);
-        self.held.push(held).unwrap();
-    }
-
-    /// Stages a block behind the bytes of the transfer of this id.
-    pub(crate) fn stage(&mut self, id: u32, block: &[u8]) -> Result<(), AllocError>
-        ensures same { transfers_of self.new ≡ transfers_of self.old }
-        ensures staged { OnOk result (IsStaged id block.now self.new) }
-    {
-        stage_in(self.held.as_mut_slice(), id, block)
-    }
-
-    /// The transfer of this id takes the staged block. It takes no memory.
-    pub(crate) fn accept(&mut self, id: u32, block: &[u8])
-        requires some { 0 < length block.now }
-        requires staged { IsStaged id block.now self.old }
-        ensures { transfers_of self.new
-            ≡ map (accepted_block id block.now) (transfers_of self.old) }
-    {
-        accept_in(self.held.as_mut_slice(), id, block);
-    }
-
-    /// The transfer of this id is gone.
-    pub(crate) fn remove(&mut self, id: u32)
-        ensures { transfers_of self.new
-            ≡ filter (λ t. not (t.header.id == id)) (transfers_of self.old) }
-    {
-        self.held.retain(|held| !held.has_id(id));
-    }
-}
-
-fn find_in(all: &[Held], client: ClientId, id: u32) -> Option<Header>
-    ensures { result ≡ find (is_of client id) (map (λ h. h.transfer.header) all.now) }
-{
-    all.iter()
-        .map(|held| held.header())
-        .find(|h| h.id == id && h.client == client)
-}
-
-fn stage_in(all: &mut [Held], id: u32, block: &[u8]) -> Result<(), AllocError>
-    ensures same { transfers_of all.new ≡ transfers_of all.old }
-    ensures staged { OnOk result (IsStaged id block.now all.new) }
-{
-    for held in all.iter_mut() {
-        held.stage_for(id, block)?;
-    }
-    Ok(())
-}
-
-fn accept_in(all: &mut [Held], id: u32, block: &[u8])
-    requires some { 0 < length block.now }
-    requires staged { IsStaged id block.now all.old }
-    ensures { transfers_of all.new ≡ map (accepted_block id block.now) (transfers_of all.old) }
-{
-    for held in all.iter_mut() {
-        held.accept_for(id, block);
+        Err(PackageFault::InvalidManifest) => Ok(ExitVerdict::Bad(Refusal::InvalidManifest)),
+        Err(PackageFault::OutOfMemory) => Err(AllocError),
     }
 }

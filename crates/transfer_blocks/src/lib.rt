@@ -13,6 +13,7 @@ mod found;
 mod judge;
 mod lookup;
 mod mem;
+mod ready;
 mod staging;
 mod transfers;
 

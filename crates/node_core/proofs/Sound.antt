@@ -1,0 +1,136 @@
+-- A sound node has a table, and each step leaves it sound.
+use Rattle.std.proofs.Common.{◌≡◌, refl, sym, subst, ap, ◌∙◌, ℕ, ◌<◌, ◌≤◌, Bool, true, List, [], ◌∷◌, length, map, filter, arith}
+use Rattle.std.specs.Prelude.{◌==◌, ◌&&◌, not, option_map, slice_index_or, Option, Some, None, Result, Ok, Err, IsTrue}
+use Rattle.std.specs.List.{AllByRecursion, list_all}
+use Rattle.std.specs.declared.cmp.Ordering.{Ordering}
+use Rattle.std.specs.declared.cmp.Ordering.TheVariants.{Less, Equal, Greater}
+use Rattle.std.proofs.lemmas.Bool.Decides.{nat_tests}
+use Rattle.std.proofs.lemmas.List.{length-map}
+use Rattle.ucm_base.specs.declared.ids.CallNo.{CallNo}
+use Rattle.ucm_base.specs.Limits.{client_limit, package_limit, transfer_limit}
+use Rattle.ucm_base.specs.Names.{all_differ}
+use Rattle.ucm_base.specs.Parts.{Bytes}
+use Rattle.pm_types.specs.declared.calls.Call.{Call}
+use Rattle.pm_types.specs.declared.clusters.Part.{Part}
+use Rattle.pm_types.specs.declared.replies.Reached.{Reached}
+use Rattle.pm_types.specs.declared.replies.Reached.TheVariants.{Done as Answered}
+use Rattle.pm_types.specs.declared.replies.Reply.{Reply}
+use Rattle.pm_types.specs.declared.replies.SessionMark.{SessionMark}
+use Rattle.pm_types.specs.declared.state.Kept.{Kept}
+use Rattle.pm_types.specs.NodeState.{NodeState, SessionOf, Transfer, of_client}
+use Rattle.pm_types.specs.declared.clusters.Extent.{Extent}
+use Rattle.pm_types.specs.Clusters.{cluster_of}
+use Rattle.pm_types.specs.Steps.{synced, after_call, by_last, by_order, executed, call_no_cmp, repeat_by, repeat_of, reply_to, step}
+use Rattle.pm_types.specs.Stored.{session_meaning, slots_differ, transfer_meaning}
+use Rattle.pm_types.specs.Transfers.{Verdict, ids_of}
+use Rattle.pm_types.specs.Validity.{IsSound as IsSoundTransfer, numbers_rise}
+use Rattle.package_reader.specs.declared.fault.PackageFault.{PackageFault}
+use Rattle.package_reader.specs.declared.package.Package.{Package}
+use Rattle.package_reader.specs.Reading.{reading}
+use Rattle.transfer_blocks.specs.Table.{IsBounded, IsTable, stored_ids}
+use Rattle.node_laws.specs.Fit.{IsFit, IsReading}
+use Rattle.node_laws.proofs.Kept.{keeps-fit}
+use Rattle.node_laws.proofs.Lists.{each-both, each-unmap, rise-above, rise-tail}
+use Rattle.node_core.specs.Core.{Holding, IsSound, mark_of, node_of, reply_by, step_by, table_of, verdict_on}
+use Rattle.node_core.specs.Packages.{package_reading, verdict_of}
+use Rattle.node_core.proofs.Stored.{ids, ids-mean, filtered-means}
+
+-- a package has one part
+pub reading-is : IsReading package_reading
+reading-is = record { parts_of = λ bytes parts e. of (reading bytes) parts e }
+  where
+    one : (part : Part Bytes) (parts : List (Part Bytes)) → part ∷ [] ≡ parts → (0 < length parts) × IsTrue (all_differ (map cluster_of parts))
+    one part parts e = subst (λ l. (0 < length l) × IsTrue (all_differ (map cluster_of l))) e (omega arith, refl)
+
+    of : (r : Result Package PackageFault) (parts : List (Part Bytes)) → verdict_of r ≡ Ok parts → (0 < length parts) × IsTrue (all_differ (map cluster_of parts))
+    of (Ok p) parts e = one (record { manifest = p.manifest; payload = p.payload }) parts cc
+    of (Err f) parts e = absurd (cc)
+
+-- rising numbers differ
+pub rising-differ : (ns : List ℕ) → numbers_rise ns ≡ true → slots_differ ns ≡ true
+rising-differ [] r = refl
+rising-differ (n ∷ ns) r = both _ _ (others ns (rise-above n ns r)) (rising-differ ns (rise-tail n ns r))
+  where
+    both : (a b : Bool) → a ≡ true → b ≡ true → (a && b) ≡ true
+    both a b e f = ap (λ x. x && b) e ∙ f
+
+    apart : (m : ℕ) → n < m → not (m == n) ≡ true
+    apart m lt = grind (arith, nat_tests, lt)
+
+    others : (ms : List ℕ) → AllByRecursion (λ m. n < m) ms → list_all (λ m. not (m == n)) ms ≡ true
+    others [] above = refl
+    others (m ∷ ms) above = both _ _ (apart m above.0) (others ms above.1)
+
+-- the transfers of a sound node are a table
+pub table-is : (v : Holding) → IsSound v → IsTable (table_of v.state)
+table-is v sound =
+    let ts = sound.fit.consistent.transfers in
+    let limits = sound.fit.consistent.limits in
+    let means = transfer_meaning package_reading v.areas in
+    let each = each-unmap (IsSoundTransfer v.state.next_id) means v.state.transfers ts.each in
+    let sizes = each-unmap (λ (t : Transfer). (t.header.size ≤ package_limit) × (t.header.client < client_limit)) means v.state.transfers limits.sizes in
+    record {
+      few = subst (λ n. n ≤ transfer_limit) (length-map v.state.transfers means) limits.transfers;
+      each = each-both _ _ _ (λ t k rest. rest k) v.state.transfers each
+          (each-both _ _ (λ t. IsSoundTransfer v.state.next_id (means t) → IsBounded v.state.next_id t) (λ t placed size k. record { id = k.id.1; received = k.size; size = size.0; counter = k.counter.1; slot = placed.slot }) v.state.transfers sound.order.transfers sizes);
+      ids = rising-differ (ids v.state.transfers) (ap numbers_rise (sym (ids-mean package_reading v.areas v.state.transfers)) ∙ ts.rise);
+      slots = sound.order.slots;
+    }
+
+-- a newer call is executed
+pub step-is : (s : NodeState) (client : ℕ) (at : CallNo) (call : Call) (w : Verdict) → repeat_of at (of_client s.last client) ≡ None
+    → step s client at call w ≡ (after_call s client at call w (reply_to s client call w), Answered (reply_to s client call w))
+step-is s client at call w none = of (of_client s.last client) none
+  where
+    by : (kept : Kept) (o : Ordering) (done : NodeState × Reached) → repeat_by kept o ≡ None → by_order s done kept o ≡ done
+    by kept Less done e = absurd (cc)
+    by kept Equal done e = absurd (cc)
+    by kept Greater done e = refl
+
+    of : (o : Option Kept) → repeat_of at o ≡ None → by_last s (executed s client at call w) at o ≡ executed s client at call w
+    of None e = refl
+    of (Some kept) e = by kept (call_no_cmp at kept.no) (executed s client at call w) e
+
+-- a repeat changes nothing
+pub repeat-is : (s : NodeState) (client : ℕ) (at : CallNo) (call : Call) (w : Verdict) (reached : Reached) → repeat_of at (of_client s.last client) ≡ Some reached → step s client at call w ≡ (s, reached)
+repeat-is s client at call w reached some = of (of_client s.last client) some
+  where
+    by : (kept : Kept) (o : Ordering) (done : NodeState × Reached) → repeat_by kept o ≡ Some reached → by_order s done kept o ≡ (s, reached)
+    by kept Less done e = ap (λ r. (s, r)) (cc)
+    by kept Equal done e = ap (λ r. (s, r)) (cc)
+    by kept Greater done e = absurd (cc)
+
+    of : (o : Option Kept) → repeat_of at o ≡ Some reached → by_last s (executed s client at call w) at o ≡ (s, reached)
+    of None e = absurd (cc)
+    of (Some kept) e = by kept (call_no_cmp at kept.no) (executed s client at call w) e
+
+-- a step leaves the node fit
+pub step-fit : (v : Holding) (client : ℕ) (at : CallNo) (call : Call) → client < client_limit → IsSound v → IsFit package_reading (step_by v client at call).0
+step-fit v client at call low sound = (keeps-fit package_reading reading-is).step (node_of v) client at call low sound.fit
+
+-- an executed call leaves it fit
+pub executed-fit : (v new : Holding) (client : ℕ) (at : CallNo) (call : Call) (reply : Reply) → client < client_limit → IsSound v → repeat_of at (of_client v.state.last client) ≡ None → reply ≡ reply_by v client call
+    → node_of new ≡ after_call (node_of v) client at call (verdict_on v client call) reply → IsFit package_reading (node_of new)
+executed-fit v new client at call reply low sound none answers node =
+    let s = node_of v in
+    let w = verdict_on v client call in
+    subst (IsFit package_reading) (ap (λ z. z.0) (step-is s client at call w none) ∙ ap (after_call s client at call w) (sym answers) ∙ sym node) (step-fit v client at call low sound)
+
+-- the ids of a client's transfers are those of what they mean
+pub ids-shown : (v : Holding) (client : ℕ) → stored_ids v.state.transfers client ≡ ids_of (node_of v) client
+ids-shown v client =
+    let means = transfer_meaning package_reading v.areas in
+    sym (ids-mean package_reading v.areas (filter (λ t. t.header.client == client) v.state.transfers)) ∙ ap (map (λ (t : Transfer). t.header.id)) (filtered-means package_reading v.areas (λ h. h.client == client) v.state.transfers)
+
+-- what Sync shows of a node
+pub synced-shown : {v w : Holding} → v ≡ w → (client place : ℕ) (session : Option SessionMark) (ids : List ℕ) → session ≡ option_map (mark_of w.state.status) w.state.session → place ≡ client → ids ≡ stored_ids v.state.transfers client
+    → record { session = session; ended = slice_index_or v.state.ended place None; transfers = ids } ≡ synced (node_of w) client
+synced-shown {v = v} {w = w} e client place session ids marks here shown =
+    ap (λ n. record { session = session; ended = slice_index_or v.state.ended n None; transfers = ids }) here
+    ∙ ap (λ l. record { session = session; ended = slice_index_or v.state.ended client None; transfers = l }) (shown ∙ ids-shown v client)
+    ∙ ap (λ (x : Holding). record { session = session; ended = slice_index_or x.state.ended client None; transfers = ids_of (node_of x) client }) e
+    ∙ ap (λ x. record { session = x; ended = slice_index_or w.state.ended client None; transfers = ids_of (node_of w) client }) (marks ∙ of w.state.session)
+  where
+    of : (o : Option (SessionOf Extent)) → option_map (mark_of w.state.status) o ≡ option_map (mark_of w.state.status) (option_map (session_meaning w.areas) o)
+    of None = refl
+    of (Some x) = refl

@@ -1,0 +1,183 @@
+-- What a put behind a transfer's bytes leaves of a node.
+use Rattle.std.proofs.Common.{◌≡◌, ◌≢◌, ◌⊎◌, inl, inr, refl, sym, subst, ap, ◌∙◌, ℕ, ◌<◌, ◌≤◌, ◌+◌, ◌*◌, Bool, true, false, List, [], ◌∷◌, length, map, take, cond, arith, zero-add}
+use Rattle.std.specs.Prelude.{◌==◌, not, Option, Some, None, find, option_map, slice_range}
+use Rattle.std.specs.Option.{option_map_or}
+use Rattle.std.proofs.lemmas.Bool.Decides.{nat_tests}
+use Rattle.std.specs.List.{AllByRecursion, list_all}
+use Rattle.std.proofs.lemmas.Bool.{and_parts, eqb-false}
+use Rattle.std.proofs.lemmas.List.{length-take}
+use Rattle.ucm_base.specs.declared.parts.Action.{Action}
+use Rattle.ucm_base.specs.declared.parts.Action.TheVariants.{Install, Update, Remove}
+use Rattle.ucm_base.specs.declared.parts.Manifest.{Manifest}
+use Rattle.ucm_base.specs.Limits.{block_limit, package_limit, transfer_limit}
+use Rattle.ucm_base.specs.Parts.{Bytes}
+use Rattle.pm_types.specs.declared.status.Phase.{Phase}
+use Rattle.pm_types.specs.declared.status.Phase.TheVariants.{Transferring, Transferred, Processing, Processed}
+use Rattle.pm_types.specs.NodeState.{Transfer as NodeTransfer}
+use Rattle.pm_types.specs.Validity.{IsSound as IsSoundTransfer}
+use Rattle.pm_types.specs.declared.state.StoredTransfer.{StoredTransfer}
+use Rattle.pm_types.specs.Stored.{Areas, IsInOrder, meaning, slots_differ, transfer_meaning}
+use Rattle.pm_types.specs.Transfers.{data_refusals, exit_refusals, is_of}
+use Rattle.transfer_blocks.specs.declared.area.Area.TheVariants.{Transfer}
+use Rattle.pm_types.specs.declared.calls.Call.TheVariants.{TransferData, TransferExit}
+use Rattle.pm_types.specs.declared.transfers.ExitVerdict.{ExitVerdict}
+use Rattle.pm_types.specs.Refusals.{first_refusal}
+use Rattle.transfer_blocks.specs.declared.found.Found.{Found}
+use Rattle.transfer_blocks.specs.Areas.{AreasFit, LeavesOutside, content_of, overwritten, with_content}
+use Rattle.transfer_blocks.specs.Table.{found_of, slots_of, stored_header, stored_of}
+use Rattle.transfer_blocks.proofs.Areas.{content-here}
+use Rattle.transfer_blocks.proofs.Bytes.{front_slice, slice-overwritten}
+use Rattle.transfer_blocks.proofs.Meanings.{transfer-stands}
+use Rattle.node_laws.proofs.Lists.{each-both, each-imp, each-unmap, found-has}
+use Rattle.node_laws.proofs.Refusals.{not-true}
+use Rattle.node_core.specs.Core.{Holding, IsBehind, IsKept, IsReady, IsSound, node_of}
+use Rattle.node_core.specs.declared.prepared.Prepared.{Prepared}
+use Rattle.node_core.specs.declared.prepared.Prepared.TheVariants.{Verdict as Judged}
+use Rattle.node_core.specs.Prepared.{IsVerdict}
+use Rattle.node_core.specs.Packages.{package_reading}
+use Rattle.node_core.specs.Places.{IsCopied, IsCopiedIn, IsPartCopied, goes_to, units_done}
+use Rattle.node_core.proofs.Stored.{found-means, header-means, only-has}
+use Rattle.node_core.proofs.Judged.{data-same, rise}
+use Rattle.node_core.proofs.Sound.{table-is}
+
+-- a transfer is the one that was found, or lies in another slot
+pub apart : (client id : ℕ) (ts : List StoredTransfer) (u : StoredTransfer) → slots_differ (slots_of ts) ≡ true → stored_of ts client id ≡ Some u → AllByRecursion (λ t. (t.slot ≢ u.slot) ⊎ (t ≡ u)) ts
+apart client id [] u d e = tt
+apart client id (t ∷ ts) u d e = go (is_of client id t.header) e (apart client id ts u (and_parts _ _ d).1)
+  where
+    others : (us : List StoredTransfer) → list_all (λ slot. not (slot == t.slot)) (slots_of us) ≡ true → AllByRecursion (λ v. v.slot ≢ t.slot) us
+    others [] q = tt
+    others (v ∷ us) q = (λ same. eqb-false _ _ (not-true _ (and_parts (not (v.slot == t.slot)) _ q).0) same, others us (and_parts (not (v.slot == t.slot)) _ q).1)
+
+    rest : AllByRecursion (λ v. v.slot ≢ t.slot) ts
+    rest = others ts (and_parts _ _ d).0
+
+    go : (b : Bool) → cond b (Some t) (stored_of ts client id) ≡ Some u → (stored_of ts client id ≡ Some u → AllByRecursion (λ v. (v.slot ≢ u.slot) ⊎ (v ≡ u)) ts) → AllByRecursion (λ v. (v.slot ≢ u.slot) ⊎ (v ≡ u)) (t ∷ ts)
+    go true k rec = let same : t ≡ u = cc in (inr same, each-imp _ _ (λ v differ. inl (subst (λ w. v.slot ≢ w.slot) same differ)) ts rest)
+    go false k rec = (inl (λ same. (found-has (λ v. is_of client id v.header) (λ v. v.slot ≢ t.slot) ts u rest k).1 (sym same)), rec k)
+
+-- areas with other slots hold the same on every side
+side-stands : (v : Holding) (slots : List Bytes) (m : Manifest) (a : Action) → content_of (goes_to v.state m a) (record v.areas { slots = slots }) ≡ content_of (goes_to v.state m a) v.areas
+side-stands v slots m Install = refl
+side-stands v slots m Update = refl
+side-stands v slots m Remove = refl
+
+-- what is copied stays copied
+copied-stands : (v : Holding) (slots : List Bytes) (t : StoredTransfer) (phase : Phase) → transfer_meaning package_reading (record v.areas { slots = slots }) t ≡ transfer_meaning package_reading v.areas t → IsCopiedIn package_reading v.areas v.state t phase
+    → IsCopiedIn package_reading (record v.areas { slots = slots }) v.state t phase
+copied-stands v slots t Processing same copied =
+    subst (λ (m : NodeTransfer). AllByRecursion (IsPartCopied (record v.areas { slots = slots }) v.state) m.parts) (sym same)
+    (each-imp _ _ (λ part c. ap (take (units_done v.state * block_limit)) (side-stands v slots part.manifest part.manifest.action) ∙ c) _ copied)
+copied-stands v slots t Transferring same copied = tt
+copied-stands v slots t Transferred same copied = tt
+copied-stands v slots t Processed same copied = tt
+
+-- what a put behind the bytes that came of the transfer that was found leaves
+pub record IsLeft (v : Holding) (areas : Areas) : Type 0 where
+  pub node : meaning package_reading areas v.state ≡ node_of v
+  pub order : IsInOrder package_reading areas v.state
+  pub copied : IsCopied package_reading areas v.state
+
+-- where every transfer means the same
+same-left : (v : Holding) (slots : List Bytes) → IsSound v → AllByRecursion (λ t. transfer_meaning package_reading (record v.areas { slots = slots }) t ≡ transfer_meaning package_reading v.areas t) v.state.transfers → IsLeft v (record v.areas { slots = slots })
+same-left v slots sound each = record {
+  node = ap (λ ts. record (node_of v) { transfers = ts }) (maps v.state.transfers each);
+  order = record {
+    clusters = sound.order.clusters;
+    session = sound.order.session;
+    transfers = each-both _ _ _ (λ t same placed. record { slot = placed.slot; contents = placed.contents ∙ ap (λ (m : NodeTransfer). map (λ part. record { manifest = part.manifest; payload = length part.payload }) m.parts) (sym same) }) v.state.transfers each sound.order.transfers;
+    slots = sound.order.slots;
+    places = sound.order.places;
+    running = sound.order.running;
+  };
+  copied = each-both _ _ _ (λ t same copied. copied-stands v slots t t.header.phase same copied) v.state.transfers each sound.copied;
+}
+  where
+    maps : (ts : List StoredTransfer) → AllByRecursion (λ t. transfer_meaning package_reading (record v.areas { slots = slots }) t ≡ transfer_meaning package_reading v.areas t) ts → map (transfer_meaning package_reading (record v.areas { slots = slots })) ts ≡ map (transfer_meaning package_reading v.areas) ts
+    maps [] each = refl
+    maps (t ∷ ts) each = ap (λ m. m ∷ map (transfer_meaning package_reading (record v.areas { slots = slots })) ts) each.0 ∙ ap (λ ms. transfer_meaning package_reading v.areas t ∷ ms) (maps ts each.1)
+
+module _ (v : Holding) (sound : IsSound v) (client id : ℕ) (u : StoredTransfer) (e : stored_of v.state.transfers client id ≡ Some u) where
+  -- its slot is one
+  pub slot-is : u.slot < transfer_limit
+  slot-is = (found-has (λ t. is_of client id t.header) (λ t. t.slot < transfer_limit) v.state.transfers u (each-imp _ _ (λ t placed. placed.slot) v.state.transfers sound.order.transfers) e).1
+
+  -- its bytes lie there
+  pub came-lies : u.header.received ≤ length (content_of (Transfer u.slot) v.areas)
+  came-lies =
+      let each = each-unmap (IsSoundTransfer v.state.next_id) (transfer_meaning package_reading v.areas) v.state.transfers sound.fit.consistent.transfers.each in
+      let own = (found-has (λ t. is_of client id t.header) (λ t. IsSoundTransfer v.state.next_id (transfer_meaning package_reading v.areas t)) v.state.transfers u each e).1 in
+      let width = length-take u.header.received (content_of (Transfer u.slot) v.areas) in
+      omega (arith, own.bytes, width)
+
+  pub put-leaves-node : (fit : AreasFit v.areas) (n : ℕ) (areas : Areas) → LeavesOutside (Transfer u.slot) u.header.received n v.areas areas → IsLeft v areas
+  put-leaves-node fit n areas left =
+      let each = each-both _ _ _ (λ t placed where_is. transfer-stands u.slot u.header.received n v.areas areas slot-is fit left package_reading t placed.slot (or-came t where_is)) v.state.transfers sound.order.transfers (apart client id v.state.transfers u sound.order.slots e) in
+      subst (IsLeft v) (sym left.elsewhere) (same-left v _ sound (each-imp _ _ (λ t same. ap (λ z. transfer_meaning package_reading z t) (sym left.elsewhere) ∙ same) v.state.transfers each))
+    where
+      or-came : (t : StoredTransfer) → (t.slot ≢ u.slot) ⊎ (t ≡ u) → (t.slot ≢ u.slot) ⊎ (t.header.received ≤ u.header.received)
+      or-came t (inl differ) = inl differ
+      or-came t (inr same) = inr (omega (arith, ap (λ (x : StoredTransfer). x.header.received) same))
+
+-- a look-up is that of a stored transfer
+stored-found : (o : Option StoredTransfer) (f : Found) → option_map (λ t. record { header = t.header; slot = t.slot }) o ≡ Some f → (u : StoredTransfer) × (o ≡ Some u) × (f ≡ record { header = u.header; slot = u.slot })
+stored-found None f e = absurd (cc)
+stored-found (Some u) f e = (u, refl, cc)
+
+-- what a put leaves is kept
+pub kept-of : (v : Holding) (areas : Areas) (faults : ℕ) (p : Prepared) → v.faults ≤ faults → IsLeft v areas → IsKept v (record { areas = areas; faults = faults; state = v.state; prepared = p })
+kept-of v areas faults p more left = record { state = refl; node = left.node; order = left.order; copied = left.copied; faults = more }
+
+-- a call that is refused needs nothing
+pub refused-block : {v w : Holding} → v ≡ w → (client id counter : ℕ) (block : Bytes) → first_refusal (data_refusals (stored_header v.state.transfers client id) counter (length block)) ≢ None → IsReady w client (TransferData id counter block)
+refused-block {w = w} e client id counter block refused none =
+    absurd (refused (ap (λ (x : Holding). first_refusal (data_refusals (stored_header x.state.transfers client id) counter (length block))) e ∙ sym (data-same w client id counter block) ∙ none))
+
+pub refused-exit : {v w : Holding} → v ≡ w → (client id : ℕ) → first_refusal (exit_refusals (stored_header v.state.transfers client id)) ≢ None → IsReady w client (TransferExit id)
+refused-exit {w = w} e client id refused none =
+    absurd (refused (ap (λ (x : Holding). first_refusal (exit_refusals (stored_header x.state.transfers client id))) e ∙ ap (λ h. first_refusal (exit_refusals h)) (sym (header-means package_reading w.areas client id w.state.transfers)) ∙ none))
+
+module _ (v : Holding) (sound : IsSound v) (client id : ℕ) (f : Found) (e : found_of v.state.transfers client id ≡ Some f) where
+  there : (u : StoredTransfer) × (stored_of v.state.transfers client id ≡ Some u) × (f ≡ record { header = u.header; slot = u.slot })
+  there = stored-found (stored_of v.state.transfers client id) f e
+
+  pub found-slot : f.slot < transfer_limit
+  found-slot = subst (λ (x : Found). x.slot < transfer_limit) (sym there.2) (slot-is v sound client id there.0 there.1)
+
+  pub found-lies : f.header.received ≤ length (content_of (Transfer f.slot) v.areas)
+  found-lies = subst (λ (x : Found). x.header.received ≤ length (content_of (Transfer x.slot) v.areas)) (sym there.2) (came-lies v sound client id there.0 there.1)
+
+  pub found-fits : f.header.size ≤ package_limit
+  found-fits = subst (λ (x : Found). x.header.size ≤ package_limit) (sym there.2)
+      (found-has (λ t. is_of client id t.header) (λ t. t.header.size ≤ package_limit) v.state.transfers there.0 (each-imp _ _ (λ t bounded. bounded.size) v.state.transfers (table-is v sound).each) there.1).1
+
+  pub found-left : AreasFit v.areas → (n : ℕ) (areas : Areas) → LeavesOutside (Transfer f.slot) f.header.received n v.areas areas → IsLeft v areas
+  found-left fit n areas left = put-leaves-node v sound client id there.0 there.1 fit n areas (subst (λ (x : Found). LeavesOutside (Transfer x.slot) x.header.received n v.areas areas) there.2 left)
+
+  -- a block that was put is ready
+  pub put-ready : AreasFit v.areas → (counter : ℕ) (block : Bytes) (areas : Areas) (faults : ℕ) (p : Prepared) → areas ≡ with_content (Transfer f.slot) (overwritten f.header.received block (content_of (Transfer f.slot) v.areas)) v.areas
+      → IsReady (record { areas = areas; faults = faults; state = v.state; prepared = p }) client (TransferData id counter block)
+  put-ready fit counter block areas faults p put none =
+      each-imp _ _ (λ t behind same. behind (eqb-of t.header.id id same)) v.state.transfers
+      (only-has (IsBehind areas block) client id v.state.transfers there.0 (rise v sound) there.1
+      (subst (λ (x : Found). slice_range (content_of (Transfer x.slot) areas) x.header.received (x.header.received + length block) ≡ block) there.2
+      (ap (λ a. slice_range (content_of (Transfer f.slot) a) f.header.received (f.header.received + length block)) put
+      ∙ ap (λ c. slice_range c f.header.received (f.header.received + length block)) (content-here (Transfer f.slot) v.areas found-slot fit _)
+      ∙ slice-overwritten f.header.received block (content_of (Transfer f.slot) v.areas) found-lies)))
+    where
+      eqb-of : (a b : ℕ) → a ≡ b → (a == b) ≡ true
+      eqb-of a b same = grind (arith, nat_tests, same)
+
+  -- a verdict on the bytes that were got is ready
+  pub got-ready : (bytes : Bytes) (verdict : ExitVerdict) (areas : Areas) (faults : ℕ) → areas ≡ v.areas → bytes ≡ slice_range (content_of (Transfer f.slot) v.areas) 0 (0 + f.header.received) → IsVerdict verdict (package_reading bytes)
+      → IsReady (record { areas = areas; faults = faults; state = v.state; prepared = Judged verdict }) client (TransferExit id)
+  got-ready bytes verdict areas faults same got judged none =
+      subst (IsVerdict verdict)
+      (ap package_reading (got ∙ ap (slice_range (content_of (Transfer f.slot) v.areas) 0) (zero-add f.header.received) ∙ front_slice f.header.received (content_of (Transfer f.slot) v.areas) ∙ ap (λ (x : Found). take x.header.received (content_of (Transfer x.slot) v.areas)) there.2)
+      ∙ sym (ap (λ a. package_reading (option_map_or (λ t. t.bytes) (find (λ t. is_of client id t.header) (map (transfer_meaning package_reading a) v.state.transfers)) [])) same
+      ∙ ap (λ o. package_reading (option_map_or (λ t. t.bytes) o [])) (found-means package_reading v.areas client id v.state.transfers ∙ ap (option_map (transfer_meaning package_reading v.areas)) there.1)))
+      judged
+
+-- the same of an equal node
+pub kept-from : {v w new : Holding} → v ≡ w → IsKept v new → IsKept w new
+kept-from {new = new} e k = subst (λ v. IsKept v new) e k

@@ -1,0 +1,10 @@
+use Rattle.std.proofs.Common.{sym, subst}
+use Rattle.pm_types.specs.declared.calls.Call.TheVariants.{TransferData}
+use Rattle.node_core.specs.Core.{IsReady, IsSound}
+use Rattle.node_core.proofs.Judged.{block-judged, judged-of}
+use Rattle.node_core.proofs.held.Held.block.Goals as goal
+
+pub returns-clause-judged : goal.returns-clause-judged
+returns-clause-judged g c = judged-of c.self.view_is
+    (block-judged _ c.args.client c.args.id c.args.counter c.args.block.now c.block.result c.block.new.self (subst IsSound (sym c.self.view_is) c.requires.sound)
+    (subst (λ v. IsReady v c.args.client (TransferData c.args.id c.args.counter c.args.block.now)) (sym c.self.view_is) c.requires.ready) c.block.ensures.form c.block.ensures.reply c.block.ensures.table)

@@ -1,0 +1,15 @@
+use Rattle.std.proofs.Common.{⊎_elim, refl, sym, ap, subst, ◌∙◌, length, Err}
+use Rattle.pm_types.specs.declared.replies.Refusal.TheVariants.{PackageInconsistent, InvalidManifest}
+use Rattle.pm_types.specs.declared.transfers.ExitVerdict.TheVariants.{Good, Bad}
+use Rattle.node_core.specs.Packages.{verdict_of}
+use Rattle.node_core.specs.Prepared.{IsVerdict}
+use Rattle.node_core.proofs.transfers.verdict.Goals as goal
+
+pub returns-in-Ok : goal.returns-in-Ok
+returns-in-Ok c = subst (IsVerdict (Good (record { manifest = c.in-Ok.package.manifest; payload = length c.in-Ok.package.payload.now }))) (sym (ap verdict_of c.in-Ok.ensures.ok)) refl
+
+pub returns-in-Err-PackageInconsistent : goal.returns-in-Err-PackageInconsistent
+returns-in-Err-PackageInconsistent c = ⊎_elim (λ q. absurd (cc)) (λ r. subst (IsVerdict (Bad (PackageInconsistent c.in-Err-PackageInconsistent.place))) (sym (ap verdict_of r ∙ ap (λ e. verdict_of (Err e)) c.in-Err-PackageInconsistent.field-0-is)) refl) c.in-Err-PackageInconsistent.ensures.err
+
+pub returns-in-Err-InvalidManifest : goal.returns-in-Err-InvalidManifest
+returns-in-Err-InvalidManifest c = ⊎_elim (λ q. absurd (cc)) (λ r. subst (IsVerdict (Bad InvalidManifest)) (sym (ap verdict_of r ∙ ap (λ e. verdict_of (Err e)) c.in-Err-InvalidManifest.field-0-is)) refl) c.in-Err-InvalidManifest.ensures.err

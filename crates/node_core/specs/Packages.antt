@@ -1,0 +1,25 @@
+-- How a node reads the bytes of a transfer.
+use Rattle.std.specs.Prelude.{[], ◌∷◌, Result, Ok, Err}
+use Rattle.pm_types.specs.declared.replies.Refusal.{Refusal}
+use Rattle.pm_types.specs.declared.replies.Refusal.TheVariants.{PackageInconsistent, InvalidManifest}
+use Rattle.pm_types.specs.Histories.{Reading}
+use Rattle.pm_types.specs.Transfers.{Verdict}
+use Rattle.package_reader.specs.declared.fault.PackageFault.{PackageFault}
+use Rattle.package_reader.specs.declared.fault.PackageFault.TheVariants.{PackageInconsistent as Inconsistent, InvalidManifest as NoManifest, OutOfMemory}
+use Rattle.package_reader.specs.declared.package.Package.{Package}
+use Rattle.package_reader.specs.Reading.{reading}
+
+-- what the node answers where the bytes are no package
+abbrev pub refusal_of : PackageFault → Refusal
+refusal_of (Inconsistent place) = PackageInconsistent place
+refusal_of NoManifest = InvalidManifest
+refusal_of OutOfMemory = InvalidManifest
+
+-- a package has one part
+abbrev pub verdict_of : Result Package PackageFault → Verdict
+verdict_of (Ok p) = Ok (record { manifest = p.manifest; payload = p.payload } ∷ [])
+verdict_of (Err fault) = Err (refusal_of fault)
+
+-- bytes are read by the grammar of software packages
+abbrev pub package_reading : Reading
+package_reading bytes = verdict_of (reading bytes)

@@ -1,0 +1,33 @@
+-- What is made ready before a call or a unit.
+use Rattle.std.specs.Prelude.{◌≡◌, ℕ, [], ◌∷◌, length, map, unwrap_or, Option, Some, None, IsSomeAnd, Ok, Err}
+use Rattle.ucm_base.specs.Parts.{Bytes}
+use Rattle.pm_types.specs.declared.clusters.Part.{Part}
+use Rattle.pm_types.specs.declared.replies.Refusal.TheVariants.{InvalidManifest}
+use Rattle.pm_types.specs.declared.transfers.ExitVerdict.{ExitVerdict}
+use Rattle.pm_types.specs.declared.transfers.ExitVerdict.TheVariants.{Good, Bad}
+use Rattle.pm_types.specs.Transfers.{Verdict}
+use Rattle.node_core.specs.declared.prepared.Prepared.{Prepared}
+use Rattle.node_core.specs.declared.prepared.Prepared.TheVariants.{Verdict as Judged}
+
+-- the verdict that is ready
+abbrev pub verdict_kept : Prepared → Option ExitVerdict
+verdict_kept (Judged verdict) = Some verdict
+verdict_kept _ = None
+
+-- where none is, the bytes are no package
+abbrev pub verdict_in : Option ExitVerdict → ExitVerdict
+verdict_in kept = unwrap_or kept (Bad InvalidManifest)
+
+-- a part with its payload's length alone
+abbrev pub with_length : Part Bytes → Part ℕ
+with_length part = record { manifest = part.manifest; payload = length part.payload }
+
+-- a verdict that leaves the payload out is that of the bytes
+abbrev pub IsVerdict : ExitVerdict → Verdict → Type 0
+IsVerdict (Good contents) (Ok parts) = map with_length parts ≡ contents ∷ []
+IsVerdict (Bad refusal) (Err why) = refusal ≡ why
+IsVerdict _ _ = ⊥
+
+-- the verdict that is ready is that of the bytes
+abbrev pub IsVerdictKept : Option ExitVerdict → Verdict → Type 0
+IsVerdictKept kept expected = IsSomeAnd kept (λ verdict. IsVerdict verdict expected)

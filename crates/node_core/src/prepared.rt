@@ -1,0 +1,34 @@
+//! What is made ready before a call or a unit, so that making it takes no memory.
+ghost use Rattle.std.specs.Prelude.{◌≡◌};
+ghost use Rattle.node_core.specs.Prepared.{verdict_in, verdict_kept};
+
+use pm_types::{Change, Clusters, ExitVerdict, Extent, Refusal, Session};
+use std::mem;
+
+/// What `reserve` or `reserve_work` made ready.
+#[derive(Drop)]
+pub enum Prepared {
+    Nothing,
+    /// What the bytes of the transfer are that is to be closed.
+    Verdict(ExitVerdict),
+    /// The session that begins.
+    Session(Session),
+    /// What refuses the activation, if anything.
+    Unmet(Option<Refusal>),
+    /// The clusters that run after the unit.
+    Clusters(Clusters),
+    /// The change that the last unit of a package plans.
+    Change(Change<Extent>),
+}
+
+impl Prepared {
+    /// Takes the verdict; where there is none the bytes are no package.
+    pub(crate) fn take_verdict(&mut self) -> ExitVerdict
+        ensures { result ≡ verdict_in (verdict_kept self.old) }
+    {
+        match mem::replace(self, Prepared::Nothing) {
+            Prepared::Verdict(verdict) => verdict,
+            _ => ExitVerdict::Bad(Refusal::InvalidManifest),
+        }
+    }
+}
