@@ -22,3 +22,6 @@ pub use found::Found;
 pub use mem::MemStaging;
 pub use staging::Staging;
 pub use transfers::Transfers;
+
+#[cfg(test)]
+mod tests;
