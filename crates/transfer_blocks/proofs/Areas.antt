@@ -1,5 +1,5 @@
 -- What lies in the areas after a put.
-use Rattle.std.proofs.Common.{◌≡◌, ◌≢◌, ◌⊎◌, inl, inr, ⊎_elim, ℕ, zero, suc, ◌+◌, ◌<◌, ◌≤◌, ◌==◌, Bool, true, false, cond, List, [], length, take, get_or, set, refl, sym, ◌∙◌, ap, subst, arith, get_or-set_other, get_or-set_same}
+use Rattle.std.proofs.Common.{◌≡◌, ◌≢◌, ◌⊎◌, inl, inr, ⊎_elim, ℕ, zero, suc, ◌<◌, ◌≤◌, ◌==◌, Bool, true, false, cond, [], length, get_or, set, refl, sym, ◌∙◌, ap, subst, arith, get_or-set_other, get_or-set_same}
 use Rattle.std.proofs.lemmas.Bool.{cases_eq}
 use Rattle.std.proofs.lemmas.List.{length-set}
 use Rattle.ucm_base.specs.Limits.{transfer_limit, cluster_limit, package_limit}
@@ -8,7 +8,7 @@ use Rattle.pm_types.specs.Stored.{Areas}
 use Rattle.transfer_blocks.specs.declared.area.Area.{Area}
 use Rattle.transfer_blocks.specs.declared.area.Area.TheVariants.{Transfer, Side}
 use Rattle.transfer_blocks.specs.Areas.{IsArea, on_pair, with_side, content_of, with_content, overwritten, AreasFit, AgreesOutside, LeavesOutside}
-use Rattle.transfer_blocks.proofs.Bytes.{length-overwritten, agrees, before-stands}
+use Rattle.transfer_blocks.proofs.Bytes.{agrees}
 
 -- a side after another content is put there, and the other one
 same_side : (side : ℕ) (content : Bytes) (pair : Bytes × Bytes) → on_pair side (with_side side content pair) ≡ content

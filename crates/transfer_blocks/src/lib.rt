@@ -23,3 +23,6 @@ pub use found::Found;
 pub use mem::MemStaging;
 pub use staging::Staging;
 pub use transfers::Transfers;
+
+#[cfg(test)]
+mod tests;

@@ -1,12 +1,11 @@
 // The transfers of a node, with the next id.
-ghost use Rattle.std.specs.Prelude.{◌≡◌, ◌<◌, ◌+◌, ℕ, None, Some, IfSome, length, option_map, slice_index_or};
+ghost use Rattle.std.specs.Prelude.{◌≡◌, ◌<◌, ℕ, None, Some, IfSome, length, slice_index_or};
 ghost use Rattle.std.specs.Option.{option_or};
-ghost use Rattle.ucm_base.specs.Limits.{transfer_limit};
 ghost use Rattle.pm_types.specs.declared.state.StoredTransfer.{StoredTransfer as stored};
 ghost use Rattle.pm_types.specs.Refusals.{first_refusal};
 ghost use Rattle.pm_types.specs.Steps.{refused_or};
 ghost use Rattle.pm_types.specs.Transfers.{start_refusals, data_refusals, exit_refusals, delete_refusals};
-ghost use Rattle.transfer_blocks.specs.Table.{IsTable, bad_refusal, cleaned, found_of, good_parts, moved, received, stored_header, stored_ids, stored_of, unless_refused, whole, with_fresh, with_stored, without};
+ghost use Rattle.transfer_blocks.specs.Table.{IsTable, bad_refusal, found_of, good_parts, received, stored_header, stored_ids, stored_of, unless_refused, whole, with_fresh, with_stored, without};
 
 use crate::Found;
 use crate::judge::{data_refusal, delete_refusal, exit_refusal, start_refusal};

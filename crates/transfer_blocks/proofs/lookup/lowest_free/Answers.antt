@@ -4,7 +4,7 @@ use Rattle.std.proofs.lemmas.List.Folds.{list_all-map}
 use Rattle.ucm_base.specs.Limits.{transfer_limit}
 use Rattle.pm_types.specs.declared.state.StoredTransfer.{StoredTransfer}
 use Rattle.transfer_blocks.specs.Table.{is_free, slots_of}
-use Rattle.transfer_blocks.proofs.Slots.{scan-next, scan-here, scan-end}
+use Rattle.transfer_blocks.proofs.Slots.{scan-next, scan-here}
 use Rattle.transfer_blocks.proofs.lookup.lowest_free.Goals as goal
 
 pub returns-then-is_free : goal.returns-then-is_free

@@ -1,6 +1,4 @@
 use Rattle.std.proofs.Common.{◌≡◌, ◌<◌, ◌∙◌, refl, sym, ap, subst, length, get_or}
-use Rattle.pm_types.specs.declared.status.Phase.TheVariants.{Transferred}
-use Rattle.pm_types.specs.Transfers.{in_phase}
 use Rattle.transfer_blocks.specs.Table.{Table, good_parts, whole, with_stored}
 use Rattle.transfer_blocks.proofs.Tables.{bounded-at, table-at, stored-at}
 use Rattle.transfer_blocks.proofs.transfers.Transfers.exit.Goals as goal

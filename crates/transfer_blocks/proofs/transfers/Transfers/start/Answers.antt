@@ -1,5 +1,4 @@
-use Rattle.std.proofs.Common.{◌≡◌, ◌<◌, ◌+◌, ◌∙◌, sym, ap, subst, arith, length, rules}
-use Rattle.ucm_base.specs.Limits.{transfer_limit}
+use Rattle.std.proofs.Common.{◌≡◌, ◌+◌, sym, subst, arith, rules}
 use Rattle.transfer_blocks.specs.Table.{Table, IsTable, with_fresh}
 use Rattle.transfer_blocks.proofs.Tables.{table-fresh}
 use Rattle.transfer_blocks.proofs.transfers.Transfers.start.Goals as goal

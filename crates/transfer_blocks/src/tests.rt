@@ -1,0 +1,87 @@
+// Rows over areas in memory, and over the transfer table. A put goes over bytes that lie there and past their end; a
+// slot that becomes free is taken again; a whole transfer has the contents that were read, and goes no further.
+use crate::{Area, MemStaging, Staging, StagingFault, Transfers};
+use pm_types::{Contents, ExitVerdict, Phase, Refusal, Reply, TransferList};
+use std::alloc::{AllocError, Global};
+use ucm_base::{Action, ClientId, ClusterName, Manifest, Needs, VersionText};
+
+#[test]
+fn an_area_holds_what_was_put(rt: HostRuntime) -> Result<(), StagingFault> {
+    let mut staging = MemStaging::new(rt.alloc())?;
+    let area = Area::Transfer { slot: 7 };
+    staging.put(area, 0, b"abcd")?;
+    staging.put(area, 2, b"XYZ")?;
+    staging.put(Area::Side { place: 15, side: 1 }, 0, b"side")?;
+    let bytes = staging.get(area, 0, 5)?;
+    assert!(rt; bytes.as_slice() == b"abXYZ".as_slice());
+    let bytes = staging.get(Area::Side { place: 15, side: 1 }, 1, 3)?;
+    assert!(rt; bytes.as_slice() == b"ide".as_slice());
+    assert_eq!(rt; staging.faults(), 0);
+    Ok(())
+}
+
+// What was read of a package whose payload has five bytes.
+fn contents(alloc: Global) -> Option<Contents> {
+    let name = ClusterName::of(b"brake").ok()?;
+    let version = VersionText::of(alloc, b"1.2.3").ok()?;
+    Some(Contents {
+        manifest: Manifest {
+            action: Action::Install,
+            name,
+            version,
+            needs: Needs::of(Vec::new(alloc)),
+            sha256: [7; 32],
+        },
+        payload: 5,
+    })
+}
+
+#[test]
+fn a_transfer_runs_to_its_end(rt: HostRuntime) -> Result<(), AllocError> {
+    let alloc = rt.alloc();
+    let Some(client) = ClientId::of(3) else {
+        panic!(rt; "client 3");
+    };
+    let Some(contents) = contents(alloc) else {
+        panic!(rt; "contents");
+    };
+    let mut transfers = Transfers::of(1, TransferList::new(alloc)?);
+    assert!(rt; matches!(transfers.start(client, 9), Reply::Started { id: 1 }));
+    assert!(rt; matches!(transfers.start(client, 4), Reply::Started { id: 2 }));
+    assert!(rt; matches!(transfers.delete(client, 1), Reply::Done));
+    assert!(rt; matches!(transfers.start(client, 9), Reply::Started { id: 3 }));
+    assert!(rt; transfers.ids(client).as_slice() == [2, 3].as_slice());
+    assert!(rt; matches!(transfers.find(client, 3), Some(found) if found.slot == 0));
+    assert!(rt; matches!(transfers.block(client, 3, 1, 8), Reply::Done));
+    assert!(rt;
+        matches!(
+            transfers.block(client, 3, 1, 1),
+            Reply::Refused(Refusal::IncorrectBlock)
+        )
+    );
+    let early = transfers.exit(client, 3, ExitVerdict::Bad(Refusal::InvalidManifest));
+    assert!(rt; matches!(early, Reply::Refused(Refusal::InsufficientData)));
+    assert!(rt; matches!(transfers.block(client, 3, 2, 1), Reply::Done));
+    let bad = transfers.exit(client, 3, ExitVerdict::Bad(Refusal::InvalidManifest));
+    assert!(rt; matches!(bad, Reply::Refused(Refusal::InvalidManifest)));
+    assert!(rt;
+        matches!(
+            transfers.exit(client, 3, ExitVerdict::Good(contents)),
+            Reply::Done
+        )
+    );
+    assert!(rt;
+        matches!(
+            transfers.block(client, 3, 3, 1),
+            Reply::Refused(Refusal::OperationNotPermitted)
+        )
+    );
+    let (next, list) = transfers.into_parts();
+    assert_eq!(rt; next, 4);
+    let [_, last] = list.as_slice() else {
+        panic!(rt; "two transfers");
+    };
+    assert_eq!(rt; last.header.phase, Phase::Transferred);
+    assert!(rt; matches!(last.contents.first(), Some(part) if part.payload == 5));
+    Ok(())
+}
