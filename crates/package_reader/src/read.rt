@@ -53,6 +53,8 @@ pub fn read_contents(alloc: Global, bytes: &[u8]) -> Result<Contents<'_>, Packag
     // What isn't want of memory is the first fault.
     ensures first { IfErr result (λ e. (e ≡ PackageFault.OutOfMemory) ⊎ (fault bytes.now ≡ Some e)) }
     ensures err { IfErr result (λ e. (e ≡ PackageFault.OutOfMemory) ⊎ (reading bytes.now ≡ Err e)) }
+    // A fault of the fields is answered without a call for memory.
+    ensures fields { (f : AnyFault) → field_fault bytes.now ≡ Some f → result ≡ Err f }
     ensures len { IfOk result (λ c. length c.payload.now < 2 ^ 32) }
 {
     contents_of(alloc, bytes)
@@ -67,6 +69,8 @@ pub fn read_package(alloc: Global, bytes: &[u8]) -> Result<Package, PackageFault
     // What isn't want of memory is the first fault.
     ensures first { IfErr result (λ e. (e ≡ PackageFault.OutOfMemory) ⊎ (fault bytes.now ≡ Some e)) }
     ensures err { IfErr result (λ e. (e ≡ PackageFault.OutOfMemory) ⊎ (reading bytes.now ≡ Err e)) }
+    // A fault of the fields is answered without a call for memory.
+    ensures fields { (f : AnyFault) → field_fault bytes.now ≡ Some f → result ≡ Err f }
 {
     let contents = read_contents(alloc, bytes)?;
     let payload = Vec::from_slice(alloc, contents.payload)?;
