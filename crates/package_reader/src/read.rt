@@ -1,23 +1,17 @@
 //! Reading packages.
 ghost use Rattle.std.specs.Prelude.{◌≡◌, ◌⊎◌, ◌<◌, ◌^◌, length, Some, None, Ok, Err, IfOk, IfErr};
 ghost use Rattle.manifest.specs.Form.{manifest_of};
-ghost use Rattle.package_reader.specs.Reading.{fault, is_payload_of, reading};
+ghost use Rattle.package_reader.specs.Reading.{fault, field_fault, reading};
 ghost use Rattle.package_reader.specs.Spelling.{IsPackage, package_of};
+ghost use Rattle.package_reader.specs.declared.fault.PackageFault.{PackageFault as AnyFault};
 ghost use Rattle.package_reader.specs.declared.package.Package.{Package as AnyPackage};
 
 use crate::fields::fields_of;
+use crate::payload::is_payload_of;
 use crate::{Contents, Package, PackageFault};
 use manifest::{ManifestFault, read_manifest};
-use sha2::{Digest, Sha256};
 use std::alloc::Global;
-use ucm_base::{Action, Block, Manifest};
-
-fn is_payload_of(manifest: &Manifest, payload: &[u8]) -> bool
-    ensures { result ≡ is_payload_of manifest.now payload.now }
-{
-    let digest: [u8; 32] = Sha256::digest(payload);
-    digest == manifest.sha256 && (manifest.action != Action::Remove || payload.is_empty())
-}
+use ucm_base::{Block, Manifest};
 
 fn manifest_in(alloc: Global, text: &[u8]) -> Result<Manifest, PackageFault>
     ensures ok { IfOk result (λ m. manifest_of text.now ≡ Some m) }
@@ -31,11 +25,13 @@ fn manifest_in(alloc: Global, text: &[u8]) -> Result<Manifest, PackageFault>
     }
 }
 
-#[tactic(auto, unfolding(crate::specs::Reading::fault, crate::specs::Reading::reading))]
+#[tactic(auto, unfolding(crate::specs::Reading::fault, crate::specs::Reading::field_fault, crate::specs::Reading::reading))]
 fn contents_of(alloc: Global, bytes: &[u8]) -> Result<Contents<'_>, PackageFault>
     ensures len { IfOk result (λ c. length c.payload.now < 2 ^ 32) }
     ensures ok { IfOk result (λ c. reading bytes.now ≡ Ok (package_of c)) }
-    ensures err { IfErr result (λ e. (e ≡ PackageFault.OutOfMemory) ⊎ (reading bytes.now ≡ Err e)) }
+    ensures err { IfErr result (λ e. (e ≡ PackageFault.OutOfMemory)
+        ⊎ (reading bytes.now ≡ Err e)) }
+    ensures fields { (f : AnyFault) → field_fault bytes.now ≡ Some f → result ≡ Err f }
 {
     let fields = fields_of(bytes)?;
     let manifest = manifest_in(alloc, fields.text)?;
@@ -48,30 +44,40 @@ fn contents_of(alloc: Global, bytes: &[u8]) -> Result<Contents<'_>, PackageFault
     Ok(Contents { manifest, payload })
 }
 
-/// Reads a package and leaves its payload where it lies; no byte is hashed more than the format asks: the payload
-/// once, and all bytes before the digest once.
+/// Reads a package and leaves its payload where it lies. The payload is hashed once, and all bytes before the
+/// digest once. A fault has the place, in bytes from 0, from which the bytes are no package.
 pub fn read_contents(alloc: Global, bytes: &[u8]) -> Result<Contents<'_>, PackageFault>
     ensures package { IfOk result (λ c. IsPackage bytes.now (package_of c)) }
     ensures ok { IfOk result (λ c. reading bytes.now ≡ Ok (package_of c)) }
     // A package is refused for want of memory alone.
-    ensures only { (p : AnyPackage) → IsPackage bytes.now p → IfErr result (λ e. e ≡ PackageFault.OutOfMemory) }
+    ensures only { (p : AnyPackage) → IsPackage bytes.now p
+        → IfErr result (λ e. e ≡ PackageFault.OutOfMemory) }
     // What isn't want of memory is the first fault.
-    ensures first { IfErr result (λ e. (e ≡ PackageFault.OutOfMemory) ⊎ (fault bytes.now ≡ Some e)) }
-    ensures err { IfErr result (λ e. (e ≡ PackageFault.OutOfMemory) ⊎ (reading bytes.now ≡ Err e)) }
+    ensures first { IfErr result (λ e. (e ≡ PackageFault.OutOfMemory)
+        ⊎ (fault bytes.now ≡ Some e)) }
+    ensures err { IfErr result (λ e. (e ≡ PackageFault.OutOfMemory)
+        ⊎ (reading bytes.now ≡ Err e)) }
+    // A fault of the fields is answered without a call for memory.
+    ensures fields { (f : AnyFault) → field_fault bytes.now ≡ Some f → result ≡ Err f }
     ensures len { IfOk result (λ c. length c.payload.now < 2 ^ 32) }
 {
     contents_of(alloc, bytes)
 }
 
-/// Reads a package.
+/// Reads a package as `read_contents` does, and copies its payload.
 pub fn read_package(alloc: Global, bytes: &[u8]) -> Result<Package, PackageFault>
     ensures package { IfOk result (λ p. IsPackage bytes.now p) }
     ensures ok { IfOk result (λ p. reading bytes.now ≡ Ok p) }
     // A package is refused for want of memory alone.
-    ensures only { (p : AnyPackage) → IsPackage bytes.now p → IfErr result (λ e. e ≡ PackageFault.OutOfMemory) }
+    ensures only { (p : AnyPackage) → IsPackage bytes.now p
+        → IfErr result (λ e. e ≡ PackageFault.OutOfMemory) }
     // What isn't want of memory is the first fault.
-    ensures first { IfErr result (λ e. (e ≡ PackageFault.OutOfMemory) ⊎ (fault bytes.now ≡ Some e)) }
-    ensures err { IfErr result (λ e. (e ≡ PackageFault.OutOfMemory) ⊎ (reading bytes.now ≡ Err e)) }
+    ensures first { IfErr result (λ e. (e ≡ PackageFault.OutOfMemory)
+        ⊎ (fault bytes.now ≡ Some e)) }
+    ensures err { IfErr result (λ e. (e ≡ PackageFault.OutOfMemory)
+        ⊎ (reading bytes.now ≡ Err e)) }
+    // A fault of the fields is answered without a call for memory.
+    ensures fields { (f : AnyFault) → field_fault bytes.now ≡ Some f → result ≡ Err f }
 {
     let contents = read_contents(alloc, bytes)?;
     let payload = Vec::from_slice(alloc, contents.payload)?;
