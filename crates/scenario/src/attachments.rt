@@ -11,9 +11,9 @@ use ucm_base::ClusterName;
 #[derive(Clone, Copy, Debug, PartialEq, Eq)]
 pub struct Attached {
     /// The place of its first byte.
-    pub at: u64,
-    /// Its bytes.
-    pub len: u64,
+    pub at: u32,
+    /// How many bytes it has.
+    pub len: u32,
 }
 
 /// Attachments by their names, seen as the entries in order of names. A look-up costs the logarithm of their number.

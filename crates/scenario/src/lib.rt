@@ -15,7 +15,7 @@ mod why;
 mod words;
 
 pub use attachments::{Attached, Attachments};
-pub use blocks::BlockSource;
+pub use blocks::{BlockSource, plain_block};
 pub use events::{Event, EventLine, ScriptCall};
 pub use lines::{Installed, ScriptLine};
 pub use rows::Rows;

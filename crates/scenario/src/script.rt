@@ -35,5 +35,5 @@ pub struct Above {
     pub events: Rows<EventLine>,
     pub attachments: Attachments,
     /// How many bytes are attached.
-    pub attached: u64,
+    pub attached: u32,
 }
