@@ -9,7 +9,7 @@ use Rattle.scenario.specs.declared.why.Why.{Why}
 use Rattle.scenario.specs.declared.why.Why.TheVariants.{Form, Value}
 use Rattle.scenario.specs.declared.events.ScriptCall.{ScriptCall}
 use Rattle.scenario.specs.declared.events.ScriptCall.TheVariants.{Sync, TransferStart, TransferData, TransferExit, DeleteTransfer, ProcessSwPackage, Activate, Finish, Rollback, RevertProcessedSwPackages, Cancel}
-use Rattle.scenario.specs.Readings.{◌>>=◌}
+use Rattle.scenario.specs.Readings.{◌>>=◌, given}
 use Rattle.scenario.specs.Attached.{Places}
 use Rattle.scenario.specs.Words.{number_in, small_in}
 use Rattle.scenario.specs.Blocks.{size_in, block_in, bytes_meant}
@@ -45,14 +45,16 @@ call_with places name word =
     else if bytes_eq name (codes "cancel") then (small_in word >>= λ id. Ok (Cancel id))
     else Err Value
 
-abbrev pub process_call : List ℕ → List ℕ → Result ScriptCall Why
-process_call id tag = do
+abbrev pub process_call : List ℕ → List ℕ → List ℕ → Result ScriptCall Why
+process_call name id tag = do
+  _ ← given (bytes_eq name (codes "process")) name Value
   i ← small_in id
   t ← small_in tag
   Ok (ProcessSwPackage i t)
 
-abbrev pub data_call : Places → List ℕ → List ℕ → List ℕ → Result ScriptCall Why
-data_call places id counter block = do
+abbrev pub data_call : Places → List ℕ → List ℕ → List ℕ → List ℕ → Result ScriptCall Why
+data_call places name id counter block = do
+  _ ← given (bytes_eq name (codes "data")) name Value
   i ← small_in id
   n ← number_in counter
   b ← block_in places block
@@ -62,8 +64,8 @@ data_call places id counter block = do
 abbrev pub call_in : Places → List (List ℕ) → Result ScriptCall Why
 call_in places (name ∷ []) = call_alone name
 call_in places (name ∷ word ∷ []) = call_with places name word
-call_in places (name ∷ id ∷ tag ∷ []) = if bytes_eq name (codes "process") then process_call id tag else Err Value
-call_in places (name ∷ id ∷ counter ∷ block ∷ []) = if bytes_eq name (codes "data") then data_call places id counter block else Err Value
+call_in places (name ∷ id ∷ tag ∷ []) = process_call name id tag
+call_in places (name ∷ id ∷ counter ∷ block ∷ []) = data_call places name id counter block
 call_in places _ = Err Form
 
 abbrev pub query_alone : List ℕ → Result Query Why
@@ -74,8 +76,15 @@ query_alone name =
     else if bytes_eq name (codes "packages") then Ok GetSwPackages
     else Err Value
 
-abbrev pub history_query : List ℕ → List ℕ → Result Query Why
-history_query ge lt = do
+abbrev pub progress_query : List ℕ → List ℕ → Result Query Why
+progress_query name id = do
+  _ ← given (bytes_eq name (codes "progress")) name Value
+  i ← small_in id
+  Ok (GetSwProcessProgress i)
+
+abbrev pub history_query : List ℕ → List ℕ → List ℕ → Result Query Why
+history_query name ge lt = do
+  _ ← given (bytes_eq name (codes "history")) name Value
   g ← number_in ge
   l ← number_in lt
   Ok (GetHistory g l)
@@ -83,6 +92,6 @@ history_query ge lt = do
 -- the words of a query: no form has none, or more than three
 abbrev pub query_in : List (List ℕ) → Result Query Why
 query_in (name ∷ []) = query_alone name
-query_in (name ∷ id ∷ []) = if bytes_eq name (codes "progress") then (small_in id >>= λ i. Ok (GetSwProcessProgress i)) else Err Value
-query_in (name ∷ ge ∷ lt ∷ []) = if bytes_eq name (codes "history") then history_query ge lt else Err Value
+query_in (name ∷ id ∷ []) = progress_query name id
+query_in (name ∷ ge ∷ lt ∷ []) = history_query name ge lt
 query_in _ = Err Form

@@ -16,7 +16,7 @@ mod words;
 
 pub use attachments::{Attached, Attachments};
 pub use blocks::{BlockSource, plain_block};
-pub use events::{Event, EventLine, ScriptCall};
+pub use events::{Event, EventLine, ScriptCall, call_of};
 pub use lines::{Installed, ScriptLine};
 pub use rows::Rows;
 pub use script::{Above, Command, Script};
