@@ -19,6 +19,6 @@ pub use blocks::{BlockSource, plain_block};
 pub use events::{Event, EventLine, ScriptCall, call_of};
 pub use lines::{Installed, ScriptLine};
 pub use rows::Rows;
-pub use script::{Above, Command, Script};
+pub use script::{Above, Command, Script, read_script};
 pub use why::{ScriptFault, Why, WordFault};
 pub use words::{action, name, need, number, small, version};
