@@ -1,4 +1,4 @@
 pub mod NeedWords
 pub mod Cuts
 pub mod FirstWords
-pub mod NextLines
+mod Worked

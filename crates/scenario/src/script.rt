@@ -262,12 +262,7 @@ fn read_words(
 }
 
 /// Takes in a line.
-fn take_in(
-    alloc: Global,
-    above: &mut Above,
-    number: u64,
-    line: &[u8],
-) -> Result<(), WordFault>
+fn take_in(alloc: Global, above: &mut Above, number: u64, line: &[u8]) -> Result<(), WordFault>
     ensures read { OnOk result (line_read number above.old line.now ≡ Ok above.new) }
     ensures refused { IfErr result (λ e. (why : Why) → e ≡ WordFault.Refused why
         → line_read number above.old line.now ≡ Err why) }
