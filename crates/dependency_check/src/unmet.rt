@@ -44,85 +44,51 @@ mod tests {
     use std::alloc::Global;
     use std::test::Fail;
     use ucm_base::ReqText;
+    use ucm_base::limits::NEED_LIMIT;
 
-    type Row<'a> = (&'a [u8], &'a [u8], &'a [(&'a [u8], &'a [u8])]);
-
-    fn cluster(alloc: Global, row: &Row) -> Result<(ClusterName, VersionText, Needs), Fail> {
-        let (name, version, needed) = *row;
+    /// The cluster of `NAME VERSION NEED:REQ ..`.
+    fn cluster(alloc: Global, text: &str) -> Result<(ClusterName, VersionText, Needs), Fail> {
+        let mut words = text.split(' ');
+        let name = ClusterName::of(words.next().unwrap_or("").as_bytes())?;
+        let version = VersionText::of(alloc, words.next().unwrap_or("").as_bytes())?;
         let mut needs = Vec::new(alloc);
-        for (name, req) in needed {
+        for word in words {
+            let (name, req) = word.split_once(':').ok_or("a need has a requirement")?;
             needs.push(Need {
-                name: ClusterName::of(name)?,
-                req: ReqText::of(alloc, req)?,
+                name: ClusterName::of(name.as_bytes())?,
+                req: ReqText::of(alloc, req.as_bytes())?,
             })?;
         }
-        if needs.len() > 16 {
+        if needs.len() as u64 > NEED_LIMIT {
             return Err(Fail::from("too many needs"));
         }
-        Ok((
-            ClusterName::of(name)?,
-            VersionText::of(alloc, version)?,
-            Needs::of(needs),
-        ))
-    }
-
-    /// The cluster and its unmet need, or two empty texts.
-    fn names<'a>(found: &'a Option<(ClusterName, &Need)>) -> (&'a [u8], &'a [u8]) {
-        match found {
-            Some((name, need)) => (name.as_bytes(), need.name.as_bytes()),
-            None => (b"", b""),
-        }
+        Ok((name, version, Needs::of(needs)))
     }
 
     #[test]
     fn the_first_unmet_need_is_found(rt: HostRuntime) -> Result<(), Fail> {
         let alloc = rt.alloc();
-        let base: Row = (b"base", b"1.2.0", &[]);
-        let early: Row = (b"base", b"1.2.0-rc.1", &[]);
-        let rows: [(&[Row], &[u8], &[u8]); 8] = [
-            (&[], b"", b""),
-            (&[(b"app", b"1.0.0", &[(b"base", b"^1")]), base], b"", b""),
-            (
-                &[(b"app", b"1.0.0", &[(b"base", b"^2")]), base],
-                b"app",
-                b"base",
-            ),
-            (
-                &[(b"app", b"1.0.0", &[(b"base", b"^1")]), early],
-                b"app",
-                b"base",
-            ),
-            (&[(b"app", b"1.0.0", &[(b"app", b"^1")])], b"", b""),
-            (&[(b"app", b"1.0.0", &[(b"app", b"^2")])], b"app", b"app"),
-            (
-                &[
-                    (
-                        b"app",
-                        b"1.0.0",
-                        &[(b"base", b"^1"), (b"map", b"*"), (b"nav", b"*")],
-                    ),
-                    base,
-                ],
-                b"app",
-                b"map",
-            ),
-            (
-                &[
-                    base,
-                    (b"map", b"1.0.0", &[(b"nav", b"*")]),
-                    (b"nix", b"1.0.0", &[(b"app", b"*")]),
-                ],
-                b"map",
-                b"nav",
-            ),
-        ];
-        for (clusters, name, need) in rows {
+        for (clusters, unmet) in [
+            ("", ""),
+            ("app 1.0.0 base:^1;base 1.2.0", ""),
+            ("app 1.0.0 base:^2;base 1.2.0", "app base"),
+            ("app 1.0.0 base:^1;base 1.2.0-rc.1", "app base"),
+            ("app 1.0.0 app:^1", ""),
+            ("app 1.0.0 app:^2", "app app"),
+            ("app 1.0.0 base:^1 map:* nav:*;base 1.2.0", "app map"),
+            ("base 1.2.0;map 1.0.0 nav:*;nix 1.0.0 app:*", "map nav"),
+        ] {
             let mut list = Vec::new(alloc);
-            for row in clusters {
-                list.push(cluster(alloc, row)?)?;
+            for text in clusters.split(';') {
+                if !text.is_empty() {
+                    list.push(cluster(alloc, text)?)?;
+                }
             }
-            let found = missing(list.as_slice());
-            assert!(rt; names(&found) == (name, need));
+            let found = match missing(list.as_slice()) {
+                Some((cluster, need)) => format!(in alloc; "{cluster} {}", need.name)?,
+                None => String::new(alloc),
+            };
+            assert_eq!(rt; found.as_str(), unmet);
         }
         Ok(())
     }
