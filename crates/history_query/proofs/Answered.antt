@@ -42,7 +42,7 @@ find-of-map {X} {Y} f test (x ∷ xs) = go (test (f x)) (find-of-map f test xs)
     go false rest = rest
 
 -- a part's units go by the length of its payload
-units-same : (n : ℕ) (parts : List (Part Bytes)) → fold (λ (k : ℕ) (part : Part ℕ). k + units_of part.payload) n (map (λ part. record { manifest = part.manifest; payload = length part.payload }) parts) ≡ fold (λ (k : ℕ) (part : Part Bytes). k + units_of (length part.payload)) n parts
+pub units-same : (n : ℕ) (parts : List (Part Bytes)) → fold (λ (k : ℕ) (part : Part ℕ). k + units_of part.payload) n (map (λ part. record { manifest = part.manifest; payload = length part.payload }) parts) ≡ fold (λ (k : ℕ) (part : Part Bytes). k + units_of (length part.payload)) n parts
 units-same n [] = refl
 units-same n (part ∷ parts) = units-same (n + units_of (length part.payload)) parts
 
