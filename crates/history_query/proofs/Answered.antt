@@ -84,4 +84,3 @@ module _ (read : Reading) (areas : Areas) (s : State) (client : ℕ) where
       told (Some t) found =
           let is = (found-has (λ t. is_of client id t.header) (IsPlaced read areas) s.transfers t placed found).1 in
           ap Progress (percent-same t.header.phase (units_done_in s.session) _ (stored_units t.contents) _ (done s.session) (ap stored_units is.contents ∙ units-same 0 (transfer_meaning read areas t).parts))
-

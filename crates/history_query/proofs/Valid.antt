@@ -6,15 +6,14 @@ use Rattle.std.proofs.lemmas.Bool.{and_parts, ltb-true}
 use Rattle.std.proofs.lemmas.Bool.Decides.{nat_tests}
 use Rattle.pm_types.specs.declared.clusters.Extent.{Extent}
 use Rattle.pm_types.specs.declared.state.StoredTransfer.{StoredTransfer}
-use Rattle.pm_types.specs.declared.status.Phase.{Phase}
-use Rattle.pm_types.specs.declared.status.Phase.TheVariants.{Transferring, Transferred, Processing, Processed}
+use Rattle.pm_types.specs.declared.status.Phase.TheVariants.{Processing}
 use Rattle.pm_types.specs.Clusters.{all_units}
 use Rattle.pm_types.specs.Histories.{Reading}
-use Rattle.pm_types.specs.NodeState.{SessionOf, Transfer, phase_code, is_in, some_passes}
+use Rattle.pm_types.specs.NodeState.{SessionOf, Transfer, is_in, some_passes}
 use Rattle.pm_types.specs.Stored.{State, Areas, session_meaning, transfer_meaning, meaning, IsPlaced, IsValidStored}
 use Rattle.pm_types.specs.Transfers.{is_of, transfer_of}
 use Rattle.pm_types.specs.Validity.{numbers_rise}
-use Rattle.history_query.specs.Shown.{are_consecutive, stored_units, IsUnfinishedIn, IsUnfinished, EachIsUnfinished}
+use Rattle.history_query.specs.Shown.{are_consecutive, stored_units, IsUnfinished, EachIsUnfinished}
 use Rattle.history_query.proofs.Answered.{units-same}
 use Rattle.history_query.proofs.Found.{found-has}
 use Rattle.history_query.proofs.Places.{consecutive-from}
@@ -53,12 +52,6 @@ module _ {X : Type 0} (f : X → ℕ) where
           let later = found-has p (λ y. f x < f y) xs u (above (f x) xs r) k in
           (λ is. absurd (omega (arith, is, later.1, has u later.0)), rec k h)
 
-unfinished-in : (phase : Phase) (done all : ℕ) → ((phase_code phase == 2) ≡ true → done < all) → IsUnfinishedIn phase done all
-unfinished-in Transferring done all h = tt
-unfinished-in Transferred done all h = tt
-unfinished-in Processing done all h = h refl
-unfinished-in Processed done all h = tt
-
 module _ (read : Reading) (areas : Areas) (s : State) (valid : IsValidStored read areas s) where
   pub lines-consecutive : IsTrue (are_consecutive s.lines)
   lines-consecutive = consecutive-from (s.entries - length s.lines) s.lines valid.0.consistent.limits.places
@@ -69,10 +62,10 @@ module _ (read : Reading) (areas : Areas) (s : State) (valid : IsValidStored rea
 
   stored : (done : ℕ) (ts : List StoredTransfer) → AllByRecursion (IsDue done) (map (transfer_meaning read areas) ts) → AllByRecursion (IsPlaced read areas) ts → AllByRecursion (IsUnfinished done) ts
   stored done [] h placed = tt
-  stored done (t ∷ ts) h placed =
-      (unfinished-in t.header.phase done (stored_units t.contents)
-      (λ e. subst (λ all. done < all) (sym (ap stored_units placed.0.contents ∙ units-same 0 (transfer_meaning read areas t).parts)) (h.0 e)),
-      stored done ts h.1 placed.1)
+  stored done (t ∷ ts) h placed = (
+    λ e. subst (λ all. done < all) (sym (ap stored_units placed.0.contents ∙ units-same 0 (transfer_meaning read areas t).parts)) (h.0 e),
+    stored done ts h.1 placed.1,
+  )
 
   pub each-unfinished : EachIsUnfinished s.session s.transfers
   each-unfinished = by-session s.session valid.0.consistent.processing.each valid.0.consistent.processing.unfinished

@@ -17,7 +17,7 @@ use Rattle.pm_types.specs.declared.state.StoredTransfer.{StoredTransfer}
 use Rattle.pm_types.specs.declared.status.Phase.{Phase}
 use Rattle.pm_types.specs.declared.status.Phase.TheVariants.{Transferring, Transferred, Processing, Processed}
 use Rattle.pm_types.specs.declared.transfers.Header.{Header}
-use Rattle.pm_types.specs.NodeState.{SessionOf}
+use Rattle.pm_types.specs.NodeState.{SessionOf, is_in}
 use Rattle.pm_types.specs.Clusters.{units_of}
 use Rattle.pm_types.specs.Validity.{places_from}
 
@@ -79,14 +79,9 @@ abbrev pub progress_answer : Result ℕ Refusal → Answer
 progress_answer (Ok percent) = Progress percent
 progress_answer (Err refusal) = Refused refusal
 
--- in processing fewer units are done than there are
-abbrev pub IsUnfinishedIn : Phase → ℕ → ℕ → Type 0
-IsUnfinishedIn Processing done all = done < all
-IsUnfinishedIn _ done all = Unit {0}
-
+-- a transfer in processing has more units than are done
 abbrev pub IsUnfinished : ℕ → StoredTransfer → Type 0
-IsUnfinished done t = IsUnfinishedIn t.header.phase done (stored_units t.contents)
+IsUnfinished done t = IsTrue (is_in Processing t.header) → done < stored_units t.contents
 
--- of a transfer in processing fewer units are done than it has
 abbrev pub EachIsUnfinished : {C : Type 0} → Option (SessionOf C) → List StoredTransfer → Type 0
 EachIsUnfinished session transfers = AllByRecursion (IsUnfinished (units_done_in session)) transfers
