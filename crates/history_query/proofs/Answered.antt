@@ -11,7 +11,7 @@ use Rattle.pm_types.specs.declared.replies.Refusal.TheVariants.{InvalidTransferI
 use Rattle.pm_types.specs.declared.state.StoredTransfer.{StoredTransfer}
 use Rattle.pm_types.specs.declared.status.Phase.{Phase}
 use Rattle.pm_types.specs.declared.status.Phase.TheVariants.{Transferring, Transferred, Processing, Processed}
-use Rattle.pm_types.specs.Clusters.{units_of, all_units}
+use Rattle.pm_types.specs.Clusters.{units_of}
 use Rattle.pm_types.specs.NodeState.{SessionOf, Transfer}
 use Rattle.pm_types.specs.Histories.{Reading}
 use Rattle.pm_types.specs.Queries.{answer, progress_of}

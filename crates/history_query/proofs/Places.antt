@@ -1,8 +1,8 @@
 -- Lines whose places count up by one: those in a range of places are a range of the list.
-use Rattle.std.proofs.Common.{◌≡◌, ℕ, suc, ◌+◌, ◌-◌, ◌<◌, ◌≤◌, min, Bool, true, false, ◌&&◌, cond, ◌==◌, nat_lt, nat_le, List, [], ◌∷◌, ◌++◌, length, take, drop, filter, Option, Some, slice_get, refl, sym, ap, ap₂, ◌∙◌, arith}
+use Rattle.std.proofs.Common.{◌≡◌, ℕ, suc, ◌+◌, ◌-◌, ◌<◌, ◌≤◌, min, Bool, true, false, ◌&&◌, cond, ◌==◌, nat_lt, nat_le, List, [], ◌∷◌, ◌++◌, length, take, drop, filter, Some, slice_get, refl, sym, ap, ap₂, ◌∙◌, arith}
 use Rattle.std.proofs.lemmas.Bool.{and_parts}
 use Rattle.std.proofs.lemmas.Bool.Decides.{nat_tests}
-use Rattle.std.proofs.lemmas.List.{drop-take, take_all, drop_all, length-take, length-take-le}
+use Rattle.std.proofs.lemmas.List.{drop-take, take_all, drop_all, length-take-le}
 use Rattle.std.specs.Cmp.Derive.{both_true}
 use Rattle.pm_types.specs.declared.history.Line.{Line}
 use Rattle.pm_types.specs.Validity.{places_from}

@@ -1,6 +1,5 @@
 //! One table a query.
-ghost use Rattle.std.specs.Prelude.{◌≡◌, ◌<◌, [], ◌∷◌, length, IfOk};
-ghost use Rattle.history_query.specs.Shown.{EachIsUnfinished};
+ghost use Rattle.std.specs.Prelude.{◌≡◌, [], IfOk};
 
 use crate::{change_info, cluster_info, history, packages};
 use pm_types::{
@@ -127,16 +126,19 @@ fn the_clients_transfers_are_shown(rt: HostRuntime) -> Result<(), Fail> {
     Ok(())
 }
 
+fn ready() -> Happened {
+    Happened::Unit {
+        after: Status::Ready,
+    }
+}
+
 #[test]
 fn lines_of_a_range_of_places_are_shown(rt: HostRuntime) -> Result<(), Fail> {
     let alloc = rt.alloc();
-    let happened = Happened::Unit {
-        after: Status::Ready,
-    };
     let mut lines = NewestLines::new(alloc)?;
-    lines.push(7, happened);
-    lines.push(8, happened);
-    lines.push(9, happened);
+    lines.push(7, ready());
+    lines.push(8, ready());
+    lines.push(9, ready());
     for (ge, lt, first, count) in [
         (0u64, 100u64, Some(7u64), 3usize),
         (8, 100, Some(8), 2),

@@ -1,6 +1,5 @@
-use Rattle.std.proofs.Common.{◌≡◌, ◌∙◌, Some, sym, ap, subst, option_map}
-use Rattle.pm_types.specs.Transfers.{is_of}
-use Rattle.history_query.specs.Shown.{IsUnfinished, units_done_in}
+use Rattle.std.proofs.Common.{sym, subst}
+use Rattle.history_query.specs.Shown.{IsUnfinished}
 use Rattle.history_query.proofs.Found.{found-has}
 use Rattle.history_query.proofs.progress.process_progress.Goals as goal
 
