@@ -1,0 +1,4 @@
+pub mod Answered
+pub mod Valid
+pub mod Places
+pub mod Found
