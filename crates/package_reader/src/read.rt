@@ -1,0 +1,82 @@
+//! Reading packages.
+ghost use Rattle.std.specs.Prelude.{◌≡◌, ◌⊎◌, ◌<◌, ◌^◌, length, Some, None, Ok, Err, IfOk, IfErr};
+ghost use Rattle.manifest.specs.Form.{manifest_of};
+ghost use Rattle.package_reader.specs.Reading.{fault, is_payload_of, reading};
+ghost use Rattle.package_reader.specs.Spelling.{IsPackage, package_of};
+ghost use Rattle.package_reader.specs.declared.package.Package.{Package as AnyPackage};
+
+use crate::fields::fields_of;
+use crate::{Contents, Package, PackageFault};
+use manifest::{ManifestFault, read_manifest};
+use sha2::{Digest, Sha256};
+use std::alloc::Global;
+use ucm_base::{Action, Block, Manifest};
+
+fn is_payload_of(manifest: &Manifest, payload: &[u8]) -> bool
+    ensures { result ≡ is_payload_of manifest.now payload.now }
+{
+    let digest: [u8; 32] = Sha256::digest(payload);
+    digest == manifest.sha256 && (manifest.action != Action::Remove || payload.is_empty())
+}
+
+fn manifest_in(alloc: Global, text: &[u8]) -> Result<Manifest, PackageFault>
+    ensures ok { IfOk result (λ m. manifest_of text.now ≡ Some m) }
+    ensures err { IfErr result (λ e. (e ≡ PackageFault.OutOfMemory)
+        ⊎ ((e ≡ PackageFault.InvalidManifest) × (manifest_of text.now ≡ None))) }
+{
+    match read_manifest(alloc, text) {
+        Ok(manifest) => Ok(manifest),
+        Err(ManifestFault::InvalidManifest) => Err(PackageFault::InvalidManifest),
+        Err(ManifestFault::OutOfMemory) => Err(PackageFault::OutOfMemory),
+    }
+}
+
+#[tactic(auto, unfolding(crate::specs::Reading::fault, crate::specs::Reading::reading))]
+fn contents_of(alloc: Global, bytes: &[u8]) -> Result<Contents<'_>, PackageFault>
+    ensures len { IfOk result (λ c. length c.payload.now < 2 ^ 32) }
+    ensures ok { IfOk result (λ c. reading bytes.now ≡ Ok (package_of c)) }
+    ensures err { IfErr result (λ e. (e ≡ PackageFault.OutOfMemory) ⊎ (reading bytes.now ≡ Err e)) }
+{
+    let fields = fields_of(bytes)?;
+    let manifest = manifest_in(alloc, fields.text)?;
+    let payload = fields.payload;
+    if !is_payload_of(&manifest, payload) {
+        return Err(PackageFault::PackageInconsistent {
+            place: (12 + fields.text.len()) as u64,
+        });
+    }
+    Ok(Contents { manifest, payload })
+}
+
+/// Reads a package and leaves its payload where it lies; no byte is hashed more than the format asks: the payload
+/// once, and all bytes before the digest once.
+pub fn read_contents(alloc: Global, bytes: &[u8]) -> Result<Contents<'_>, PackageFault>
+    ensures package { IfOk result (λ c. IsPackage bytes.now (package_of c)) }
+    ensures ok { IfOk result (λ c. reading bytes.now ≡ Ok (package_of c)) }
+    // A package is refused for want of memory alone.
+    ensures only { (p : AnyPackage) → IsPackage bytes.now p → IfErr result (λ e. e ≡ PackageFault.OutOfMemory) }
+    // What isn't want of memory is the first fault.
+    ensures first { IfErr result (λ e. (e ≡ PackageFault.OutOfMemory) ⊎ (fault bytes.now ≡ Some e)) }
+    ensures err { IfErr result (λ e. (e ≡ PackageFault.OutOfMemory) ⊎ (reading bytes.now ≡ Err e)) }
+    ensures len { IfOk result (λ c. length c.payload.now < 2 ^ 32) }
+{
+    contents_of(alloc, bytes)
+}
+
+/// Reads a package.
+pub fn read_package(alloc: Global, bytes: &[u8]) -> Result<Package, PackageFault>
+    ensures package { IfOk result (λ p. IsPackage bytes.now p) }
+    ensures ok { IfOk result (λ p. reading bytes.now ≡ Ok p) }
+    // A package is refused for want of memory alone.
+    ensures only { (p : AnyPackage) → IsPackage bytes.now p → IfErr result (λ e. e ≡ PackageFault.OutOfMemory) }
+    // What isn't want of memory is the first fault.
+    ensures first { IfErr result (λ e. (e ≡ PackageFault.OutOfMemory) ⊎ (fault bytes.now ≡ Some e)) }
+    ensures err { IfErr result (λ e. (e ≡ PackageFault.OutOfMemory) ⊎ (reading bytes.now ≡ Err e)) }
+{
+    let contents = read_contents(alloc, bytes)?;
+    let payload = Vec::from_slice(alloc, contents.payload)?;
+    Ok(Package {
+        manifest: contents.manifest,
+        payload: Block::of(payload),
+    })
+}
