@@ -1,0 +1,24 @@
+//! Scripts: the lines that say what is done to a node, and why a text is no script.
+//!
+//! Layer: stands on `pm_types`, `ucm_base` and `ucm_text`; the commands that run scripts stand on it.
+//! Its one contract: a text is read exactly as the grammar in `specs/` says, or refused at the first
+//! line that is out of it, with the first reason.
+#![tactic(auto)]
+
+mod attachments;
+mod blocks;
+mod events;
+mod lines;
+mod rows;
+mod script;
+mod why;
+mod words;
+
+pub use attachments::{Attached, Attachments};
+pub use blocks::{BlockSource, plain_block};
+pub use events::{Event, EventLine, ScriptCall, call_of};
+pub use lines::{Installed, ScriptLine};
+pub use rows::Rows;
+pub use script::{Above, Command, Script};
+pub use why::{ScriptFault, Why, WordFault};
+pub use words::{action, name, need, number, small, version};

@@ -1,0 +1,176 @@
+//! What single words say. Whatever reads scripts or recipes shares these readers.
+ghost use Rattle.std.specs.Prelude.{◌≡◌, ◌==◌, ◌<◌, ◌+◌, ◌*◌, length, option_and_then, option_map, position, IfOk, IfErr, IfSome, Ok, Err};
+ghost use Rattle.scenario.specs.declared.why.Why.{Why};
+ghost use Rattle.scenario.specs.Words.{action_in, byte_in, call_no_in, client_in, cut, digit_value, from_one_in, name_in, need_in, node_in, number_in, req_in, small_in, version_in};
+
+use crate::why::{Why, WordFault};
+use std::alloc::Global;
+use ucm_base::{
+    Action, CallNo, ClientId, ClusterName, Need, ReqText, TextFault, VersionText,
+};
+use ucm_text::number_of;
+
+fn place_of(text: &[u8], at: u8) -> Option<usize>
+    ensures place { result ≡ position (λ b. b == at) text.now }
+    ensures inside { IfSome result (λ i. i < length text.now) }
+{
+    text.iter().position(|b| *b == at)
+}
+
+/// What stands before the first such byte, and what stands behind it, if it is there.
+#[tactic(auto, unfolding(crate::specs::Words::cut))]
+pub(crate) fn cut(text: &[u8], at: u8) -> Option<(&[u8], &[u8])>
+    ensures { option_map (λ parts. (parts.0.now, parts.1.now)) result ≡ cut at text.now }
+{
+    let place = place_of(text, at)?;
+    Some((&text[..place], &text[place + 1..]))
+}
+
+/// A decimal number below 2^64, without leading zeros.
+pub fn number(word: &[u8]) -> Result<u64, Why>
+    ensures { result ≡ number_in word.now }
+{
+    number_of(word).ok_or(Why::Value)
+}
+
+/// A number below 2^32.
+pub fn small(word: &[u8]) -> Result<u32, Why>
+    ensures { result ≡ small_in word.now }
+{
+    let n = number(word)?;
+    match u32::try_from(n) {
+        Ok(n) => Ok(n),
+        Err(_) => Err(Why::Value),
+    }
+}
+
+/// A number from 1 on.
+pub(crate) fn from_one(word: &[u8]) -> Result<u64, Why>
+    ensures { result ≡ from_one_in word.now }
+{
+    let n = number(word)?;
+    if n >= 1 { Ok(n) } else { Err(Why::Value) }
+}
+
+/// The node, which is 1.
+pub(crate) fn node(word: &[u8]) -> Result<u8, Why>
+    ensures { result ≡ node_in word.now }
+{
+    if word == b"1".as_slice() {
+        Ok(1)
+    } else {
+        Err(Why::Value)
+    }
+}
+
+pub(crate) fn client(word: &[u8]) -> Result<ClientId, Why>
+    ensures { result ≡ client_in word.now }
+{
+    let n = number(word)?;
+    ClientId::of(n).ok_or(Why::Value)
+}
+
+/// A cluster's name, which is the form of an attachment's name too.
+pub fn name(word: &[u8]) -> Result<ClusterName, Why>
+    ensures { result ≡ name_in word.now }
+{
+    match ClusterName::of(word) {
+        Ok(name) => Ok(name),
+        Err(_) => Err(Why::Value),
+    }
+}
+
+/// An epoch and a number, both from 1 on.
+pub(crate) fn call_no(word: &[u8]) -> Result<CallNo, Why>
+    ensures { result ≡ call_no_in word.now }
+{
+    let Some((epoch, within)) = cut(word, b'.') else {
+        return Err(Why::Value);
+    };
+    let epoch = small(epoch)?;
+    let within = small(within)?;
+    CallNo::of(epoch, within).ok_or(Why::Value)
+}
+
+/// `install`, `update` or `remove`.
+pub fn action(word: &[u8]) -> Result<Action, Why>
+    ensures { result ≡ action_in word.now }
+{
+    if word == b"install".as_slice() {
+        Ok(Action::Install)
+    } else if word == b"update".as_slice() {
+        Ok(Action::Update)
+    } else if word == b"remove".as_slice() {
+        Ok(Action::Remove)
+    } else {
+        Err(Why::Value)
+    }
+}
+
+fn digit(b: u8) -> Option<u8>
+    ensures value { result ≡ digit_value b }
+    ensures small { IfSome result (λ d. d < 16) }
+{
+    match b {
+        b'0'..=b'9' => Some(b - b'0'),
+        b'a'..=b'f' => Some(b - 87),
+        _ => None,
+    }
+}
+
+/// Two lower-case hexadecimal digits.
+pub(crate) fn byte(word: &[u8]) -> Result<u8, Why>
+    ensures { result ≡ byte_in word.now }
+{
+    match word {
+        [high, low] => byte_of(*high, *low).ok_or(Why::Value),
+        _ => Err(Why::Value),
+    }
+}
+
+fn byte_of(high: u8, low: u8) -> Option<u8>
+    ensures { result ≡ option_and_then (λ h. option_map (λ l. 16 * h + l) (digit_value low)) (digit_value high) }
+{
+    let high = digit(high)?;
+    let low = digit(low)?;
+    Some(16 * high + low)
+}
+
+/// A version.
+pub fn version(alloc: Global, word: &[u8]) -> Result<VersionText, WordFault>
+    ensures version { IfOk result (λ v. version_in word.now ≡ Ok v) }
+    ensures refused { IfErr result (λ e. (why : Why) → e ≡ WordFault.Refused why
+        → version_in word.now ≡ Err why) }
+{
+    match VersionText::of(alloc, word) {
+        Ok(version) => Ok(version),
+        Err(TextFault::BadText) => Err(WordFault::Refused(Why::Value)),
+        Err(TextFault::OutOfMemory) => Err(WordFault::OutOfMemory),
+    }
+}
+
+fn req(alloc: Global, word: &[u8]) -> Result<ReqText, WordFault>
+    ensures req { IfOk result (λ r. req_in word.now ≡ Ok r) }
+    ensures refused { IfErr result (λ e. (why : Why) → e ≡ WordFault.Refused why
+        → req_in word.now ≡ Err why) }
+{
+    match ReqText::of(alloc, word) {
+        Ok(req) => Ok(req),
+        Err(TextFault::BadText) => Err(WordFault::Refused(Why::Value)),
+        Err(TextFault::OutOfMemory) => Err(WordFault::OutOfMemory),
+    }
+}
+
+/// A cluster and a requirement, joined by `@`.
+pub fn need(alloc: Global, word: &[u8]) -> Result<Need, WordFault>
+    ensures need { IfOk result (λ n. need_in word.now ≡ Ok n) }
+    ensures refused { IfErr result (λ e. (why : Why) → e ≡ WordFault.Refused why
+        → need_in word.now ≡ Err why) }
+{
+    let Some((cluster, accepted)) = cut(word, b'@') else {
+        return Err(WordFault::Refused(Why::Value));
+    };
+    let name = name(cluster)?;
+    let req = req(alloc, accepted)?;
+    Ok(Need { name, req })
+}
