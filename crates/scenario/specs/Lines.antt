@@ -27,9 +27,8 @@ needs_in (word ∷ words) = do
   needs ← needs_in words
   Ok (need ∷ needs)
 
-abbrev pub cluster_line : Places → List ℕ → List ℕ → List ℕ → List ℕ → List (List ℕ) → Result ScriptLine Why
-cluster_line places node name version block needs = do
-  _ ← node_in node
+abbrev pub cluster_line : Places → List ℕ → List ℕ → List ℕ → List (List ℕ) → Result ScriptLine Why
+cluster_line places name version block needs = do
   n ← name_in name
   v ← version_in version
   b ← block_in places block
@@ -39,24 +38,24 @@ cluster_line places node name version block needs = do
 -- `<node> <cluster> <version> <block> <need>*`, with at most 16 needs
 abbrev pub installed_line : Places → List (List ℕ) → Result ScriptLine Why
 installed_line places (node ∷ name ∷ version ∷ block ∷ needs) =
-    if nat_le (length needs) need_limit then cluster_line places node name version block needs else Err Form
+    if nat_le (length needs) need_limit then (node_in node >>= λ _. cluster_line places name version block needs) else Err Form
 installed_line places _ = Err Form
 
 -- a call has one to four words
 abbrev pub is_call_form : List (List ℕ) → Bool
 is_call_form call = nat_le 1 (length call) && nat_le (length call) 4
 
+abbrev pub numbered_call : Places → List ℕ → List ℕ → List (List ℕ) → Result ScriptLine Why
+numbered_call places client number call = do
+  c ← client_in client
+  n ← call_no_in number
+  asked ← call_in places call
+  Ok (Happens (Call c n asked))
+
 -- `<node> <client> <no> <call>`
 abbrev pub call_line : Places → List (List ℕ) → Result ScriptLine Why
 call_line places (node ∷ client ∷ number ∷ call) =
-    if is_call_form call
-    then (do
-      _ ← node_in node
-      c ← client_in client
-      n ← call_no_in number
-      asked ← call_in places call
-      Ok (Happens (Call c n asked)))
-    else Err Form
+    if is_call_form call then (node_in node >>= λ _. numbered_call places client number call) else Err Form
 call_line places _ = Err Form
 
 -- `<node> <client>`
@@ -71,16 +70,16 @@ work_line _ = Err Form
 abbrev pub is_query_form : List (List ℕ) → Bool
 is_query_form query = nat_le 1 (length query) && nat_le (length query) 3
 
+abbrev pub client_query : List ℕ → List (List ℕ) → Result ScriptLine Why
+client_query client query = do
+  c ← client_in client
+  q ← query_in query
+  Ok (Happens (Ask c q))
+
 -- `<node> <client> <query>`
 abbrev pub ask_line : List (List ℕ) → Result ScriptLine Why
 ask_line (node ∷ client ∷ query) =
-    if is_query_form query
-    then (do
-      _ ← node_in node
-      c ← client_in client
-      q ← query_in query
-      Ok (Happens (Ask c q)))
-    else Err Form
+    if is_query_form query then (node_in node >>= λ _. client_query client query) else Err Form
 ask_line _ = Err Form
 
 -- `<node> <cluster>`
@@ -103,16 +102,24 @@ attach_line _ = Err Form
 abbrev pub is_later : List ℕ → Bool
 is_later word = bytes_eq word (codes "stop") || bytes_eq word (codes "fault")
 
--- a line, by its first word
-abbrev pub line_in : Places → List (List ℕ) → Result ScriptLine Why
-line_in places [] = Err Form
-line_in places (word ∷ words) =
-    if is_later word then Err Later
-    else if bytes_eq word (codes "time") then time_line words
-    else if bytes_eq word (codes "installed") then installed_line places words
-    else if bytes_eq word (codes "call") then call_line places words
+-- a line that names no block, by its first word
+abbrev pub short_line : List ℕ → List (List ℕ) → Result ScriptLine Why
+short_line word words =
+    if bytes_eq word (codes "time") then time_line words
     else if bytes_eq word (codes "work") then work_line words
     else if bytes_eq word (codes "ask") then ask_line words
     else if bytes_eq word (codes "fails") then fails_line words
     else if bytes_eq word (codes "attach") then attach_line words
     else Err Form
+
+-- a line, by its first word
+abbrev pub line_named : Places → List ℕ → List (List ℕ) → Result ScriptLine Why
+line_named places word words =
+    if is_later word then Err Later
+    else if bytes_eq word (codes "installed") then installed_line places words
+    else if bytes_eq word (codes "call") then call_line places words
+    else short_line word words
+
+abbrev pub line_in : Places → List (List ℕ) → Result ScriptLine Why
+line_in places [] = Err Form
+line_in places (word ∷ words) = line_named places word words

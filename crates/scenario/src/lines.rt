@@ -1,7 +1,20 @@
 //! Lines, as their words give them.
-use crate::blocks::BlockSource;
-use crate::events::Event;
+ghost use Rattle.std.specs.Prelude.{◌≡◌, ◌≤◌, ◌∷◌, [], IfOk, IfErr, Ok, Err, length, map};
+ghost use Rattle.ucm_base.specs.Limits.{need_limit};
+ghost use Rattle.scenario.specs.declared.why.Why.{Why};
+ghost use Rattle.scenario.specs.Lines.{ask_line, attach_line, call_line, cluster_line, fails_line, installed_line, is_call_form, is_later, is_query_form, client_query, line_in, line_named, needs_in, numbered_call, short_line, time_line, work_line};
+
+use crate::attachments::Attachments;
+use crate::blocks::{BlockSource, block};
+use crate::events::{Event, call, query};
+use crate::why::{Why, WordFault};
+use crate::words::{call_no, client, name, need, node, number, version};
+use std::alloc::Global;
+use ucm_base::limits::NEED_LIMIT;
 use ucm_base::{ClusterName, Needs, VersionText};
+
+/// The latest start time.
+const TIME_LIMIT: u64 = 4_611_686_018_427_387_904;
 
 /// A cluster that is installed when the node is formatted.
 #[derive(Drop)]
@@ -23,4 +36,271 @@ pub enum ScriptLine {
     Fails(ClusterName),
     /// This many of the attached bytes have this name.
     Attach { name: ClusterName, len: u64 },
+}
+
+fn read_time(words: &[&[u8]]) -> Result<ScriptLine, Why>
+    ensures { result ≡ time_line (map (λ w. w.now) words.now) }
+{
+    match words {
+        [word] => start_time(word),
+        _ => Err(Why::Form),
+    }
+}
+
+fn start_time(word: &[u8]) -> Result<ScriptLine, Why>
+    ensures { result ≡ time_line (word.now ∷ []) }
+{
+    let n = number(word)?;
+    if n <= TIME_LIMIT {
+        Ok(ScriptLine::Time(n))
+    } else {
+        Err(Why::Value)
+    }
+}
+
+/// The needs of these words, of which there are at most 16.
+fn read_needs(alloc: Global, words: &[&[u8]]) -> Result<Needs, WordFault>
+    requires { length words.now ≤ need_limit }
+    ensures needs { IfOk result (λ ns. needs_in (map (λ w. w.now) words.now) ≡ Ok ns) }
+    ensures refused { IfErr result (λ e. (why : Why) → e ≡ WordFault.Refused why
+        → needs_in (map (λ w. w.now) words.now) ≡ Err why) }
+{
+    let mut needs = Vec::new(alloc);
+    'words: for i in 0..words.len() {
+        let need = need(alloc, words[i])?;
+        needs.push(need)?;
+    }
+    Ok(Needs::of(needs))
+}
+
+fn read_cluster(
+    alloc: Global,
+    attachments: &Attachments,
+    named: &[u8],
+    versioned: &[u8],
+    bytes: &[u8],
+    needed: &[&[u8]],
+) -> Result<ScriptLine, WordFault>
+    requires { length needed.now ≤ need_limit }
+    ensures line { IfOk result (λ l. cluster_line attachments.now named.now versioned.now bytes.now
+        (map (λ w. w.now) needed.now) ≡ Ok l) }
+    ensures refused { IfErr result (λ e. (why : Why) → e ≡ WordFault.Refused why
+        → cluster_line attachments.now named.now versioned.now bytes.now
+        (map (λ w. w.now) needed.now) ≡ Err why) }
+{
+    let name = name(named)?;
+    let version = version(alloc, versioned)?;
+    let block = block(alloc, attachments, bytes)?;
+    let needs = read_needs(alloc, needed)?;
+    Ok(ScriptLine::Installed(Installed {
+        name,
+        version,
+        needs,
+        block,
+    }))
+}
+
+fn read_installed(
+    alloc: Global,
+    attachments: &Attachments,
+    words: &[&[u8]],
+) -> Result<ScriptLine, WordFault>
+    ensures line { IfOk result (λ l. installed_line attachments.now (map (λ w. w.now) words.now)
+        ≡ Ok l) }
+    ensures refused { IfErr result (λ e. (why : Why) → e ≡ WordFault.Refused why
+        → installed_line attachments.now (map (λ w. w.now) words.now) ≡ Err why) }
+{
+    match words {
+        [at, named, versioned, bytes, needed @ ..] => {
+            if needed.len() as u64 > NEED_LIMIT {
+                return Err(WordFault::Refused(Why::Form));
+            }
+            let _node = node(at)?;
+            read_cluster(alloc, attachments, named, versioned, bytes, needed)
+        }
+        _ => Err(WordFault::Refused(Why::Form)),
+    }
+}
+
+fn is_call(words: &[&[u8]]) -> bool
+    ensures { result ≡ is_call_form (map (λ w. w.now) words.now) }
+{
+    words.len() >= 1 && words.len() <= 4
+}
+
+fn client_call(
+    alloc: Global,
+    attachments: &Attachments,
+    client_word: &[u8],
+    number_word: &[u8],
+    words: &[&[u8]],
+) -> Result<ScriptLine, WordFault>
+    ensures line { IfOk result (λ l. numbered_call attachments.now client_word.now number_word.now
+        (map (λ w. w.now) words.now) ≡ Ok l) }
+    ensures refused { IfErr result (λ e. (why : Why) → e ≡ WordFault.Refused why
+        → numbered_call attachments.now client_word.now number_word.now
+        (map (λ w. w.now) words.now) ≡ Err why) }
+{
+    let client = client(client_word)?;
+    let no = call_no(number_word)?;
+    let call = call(alloc, attachments, words)?;
+    Ok(ScriptLine::Happens(Event::Call { client, no, call }))
+}
+
+fn read_call(
+    alloc: Global,
+    attachments: &Attachments,
+    words: &[&[u8]],
+) -> Result<ScriptLine, WordFault>
+    ensures line { IfOk result (λ l. call_line attachments.now (map (λ w. w.now) words.now)
+        ≡ Ok l) }
+    ensures refused { IfErr result (λ e. (why : Why) → e ≡ WordFault.Refused why
+        → call_line attachments.now (map (λ w. w.now) words.now) ≡ Err why) }
+{
+    match words {
+        [at, client, number, call @ ..] => {
+            if !is_call(call) {
+                return Err(WordFault::Refused(Why::Form));
+            }
+            let _node = node(at)?;
+            client_call(alloc, attachments, client, number, call)
+        }
+        _ => Err(WordFault::Refused(Why::Form)),
+    }
+}
+
+fn read_work(words: &[&[u8]]) -> Result<ScriptLine, Why>
+    ensures { result ≡ work_line (map (λ w. w.now) words.now) }
+{
+    match words {
+        [at, client_word] => {
+            let _node = node(at)?;
+            let client = client(client_word)?;
+            Ok(ScriptLine::Happens(Event::Work { client }))
+        }
+        _ => Err(Why::Form),
+    }
+}
+
+fn is_query(words: &[&[u8]]) -> bool
+    ensures { result ≡ is_query_form (map (λ w. w.now) words.now) }
+{
+    words.len() >= 1 && words.len() <= 3
+}
+
+fn client_asks(client_word: &[u8], words: &[&[u8]]) -> Result<ScriptLine, Why>
+    ensures { result ≡ client_query client_word.now (map (λ w. w.now) words.now) }
+{
+    let client = client(client_word)?;
+    let query = query(words)?;
+    Ok(ScriptLine::Happens(Event::Ask { client, query }))
+}
+
+fn read_ask(words: &[&[u8]]) -> Result<ScriptLine, Why>
+    ensures { result ≡ ask_line (map (λ w. w.now) words.now) }
+{
+    match words {
+        [at, client, query @ ..] => {
+            if !is_query(query) {
+                return Err(Why::Form);
+            }
+            let _node = node(at)?;
+            client_asks(client, query)
+        }
+        _ => Err(Why::Form),
+    }
+}
+
+fn read_fails(words: &[&[u8]]) -> Result<ScriptLine, Why>
+    ensures { result ≡ fails_line (map (λ w. w.now) words.now) }
+{
+    match words {
+        [at, named] => {
+            let _node = node(at)?;
+            let name = name(named)?;
+            Ok(ScriptLine::Fails(name))
+        }
+        _ => Err(Why::Form),
+    }
+}
+
+fn read_attach(words: &[&[u8]]) -> Result<ScriptLine, Why>
+    ensures { result ≡ attach_line (map (λ w. w.now) words.now) }
+{
+    match words {
+        [named, size] => named_bytes(named, size),
+        _ => Err(Why::Form),
+    }
+}
+
+fn named_bytes(named: &[u8], size: &[u8]) -> Result<ScriptLine, Why>
+    ensures { result ≡ attach_line (named.now ∷ size.now ∷ []) }
+{
+    let name = name(named)?;
+    let len = number(size)?;
+    Ok(ScriptLine::Attach { name, len })
+}
+
+/// The line of these words, below what the lines above attach.
+pub(crate) fn read_line(
+    alloc: Global,
+    attachments: &Attachments,
+    words: &[&[u8]],
+) -> Result<ScriptLine, WordFault>
+    ensures line { IfOk result (λ l. line_in attachments.now (map (λ w. w.now) words.now) ≡ Ok l) }
+    ensures refused { IfErr result (λ e. (why : Why) → e ≡ WordFault.Refused why
+        → line_in attachments.now (map (λ w. w.now) words.now) ≡ Err why) }
+{
+    match words {
+        [first, words @ ..] => read_named(alloc, attachments, first, words),
+        _ => Err(WordFault::Refused(Why::Form)),
+    }
+}
+
+fn is_later_word(word: &[u8]) -> bool
+    ensures { result ≡ is_later word.now }
+{
+    word == b"stop".as_slice() || word == b"fault".as_slice()
+}
+
+fn read_named(
+    alloc: Global,
+    attachments: &Attachments,
+    first: &[u8],
+    words: &[&[u8]],
+) -> Result<ScriptLine, WordFault>
+    ensures line { IfOk result (λ l. line_named attachments.now first.now
+        (map (λ w. w.now) words.now) ≡ Ok l) }
+    ensures refused { IfErr result (λ e. (why : Why) → e ≡ WordFault.Refused why
+        → line_named attachments.now first.now (map (λ w. w.now) words.now) ≡ Err why) }
+{
+    if is_later_word(first) {
+        Err(WordFault::Refused(Why::Later))
+    } else if first == b"installed".as_slice() {
+        read_installed(alloc, attachments, words)
+    } else if first == b"call".as_slice() {
+        read_call(alloc, attachments, words)
+    } else {
+        let line = read_short(first, words)?;
+        Ok(line)
+    }
+}
+
+/// A line that takes no memory.
+fn read_short(first: &[u8], words: &[&[u8]]) -> Result<ScriptLine, Why>
+    ensures { result ≡ short_line first.now (map (λ w. w.now) words.now) }
+{
+    if first == b"time".as_slice() {
+        read_time(words)
+    } else if first == b"work".as_slice() {
+        read_work(words)
+    } else if first == b"ask".as_slice() {
+        read_ask(words)
+    } else if first == b"fails".as_slice() {
+        read_fails(words)
+    } else if first == b"attach".as_slice() {
+        read_attach(words)
+    } else {
+        Err(Why::Form)
+    }
 }
