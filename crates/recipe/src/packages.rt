@@ -9,9 +9,9 @@ ghost use Rattle.recipe.specs.Packages.{by_words, free_name_in, package_form, pa
 use package_reader::Package;
 use scenario::{BlockSource, Why, WordFault, action, name, need, plain_block, version};
 use sha2::{Digest, Sha256};
-use std::alloc::{AllocError, AllocFailed, Global};
+use std::alloc::{AllocError, Global};
 use ucm_base::limits::NEED_LIMIT;
-use ucm_base::{Action, Block, ClusterName, Manifest, Need, Needs, VersionText};
+use ucm_base::{Action, Block, ClusterName, Manifest, Needs, VersionText};
 use ucm_text::words_of;
 
 /// The package that a line makes, under its name.
@@ -56,15 +56,9 @@ fn read_needs(alloc: Global, words: &[&[u8]]) -> Result<Needs, WordFault>
     let mut needs = Vec::new(alloc);
     'words: for i in 0..words.len() {
         let need = need(alloc, words[i])?;
-        needs.push(need).map_err(refused_by_memory)?;
+        needs.push(need)?;
     }
     Ok(Needs::of(needs))
-}
-
-fn refused_by_memory(_refused: AllocFailed<Need>) -> WordFault
-    ensures { result ≡ WordFault.OutOfMemory }
-{
-    WordFault::OutOfMemory
 }
 
 /// The package of these parts. Its payload is hashed once.
@@ -105,15 +99,16 @@ struct PackageWords<'a> {
 /// The package that these words name, with these needs.
 fn read_package(
     alloc: Global,
-    words: PackageWords<'_>,
+    words: &PackageWords<'_>,
     needed: &[&[u8]],
 ) -> Result<NamedPackage, WordFault>
     requires { length needed.now ≤ need_limit }
-    ensures package { IfOk result (λ p. package_words words.name.now words.action.now
-        words.cluster.now words.version.now words.block.now (map (λ w. w.now) needed.now) ≡ Ok p) }
+    ensures package { IfOk result (λ p. package_words words.now.name.now words.now.action.now
+        words.now.cluster.now words.now.version.now words.now.block.now
+        (map (λ w. w.now) needed.now) ≡ Ok p) }
     ensures refused { IfErr result (λ e. (why : Why) → e ≡ WordFault.Refused why
-        → package_words words.name.now words.action.now words.cluster.now words.version.now
-        words.block.now (map (λ w. w.now) needed.now) ≡ Err why) }
+        → package_words words.now.name.now words.now.action.now words.now.cluster.now
+        words.now.version.now words.now.block.now (map (λ w. w.now) needed.now) ≡ Err why) }
 {
     let name = free_name(words.name)?;
     let action = action(words.action)?;
@@ -143,7 +138,7 @@ fn read_form(alloc: Global, words: &[&[u8]]) -> Result<NamedPackage, WordFault>
                 version,
                 block,
             };
-            read_package(alloc, words, needed)
+            read_package(alloc, &words, needed)
         }
         _ => Err(WordFault::Refused(Why::Form)),
     }

@@ -1,6 +1,6 @@
 use Rattle.std.proofs.Common.{◌≡◌, drop, length, map}
 use Rattle.scenario.specs.Lines.{needs_in}
-use Rattle.recipe.proofs.NeedWords.{after}
+use Rattle.scenario.proofs.NeedWords.{after}
 use Rattle.recipe.proofs.packages.read_needs.Given as goal
 
 abbrev pub invariant-words : goal.invariant-words
