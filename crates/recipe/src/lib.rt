@@ -4,4 +4,5 @@
 //! Its one contract: `pack` answers exactly the bytes that the recipe makes, or its first refused line and why.
 #![tactic(auto)]
 
+mod lines;
 mod packages;
