@@ -28,8 +28,8 @@ payload_in action word =
     plain_block_in word >>= λ b. given (not (is_remove action) || length_meant b == 0) b Value
 
 -- the package that says this of itself, and has the payload's digest
-abbrev pub package_of : Action → List ℕ → List ℕ → List Need → List ℕ → Package
-package_of action cluster version needs payload =
+abbrev pub contents_of : Action → List ℕ → List ℕ → List Need → List ℕ → Package
+contents_of action cluster version needs payload =
     record { manifest = manifest action cluster version needs (sha256 payload); payload = payload }
 
 abbrev pub package_words : List ℕ → List ℕ → List ℕ → List ℕ → List ℕ → List (List ℕ) → Result NamedPackage Why
@@ -40,7 +40,7 @@ package_words name action cluster version block needs = do
   v ← version_in version
   b ← payload_in a block
   ns ← needs_in needs
-  Ok (record { name = n; contents = package_of a c v ns (bytes_meant [] b) })
+  Ok (record { name = n; contents = contents_of a c v ns (bytes_meant [] b) })
 
 -- `<name> <action> <cluster> <version> <block> <need>*`, with at most 16 needs
 abbrev pub package_form : List (List ℕ) → Result NamedPackage Why

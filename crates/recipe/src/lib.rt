@@ -5,4 +5,7 @@
 #![tactic(auto)]
 
 mod lines;
+mod made;
+mod pack;
 mod packages;
+mod seal;

@@ -4,7 +4,7 @@ ghost use Rattle.ucm_base.specs.Limits.{need_limit};
 ghost use Rattle.scenario.specs.declared.why.Why.{Why};
 ghost use Rattle.scenario.specs.Blocks.{bytes_meant};
 ghost use Rattle.scenario.specs.Lines.{needs_in};
-ghost use Rattle.recipe.specs.Packages.{by_words, free_name_in, package_form, package_in, package_named, package_of, package_words, payload_in};
+ghost use Rattle.recipe.specs.Packages.{by_words, free_name_in, package_form, package_in, package_named, contents_of, package_words, payload_in};
 
 use package_reader::Package;
 use scenario::{BlockSource, Why, WordFault, action, name, need, plain_block, version};
@@ -71,7 +71,7 @@ fn made(
     block: &BlockSource,
 ) -> Result<Package, AllocError>
     ensures { IfOk result (λ p. p
-        ≡ package_of action name version needs (bytes_meant [] block.now)) }
+        ≡ contents_of action name version needs (bytes_meant [] block.now)) }
 {
     let payload = block.made(alloc, &[])?;
     let sha256 = Sha256::digest(payload.as_slice());
