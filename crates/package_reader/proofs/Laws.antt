@@ -49,7 +49,7 @@ remove_is Remove e = refl
 remove_is Install e = absurd cc
 remove_is Update e = absurd cc
 
-tells_of : (m : Manifest) (y : List ℕ) → is_payload_of m y ≡ true → (sha256 y ≡ m.sha256) × (m.action ≡ Remove → y ≡ [])
+pub tells_of : (m : Manifest) (y : List ℕ) → is_payload_of m y ≡ true → (sha256 y ≡ m.sha256) × (m.action ≡ Remove → y ≡ [])
 tells_of m y e =
     let both = and_parts (bytes_eq (sha256 y) m.sha256) (not (is_remove m.action) || nat_lt (length y) 1) e in (
       (bytes_eq-Decides (sha256 y) m.sha256).0 both.0,

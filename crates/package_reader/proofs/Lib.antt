@@ -1,2 +1,3 @@
 mod Blocks
 mod Laws
+mod Printed

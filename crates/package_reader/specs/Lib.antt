@@ -1,3 +1,4 @@
 pub mod Fields
 pub mod Spelling
 pub mod Reading
+pub mod Printing

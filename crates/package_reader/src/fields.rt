@@ -7,7 +7,8 @@ use crate::{MANIFEST_LIMIT, PackageFault};
 use sha2::{Digest, Sha256};
 use wire::take_u32;
 
-const MARK: &[u8; 4] = b"SWP1";
+/// The first bytes of a package.
+pub(crate) const MARK: &[u8; 4] = b"SWP1";
 
 /// The fields of a package that say what it is.
 #[derive(Clone, Copy)]

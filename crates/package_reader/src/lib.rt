@@ -8,13 +8,19 @@
 mod fault;
 mod fields;
 mod package;
+mod payload;
+mod print;
 mod read;
 mod unique;
 
 pub use fault::PackageFault;
 pub use package::{Contents, Package};
+pub use print::{PrintFault, print_package};
 pub use read::{read_contents, read_package};
 pub use unique::a_package_is_one;
 
 /// Bytes of a manifest's text.
 pub const MANIFEST_LIMIT: u64 = 16_384;
+
+#[cfg(test)]
+mod tests;

@@ -1,23 +1,16 @@
 //! Reading packages.
 ghost use Rattle.std.specs.Prelude.{◌≡◌, ◌⊎◌, ◌<◌, ◌^◌, length, Some, None, Ok, Err, IfOk, IfErr};
 ghost use Rattle.manifest.specs.Form.{manifest_of};
-ghost use Rattle.package_reader.specs.Reading.{fault, is_payload_of, reading};
+ghost use Rattle.package_reader.specs.Reading.{fault, reading};
 ghost use Rattle.package_reader.specs.Spelling.{IsPackage, package_of};
 ghost use Rattle.package_reader.specs.declared.package.Package.{Package as AnyPackage};
 
 use crate::fields::fields_of;
+use crate::payload::is_payload_of;
 use crate::{Contents, Package, PackageFault};
 use manifest::{ManifestFault, read_manifest};
-use sha2::{Digest, Sha256};
 use std::alloc::Global;
-use ucm_base::{Action, Block, Manifest};
-
-fn is_payload_of(manifest: &Manifest, payload: &[u8]) -> bool
-    ensures { result ≡ is_payload_of manifest.now payload.now }
-{
-    let digest: [u8; 32] = Sha256::digest(payload);
-    digest == manifest.sha256 && (manifest.action != Action::Remove || payload.is_empty())
-}
+use ucm_base::{Block, Manifest};
 
 fn manifest_in(alloc: Global, text: &[u8]) -> Result<Manifest, PackageFault>
     ensures ok { IfOk result (λ m. manifest_of text.now ≡ Some m) }

@@ -1,0 +1,42 @@
+use Rattle.std.proofs.Common.{◌≡◌, ℕ, ◌<◌, ◌^◌, true, false, List, Ok, sym, ◌∙◌, ap, inr, length, arith}
+use Rattle.std.proofs.lemmas.Result.{IfOk-weaker}
+use Rattle.package_reader.specs.Spelling.{sealed, unsealed, IsPackage}
+use Rattle.package_reader.specs.Reading.{is_payload_of}
+use Rattle.package_reader.proofs.Laws.{package_is_read}
+use Rattle.package_reader.proofs.Printed.{too_large, wrong_digest, printed, is_package}
+use Rattle.package_reader.proofs.print.print_package.Goals as goal
+
+pub returns-then-len-payload-gt-PACKAGE_LIMIT-clause-err :
+    goal.returns-then-len-payload-gt-PACKAGE_LIMIT-clause-err
+returns-then-len-payload-gt-PACKAGE_LIMIT-clause-err c =
+    inr (too_large c.args.package.now c.in_ok-text.text.items c.in_ok-text.ensures.text (omega (arith, c.in_ok-text.ensures.short)) (omega (arith, ap length c.as_slice-payload.ensures.bytes)))
+
+pub returns-then-not-is_payload_of-clause-err : goal.returns-then-not-is_payload_of-clause-err
+returns-then-not-is_payload_of-clause-err c =
+    let p = c.args.package.now in
+    let belongs : is_payload_of p.manifest p.payload ≡ false = ap (is_payload_of p.manifest) (sym c.as_slice-payload.ensures.bytes) ∙ sym c.is_payload_of.ensures ∙ c.if-not-is_payload_of.true in
+    inr (wrong_digest p c.in_ok-text.text.items c.in_ok-text.ensures.text (omega (arith, c.in_ok-text.ensures.short)) (omega (arith, ap length c.as_slice-payload.ensures.bytes)) belongs)
+
+belongs : (c : goal.After-drop-text-2) → is_payload_of c.args.package.now.manifest c.args.package.now.payload ≡ true
+belongs c = ap (is_payload_of c.args.package.now.manifest) (sym c.as_slice-payload.ensures.bytes) ∙ sym c.is_payload_of.ensures ∙ c.if-not-is_payload_of.false
+
+same : (c : goal.After-drop-text-2) → sealed (unsealed c.as_slice.result.now c.as_slice-payload.result.now) ≡ sealed (unsealed c.in_ok-text.text.items c.args.package.now.payload)
+same c i = sealed (unsealed (c.as_slice.ensures.value i) (c.as_slice-payload.ensures.bytes i))
+
+pub returns-clause-ok : goal.returns-clause-ok
+returns-clause-ok c =
+    let bytes = printed c.args.package.now c.in_ok-text.text.items c.in_ok-text.ensures.text (omega (arith, c.in_ok-text.ensures.short)) (omega (arith, ap length c.as_slice-payload.ensures.bytes)) (belongs c) in
+    IfOk-weaker c.sealed_bytes.result _ _ (λ b e. bytes ∙ ap (λ (xs : List ℕ). Ok xs) (sym (e ∙ same c))) c.sealed_bytes.ensures.ok
+
+spelled : (c : goal.After-drop-text-2) (bytes : List ℕ) → bytes ≡ sealed (unsealed c.as_slice.result.now c.as_slice-payload.result.now) → IsPackage bytes c.args.package.now
+spelled c bytes e =
+    let p = c.args.package.now in
+    let small : length p.payload < 2 ^ 32 = omega (arith, c.as_slice-payload.ensures.form) in
+    rw (e ∙ same c) (is_package p c.in_ok-text.text.items (omega (arith, c.in_ok-text.ensures.short)) small c.in_ok-text.ensures.back (belongs c))
+
+pub returns-clause-spelled : goal.returns-clause-spelled
+returns-clause-spelled c = IfOk-weaker c.sealed_bytes.result _ _ (λ b e. spelled c b.items e) c.sealed_bytes.ensures.ok
+
+pub returns-clause-back : goal.returns-clause-back
+returns-clause-back c =
+    IfOk-weaker c.sealed_bytes.result _ _ (λ b e. package_is_read b.items c.args.package.now (spelled c b.items e)) c.sealed_bytes.ensures.ok

@@ -1,0 +1,85 @@
+//! Printing packages.
+ghost use Rattle.std.specs.Prelude.{◌≡◌, ◌⊎◌, ◌<◌, ◌≤◌, ◌^◌, length, Ok, Err, IfOk, IfErr};
+ghost use Rattle.package_reader.specs.Printing.{package_text, printing};
+ghost use Rattle.package_reader.specs.Reading.{reading};
+ghost use Rattle.package_reader.specs.Spelling.{IsPackage, sealed, unsealed};
+
+use crate::Package;
+use crate::fields::MARK;
+use crate::payload::is_payload_of;
+use manifest::print_manifest;
+use sha2::{Digest, Sha256};
+use std::alloc::{AllocError, Global};
+use ucm_base::limits::PACKAGE_LIMIT;
+use wire::put_bytes;
+
+/// Why a package was not printed.
+#[derive(Clone, Copy, Debug, PartialEq, Eq)]
+pub enum PrintFault {
+    /// The manifest's text or the whole passes its limit.
+    TooLarge,
+    /// The manifest hasn't the payload's digest, or a removal has a payload.
+    WrongDigest,
+    OutOfMemory,
+}
+
+impl From<AllocError> for PrintFault {
+    ghost use Rattle.std.specs.Prelude.{◌≡◌};
+    ghost use Rattle.package_reader.specs.declared.print.PrintFault.TheVariants.{OutOfMemory};
+
+    ghost from_gives = { λ _ e. e ≡ OutOfMemory };
+
+    fn from(_refused: AllocError) -> PrintFault {
+        PrintFault::OutOfMemory
+    }
+}
+
+impl From<wire::OutOfMemory> for PrintFault {
+    ghost use Rattle.std.specs.Prelude.{◌≡◌};
+    ghost use Rattle.package_reader.specs.declared.print.PrintFault.TheVariants.{OutOfMemory};
+
+    ghost from_gives = { λ _ e. e ≡ OutOfMemory };
+
+    fn from(_refused: wire::OutOfMemory) -> PrintFault {
+        PrintFault::OutOfMemory
+    }
+}
+
+/// The mark, the text and the payload behind their lengths, and the digest of all this.
+pub(crate) fn sealed_bytes(
+    alloc: Global,
+    text: &[u8],
+    payload: &[u8],
+) -> Result<Vec<u8>, PrintFault>
+    requires text { length text.now < 2 ^ 32 }
+    requires payload { length payload.now < 2 ^ 32 }
+    ensures ok { IfOk result (λ b. b.items ≡ sealed (unsealed text.now payload.now)) }
+    ensures err { IfErr result (λ e. e ≡ PrintFault.OutOfMemory) }
+{
+    let mut bytes = Vec::with_capacity(alloc, 44 + text.len() + payload.len())?;
+    bytes.extend_from_slice(MARK)?;
+    put_bytes(&mut bytes, text)?;
+    put_bytes(&mut bytes, payload)?;
+    let digest: [u8; 32] = Sha256::digest(bytes.as_slice());
+    bytes.extend_from_slice(&digest)?;
+    Ok(bytes)
+}
+
+/// The bytes of a package, which are read as it. The payload is hashed once, and all bytes before the digest once.
+pub fn print_package(alloc: Global, package: &Package) -> Result<Vec<u8>, PrintFault>
+    ensures ok { IfOk result (λ b. printing «package».now ≡ Ok b.items) }
+    // What isn't want of memory is the first fault.
+    ensures err { IfErr result (λ e. (e ≡ PrintFault.OutOfMemory) ⊎ (printing «package».now ≡ Err e)) }
+    ensures spelled { IfOk result (λ b. IsPackage b.items «package».now) }
+    ensures back { IfOk result (λ b. reading b.items ≡ Ok «package».now) }
+{
+    let text = print_manifest(alloc, &package.manifest)?;
+    let payload = package.payload.as_slice();
+    if (44 + text.len() + payload.len()) as u64 > PACKAGE_LIMIT {
+        return Err(PrintFault::TooLarge);
+    }
+    if !is_payload_of(&package.manifest, payload) {
+        return Err(PrintFault::WrongDigest);
+    }
+    sealed_bytes(alloc, text.as_slice(), payload)
+}
