@@ -1,6 +1,7 @@
 //! The bytes of a package whose digest was made of its payload, which isn't hashed again.
-ghost use Rattle.std.specs.Prelude.{◌≡◌, ◌++◌, ◌<◌, ◌^◌, IfOk, OnOk, length};
+ghost use Rattle.std.specs.Prelude.{◌≡◌, ◌++◌, ◌<◌, ◌≤◌, ◌^◌, IfOk, OnOk, length};
 ghost use Rattle.wire.specs.Fields.{bytes_field};
+ghost use Rattle.manifest.specs.Text.{manifest_text};
 ghost use Rattle.package_reader.specs.Printing.{package_text};
 ghost use Rattle.package_reader.specs.Spelling.{sealed, unsealed};
 
@@ -38,7 +39,8 @@ fn sealed_bytes(alloc: Global, text: &[u8], payload: &[u8]) -> Result<Vec<u8>, A
 /// The bytes of a package. What stands before the digest is hashed once, the payload alone not at all.
 #[tactic(auto, unfolding(package_reader::specs::Printing::package_text))]
 pub fn seal_package(alloc: Global, contents: &Package) -> Result<Vec<u8>, AllocError>
-    ensures { IfOk result (λ b. b.items ≡ package_text contents.now) }
+    ensures bytes { IfOk result (λ b. b.items ≡ package_text contents.now) }
+    ensures short { IfOk result (λ _. length (manifest_text contents.now.manifest) ≤ 4096) }
 {
     let text = print_manifest(alloc, &contents.manifest)?;
     sealed_bytes(alloc, text.as_slice(), contents.payload.as_slice())
