@@ -13,7 +13,7 @@ use Rattle.recipe.specs.Recipes.{NamedBytes, printed, recipe_of}
 
 -- `attach <name> <length>`
 abbrev pub attach_text : NamedBytes → List ℕ
-attach_text a = codes "attach " ++ a.name ++ codes " " ++ decimal (length a.bytes)
+attach_text a = codes "attach " ++ a.name ++ 32 ∷ decimal (length a.bytes)
 
 abbrev pub text_by : List ℕ → Result (Option NamedPackage) Why → List ℕ
 text_by line (Ok (Some p)) = attach_text (printed p)

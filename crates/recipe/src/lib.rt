@@ -4,8 +4,10 @@
 //! Its one contract: `pack` answers exactly the bytes that the recipe makes, or its first refused line and why.
 #![tactic(auto)]
 
+mod fault;
 mod lines;
 mod made;
 mod pack;
 mod packages;
+mod recipe;
 mod seal;

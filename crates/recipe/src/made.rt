@@ -62,7 +62,7 @@ impl Attachment {
 }
 
 fn attach_line(alloc: Global, name: ClusterName, len: usize) -> Result<String, AllocError>
-    ensures { IfOk result (λ s. string_bytes s ≡ codes "attach " ++ name ++ codes " " ++ decimal len) }
+    ensures { IfOk result (λ s. string_bytes s ≡ codes "attach " ++ name ++ 32 ∷ decimal len) }
 {
     format!(in alloc; "attach {name} {len}")
 }

@@ -1,4 +1,0 @@
-use Rattle.recipe.proofs.made.attach_line.Goals as goal
-
-pub returns : goal.returns
-returns c = let h = c.format.ensures.ok in ?
