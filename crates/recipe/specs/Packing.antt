@@ -5,8 +5,8 @@ use Rattle.scenario.specs.declared.why.Why.{Why}
 use Rattle.scenario.specs.declared.why.Why.TheVariants.{Missing}
 use Rattle.scenario.specs.Scripts.{Refused}
 use Rattle.recipe.specs.declared.packages.NamedPackage.{NamedPackage}
-use Rattle.recipe.specs.declared.pack.Kind.{Kind}
-use Rattle.recipe.specs.declared.pack.Kind.TheVariants.{Package, Script}
+use Rattle.recipe.specs.declared.packing.Kind.{Kind}
+use Rattle.recipe.specs.declared.packing.Kind.TheVariants.{Package, Script}
 use Rattle.recipe.specs.Packages.{package_in}
 use Rattle.recipe.specs.Lines.{lines_in}
 use Rattle.recipe.specs.Recipes.{NamedBytes, printed, recipe_of}

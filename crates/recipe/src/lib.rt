@@ -7,7 +7,11 @@
 mod fault;
 mod lines;
 mod made;
-mod pack;
 mod packages;
+mod packing;
 mod recipe;
 mod seal;
+
+pub use fault::PackFault;
+pub use made::MADE_LIMIT;
+pub use packing::{Kind, pack};

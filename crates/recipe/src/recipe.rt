@@ -72,3 +72,24 @@ impl Recipe {
         }
     }
 }
+
+/// What all lines of a recipe make.
+pub fn read_recipe(alloc: Global, input: &[u8]) -> Result<Recipe, PackFault>
+    ensures made { IfOk result (λ r. recipe_of input.now ≡ Ok r.made.items) }
+    ensures text { IfOk result (λ r. r.text.items ≡ text_of (lines_in input.now)) }
+    ensures refused { IfErr result (λ e. (line : ℕ) (why : Why) → e ≡ PackFault.Refused line why
+        → recipe_of input.now ≡ Err (record { line = line; why = why })) }
+{
+    let mut recipe = Recipe::new(alloc);
+    let mut number = 1u64;
+    let mut rest = input;
+    'lines: while !rest.is_empty() {
+        let (line, behind) = first_line(rest);
+        if let Err(fault) = recipe.add(alloc, line) {
+            return Err(fault_at(number, fault));
+        }
+        number += 1;
+        rest = behind;
+    }
+    Ok(recipe)
+}
