@@ -1,1 +1,4 @@
 pub mod NeedWords
+pub mod Cuts
+pub mod FirstWords
+mod Worked

@@ -1,7 +1,8 @@
 -- Scripts: a fold over lines that carries what the lines above said.
-use Rattle.std.specs.Prelude.{ℕ, ◌+◌, ◌-◌, ◌&&◌, ◌==◌, nat_lt, nat_le, Bool, true, if◌then◌else◌, List, [], ◌∷◌, ◌++◌, length, codes, Option, Some, None, is_some, is_none, unwrap_or, Result, Ok, Err}
+use Rattle.std.specs.Prelude.{ℕ, ◌+◌, ◌-◌, ◌&&◌, ◌==◌, nat_lt, nat_le, Bool, true, if◌then◌else◌, List, [], ◌∷◌, ◌++◌, length, codes, Option, Some, None, is_some, is_none, option_copied, unwrap_or, Result, Ok, Err}
 use Rattle.std.specs.List.{list_any, slice_split}
 use Rattle.std.specs.Str.{bytes_eq}
+use Rattle.std.specs.Borrow.{Bor}
 use Rattle.ucm_base.specs.Limits.{cluster_limit, package_limit, input_limit}
 use Rattle.scenario.specs.declared.why.Why.{Why}
 use Rattle.scenario.specs.declared.why.Why.TheVariants.{Twice, Limit, Bytes}
@@ -22,11 +23,15 @@ pub record Refused : Type 0 where
   pub line : ℕ
   pub why : Why
 
+-- what stands between the bytes of a value
+abbrev pub pieces : ℕ → List ℕ → List (List ℕ)
+pieces at text = slice_split (λ b. b == at) text
+
 abbrev pub lines_of : List ℕ → List (List ℕ)
-lines_of text = slice_split (λ b. b == 10) text
+lines_of text = pieces 10 text
 
 abbrev pub words_of : List ℕ → List (List ℕ)
-words_of line = slice_split (λ b. b == 32) line
+words_of line = pieces 32 line
 
 -- an empty line, or one that begins with `#`
 abbrev pub is_passed_over : List ℕ → Bool
@@ -56,13 +61,19 @@ installed_added above c =
     if has_installed above.installed c.name then Err Twice
     else given (has_room above c) (record above { installed = above.installed ++ c ∷ [] }) Limit
 
--- at most 67,108,864 attached bytes
+-- the attached bytes with some more, at most 67,108,864
+abbrev pub attached_with : ℕ → ℕ → Option ℕ
+attached_with attached len = if nat_le (attached + len) input_limit then Some (attached + len) else None
+
+-- what is known below an attachment, where this many bytes are attached then
+abbrev pub attached_to : Above → List ℕ → ℕ → Option ℕ → Result Above Why
+attached_to above name len (Some all) =
+    Ok (record above { attachments = with_attached above.attachments name (record { at = above.attached; len = len }); attached = all })
+attached_to above name len None = Err Limit
+
 abbrev pub attach_added : Above → List ℕ → ℕ → Result Above Why
 attach_added above name len =
-    if is_some (attached_by above.attachments name) then Err Twice
-    else given (nat_le (above.attached + len) input_limit)
-      (record above { attachments = with_attached above.attachments name (record { at = above.attached; len = len }); attached = above.attached + len })
-      Limit
+    if is_some (attached_by above.attachments name) then Err Twice else attached_to above name len (attached_with above.attached len)
 
 -- what is known below a line, unless it stands twice or passes a limit
 abbrev pub added : ℕ → Above → ScriptLine → Result Above Why
@@ -99,3 +110,17 @@ read_from size above at n (line ∷ lines) =
 -- the script that an input is, or why it is none
 abbrev pub script_of : Command → List ℕ → Result Script Refused
 script_of Replay input = read_from (length input) nothing_above 0 1 (lines_of input)
+
+-- a text that may be left
+abbrev pub text_left : Option (Bor (List ℕ)) → Option (List ℕ)
+text_left left = option_copied left
+
+-- its pieces
+abbrev pub pieces_left : ℕ → Option (List ℕ) → List (List ℕ)
+pieces_left at None = []
+pieces_left at (Some text) = pieces at text
+
+-- its bytes, with the one before them
+abbrev pub size_left : Option (List ℕ) → ℕ
+size_left None = 0
+size_left (Some text) = length text + 1

@@ -15,24 +15,48 @@ use ucm_base::{CallNo, ClientId};
 #[derive(Drop)]
 pub enum ScriptCall {
     Sync,
-    TransferStart { size: u64 },
-    TransferData { id: u32, counter: u64, block: BlockSource },
-    TransferExit { id: u32 },
-    DeleteTransfer { id: u32 },
-    ProcessSwPackage { id: u32, tag: u32 },
+    TransferStart {
+        size: u64,
+    },
+    TransferData {
+        id: u32,
+        counter: u64,
+        block: BlockSource,
+    },
+    TransferExit {
+        id: u32,
+    },
+    DeleteTransfer {
+        id: u32,
+    },
+    ProcessSwPackage {
+        id: u32,
+        tag: u32,
+    },
     Activate,
     Finish,
     Rollback,
     RevertProcessedSwPackages,
-    Cancel { id: u32 },
+    Cancel {
+        id: u32,
+    },
 }
 
 /// What a client does.
 #[derive(Drop)]
 pub enum Event {
-    Call { client: ClientId, no: CallNo, call: ScriptCall },
-    Work { client: ClientId },
-    Ask { client: ClientId, query: Query },
+    Call {
+        client: ClientId,
+        no: CallNo,
+        call: ScriptCall,
+    },
+    Work {
+        client: ClientId,
+    },
+    Ask {
+        client: ClientId,
+        query: Query,
+    },
 }
 
 /// What a client does at a line.
@@ -60,7 +84,10 @@ pub fn call_of(alloc: Global, call: &ScriptCall, attached: &[u8]) -> Result<Call
         ScriptCall::TransferStart { size } => Ok(Call::TransferStart { size: *size }),
         ScriptCall::TransferExit { id } => Ok(Call::TransferExit { id: *id }),
         ScriptCall::DeleteTransfer { id } => Ok(Call::DeleteTransfer { id: *id }),
-        ScriptCall::ProcessSwPackage { id, tag } => Ok(Call::ProcessSwPackage { id: *id, tag: *tag }),
+        ScriptCall::ProcessSwPackage { id, tag } => Ok(Call::ProcessSwPackage {
+            id: *id,
+            tag: *tag,
+        }),
         ScriptCall::Activate => Ok(Call::Activate),
         ScriptCall::Finish => Ok(Call::Finish),
         ScriptCall::Rollback => Ok(Call::Rollback),
@@ -87,11 +114,7 @@ fn named_call(name: &[u8]) -> Result<ScriptCall, Why>
     }
 }
 
-fn call_with_word(
-    attachments: &Attachments,
-    name: &[u8],
-    word: &[u8],
-) -> Result<ScriptCall, Why>
+fn call_with_word(attachments: &Attachments, name: &[u8], word: &[u8]) -> Result<ScriptCall, Why>
     ensures { result ≡ call_with attachments.now name.now word.now }
 {
     if name == b"start".as_slice() {

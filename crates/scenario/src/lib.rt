@@ -11,14 +11,15 @@ mod events;
 mod lines;
 mod rows;
 mod script;
+#[cfg(test)]
+mod tests;
 mod why;
 mod words;
 
-pub use attachments::{Attached, Attachments};
 pub use blocks::{BlockSource, plain_block};
 pub use events::{Event, EventLine, ScriptCall, call_of};
-pub use lines::{Installed, ScriptLine};
+pub use lines::Installed;
 pub use rows::Rows;
-pub use script::{Above, Command, Script};
+pub use script::{Command, Script, read_script};
 pub use why::{ScriptFault, Why, WordFault};
 pub use words::{action, name, need, number, small, version};

@@ -1,9 +1,22 @@
 //! Scripts, read line by line.
-use crate::attachments::Attachments;
+ghost use Rattle.std.specs.Prelude.{◌≡◌, ◌≤◌, ◌<◌, ◌+◌, ◌-◌, ◌∷◌, [], drop, length, map, take, IfOk, IfErr, OnOk, Ok, Err, Some, ℕ};
+ghost use Rattle.std.specs.List.{slice_split};
+ghost use Rattle.scenario.specs.declared.why.Why.{Why};
+ghost use Rattle.scenario.specs.Lines.{line_in};
+ghost use Rattle.scenario.specs.Scripts.{added, attach_added, attached_with, finished, has_room, has_installed, installed_added, is_end, is_passed_over, line_read, lines_of, nothing_above, pieces, pieces_left, script_of, size_left, text_left, time_added, words_of};
+
+use crate::attachments::{Attached, Attachments};
 use crate::events::EventLine;
-use crate::lines::Installed;
+use crate::lines::{Installed, ScriptLine, read_line};
 use crate::rows::Rows;
+use crate::why::{ScriptFault, Why, WordFault};
+use crate::words::cut;
+use std::alloc::{AllocError, Global};
 use ucm_base::ClusterName;
+use ucm_base::limits::{CLUSTER_LIMIT, INPUT_LIMIT, PACKAGE_LIMIT};
+
+/// One more than the words of the longest line, which installs a cluster with 16 needs.
+const WORD_LIMIT: usize = 22;
 
 /// The command that a script is for.
 #[derive(Clone, Copy, Debug, PartialEq, Eq)]
@@ -26,6 +39,16 @@ pub struct Script {
     pub attached_at: u64,
 }
 
+impl Script {
+    /// The attached bytes, of the input that the script was read from.
+    pub fn attached<'a>(&self, input: &'a [u8]) -> &'a [u8]
+        ensures { result.now ≡ drop self.now.attached_at input.now }
+    {
+        let at = usize::min(self.attached_at as usize, input.len());
+        &input[at..]
+    }
+}
+
 /// What the lines above say.
 #[derive(Drop)]
 pub struct Above {
@@ -36,4 +59,262 @@ pub struct Above {
     pub attachments: Attachments,
     /// How many bytes are attached.
     pub attached: u32,
+}
+
+impl Above {
+    fn new(alloc: Global) -> Above
+        ensures { result ≡ nothing_above }
+    {
+        Above {
+            time: None,
+            installed: Rows::new(alloc),
+            fails: Rows::new(alloc),
+            events: Rows::new(alloc),
+            attachments: Attachments::new(alloc),
+            attached: 0,
+        }
+    }
+
+    fn add_time(&mut self, n: u64) -> Result<(), WordFault>
+        ensures added { OnOk result (time_added self.old n ≡ Ok self.new) }
+        ensures refused { IfErr result (λ e. (why : Why) → e ≡ WordFault.Refused why
+            → time_added self.old n ≡ Err why) }
+    {
+        if self.time.is_some() {
+            return Err(WordFault::Refused(Why::Twice));
+        }
+        self.time = Some(n);
+        Ok(())
+    }
+
+    fn installs(&self, name: &ClusterName) -> bool
+        ensures { result ≡ has_installed self.now.installed name.now }
+    {
+        self.installed.as_slice().iter().any(|c| c.name == *name)
+    }
+
+    fn has_room_for(&self, cluster: &Installed) -> bool
+        ensures { result ≡ has_room self.now cluster.now }
+    {
+        let installed = self.installed.as_slice();
+        (installed.len() as u64) < CLUSTER_LIMIT && cluster.block.len() <= PACKAGE_LIMIT
+    }
+
+    fn add_installed(&mut self, cluster: Installed) -> Result<(), WordFault>
+        ensures added { OnOk result (installed_added self.old cluster ≡ Ok self.new) }
+        ensures refused { IfErr result (λ e. (why : Why) → e ≡ WordFault.Refused why
+            → installed_added self.old cluster ≡ Err why) }
+    {
+        if self.installs(&cluster.name) {
+            return Err(WordFault::Refused(Why::Twice));
+        }
+        if !self.has_room_for(&cluster) {
+            return Err(WordFault::Refused(Why::Limit));
+        }
+        self.installed.push(cluster)?;
+        Ok(())
+    }
+
+    /// The attached bytes with these, if they aren't too many.
+    fn attached_with(&self, len: u64) -> Option<u32>
+        ensures { result ≡ attached_with self.now.attached len }
+    {
+        match u64::from(self.attached).checked_add(len) {
+            Some(all) if all <= INPUT_LIMIT => Some(all as u32),
+            _ => None,
+        }
+    }
+
+    fn add_attachment(&mut self, name: ClusterName, len: u64) -> Result<(), WordFault>
+        ensures added { OnOk result (attach_added self.old name len ≡ Ok self.new) }
+        ensures refused { IfErr result (λ e. (why : Why) → e ≡ WordFault.Refused why
+            → attach_added self.old name len ≡ Err why) }
+    {
+        if self.attachments.named(name).is_some() {
+            return Err(WordFault::Refused(Why::Twice));
+        }
+        let Some(all) = self.attached_with(len) else {
+            return Err(WordFault::Refused(Why::Limit));
+        };
+        let place = Attached {
+            at: self.attached,
+            len: all - self.attached,
+        };
+        self.attachments.add(name, place)?;
+        self.attached = all;
+        Ok(())
+    }
+
+    fn add(&mut self, number: u64, line: ScriptLine) -> Result<(), WordFault>
+        ensures added { OnOk result (added number self.old line ≡ Ok self.new) }
+        ensures refused { IfErr result (λ e. (why : Why) → e ≡ WordFault.Refused why
+            → added number self.old line ≡ Err why) }
+    {
+        match line {
+            ScriptLine::Time(n) => self.add_time(n),
+            ScriptLine::Installed(cluster) => self.add_installed(cluster),
+            ScriptLine::Happens(event) => {
+                self.events.push(EventLine {
+                    line: number,
+                    event,
+                })?;
+                Ok(())
+            }
+            ScriptLine::Fails(name) => {
+                self.fails.push(name)?;
+                Ok(())
+            }
+            ScriptLine::Attach { name, len } => self.add_attachment(name, len),
+        }
+    }
+}
+
+/// The script of all lines, where the bytes from a place on are as many as the attached ones.
+fn finish(above: Above, size: u64, at: u64) -> Result<Script, ScriptFault>
+    ensures script { IfOk result (λ s. finished size above at ≡ Ok s) }
+    ensures refused { IfErr result (λ e. (line : ℕ) (why : Why)
+        → e ≡ ScriptFault.BadScenario line why
+        → finished size above at ≡ Err (record { line = line; why = why })) }
+{
+    let Above {
+        time,
+        installed,
+        fails,
+        events,
+        attachments,
+        attached,
+    } = above;
+    drop(attachments);
+    if u64::from(attached) != size.saturating_sub(at) {
+        return Err(ScriptFault::BadScenario {
+            line: 0,
+            why: Why::Bytes,
+        });
+    }
+    Ok(Script {
+        time: time.unwrap_or(0),
+        installed,
+        fails,
+        events,
+        attached_at: at,
+    })
+}
+
+fn fault_at(number: u64, fault: WordFault) -> ScriptFault
+    ensures { (line : ℕ) (why : Why) → result ≡ ScriptFault.BadScenario line why
+        → (line ≡ number) × (fault ≡ WordFault.Refused why) }
+{
+    match fault {
+        WordFault::Refused(why) => ScriptFault::BadScenario { line: number, why },
+        WordFault::OutOfMemory => ScriptFault::OutOfMemory,
+    }
+}
+
+fn is_passed(line: &[u8]) -> bool
+    ensures { result ≡ is_passed_over line.now }
+{
+    match line {
+        [] => true,
+        [first, ..] => *first == b'#',
+    }
+}
+
+/// What stands before the first such byte, and what is left behind it.
+fn first_piece(text: &[u8], at: u8) -> (&[u8], Option<&[u8]>)
+    ensures split { pieces at text.now ≡ result.0.now ∷ pieces_left at (text_left result.1) }
+    ensures size { length result.0.now + size_left (text_left result.1) ≡ length text.now }
+{
+    match cut(text, at) {
+        Some((first, rest)) => (first, Some(rest)),
+        None => (text, None),
+    }
+}
+
+/// The first words of a line, at most this many.
+fn first_words<'a>(alloc: Global, line: &'a [u8], most: usize) -> Result<Vec<&'a [u8]>, AllocError>
+    ensures { IfOk result (λ v. map (λ w. w.now) v.items ≡ take most (words_of line.now)) }
+{
+    let mut words = Vec::new(alloc);
+    let mut left = Some(line);
+    'words: for _i in 0..most {
+        let Some(text) = left else {
+            return Ok(words);
+        };
+        let (word, rest) = first_piece(text, b' ');
+        words.push(word)?;
+        left = rest;
+    }
+    Ok(words)
+}
+
+/// The line of a text's words.
+fn read_words(
+    alloc: Global,
+    attachments: &Attachments,
+    line: &[u8],
+) -> Result<ScriptLine, WordFault>
+    ensures line { IfOk result (λ l. line_in attachments.now (words_of line.now) ≡ Ok l) }
+    ensures refused { IfErr result (λ e. (why : Why) → e ≡ WordFault.Refused why
+        → line_in attachments.now (words_of line.now) ≡ Err why) }
+{
+    let words = first_words(alloc, line, WORD_LIMIT)?;
+    read_line(alloc, attachments, words.as_slice())
+}
+
+/// Takes in a line.
+fn take_in(alloc: Global, above: &mut Above, number: u64, line: &[u8]) -> Result<(), WordFault>
+    ensures read { OnOk result (line_read number above.old line.now ≡ Ok above.new) }
+    ensures refused { IfErr result (λ e. (why : Why) → e ≡ WordFault.Refused why
+        → line_read number above.old line.now ≡ Err why) }
+{
+    if is_passed(line) {
+        return Ok(());
+    }
+    let read = read_words(alloc, &above.attachments, line)?;
+    above.add(number, read)
+}
+
+fn is_last(line: &[u8]) -> bool
+    ensures { result ≡ is_end line.now }
+{
+    line == b"end".as_slice()
+}
+
+/// The script of an input for the command `replay`.
+fn read_replay(alloc: Global, input: &[u8]) -> Result<Script, ScriptFault>
+    ensures script { IfOk result (λ s. script_of Command.Replay input.now ≡ Ok s) }
+    ensures refused { IfErr result (λ e. (line : ℕ) (why : Why)
+        → e ≡ ScriptFault.BadScenario line why
+        → script_of Command.Replay input.now ≡ Err (record { line = line; why = why })) }
+{
+    let mut above = Above::new(alloc);
+    let mut at = 0u64;
+    let mut number = 1u64;
+    let mut left = Some(input);
+    'lines: while let Some(text) = left {
+        let (line, rest) = first_piece(text, b'\n');
+        at += line.len() as u64 + 1;
+        if is_last(line) {
+            left = None;
+        } else {
+            if let Err(fault) = take_in(alloc, &mut above, number, line) {
+                return Err(fault_at(number, fault));
+            }
+            number += 1;
+            left = rest;
+        }
+    }
+    finish(above, input.len() as u64, at)
+}
+
+/// The script that an input is. It is read line by line; blocks are not spelled out.
+pub fn read_script(alloc: Global, input: &[u8], kind: Command) -> Result<Script, ScriptFault>
+    ensures script { IfOk result (λ s. script_of kind input.now ≡ Ok s) }
+    ensures refused { IfErr result (λ e. (line : ℕ) (why : Why)
+        → e ≡ ScriptFault.BadScenario line why
+        → script_of kind input.now ≡ Err (record { line = line; why = why })) }
+{
+    match kind {
+        Command::Replay => read_replay(alloc, input),
+    }
 }

@@ -89,10 +89,7 @@ impl<T: Drop> From<AllocFailed<T>> for WordFault {
 #[derive(Clone, Copy, Debug, PartialEq, Eq)]
 pub enum ScriptFault {
     /// The first line that is refused, counted from 1, or 0 for what is judged behind all lines.
-    BadScenario {
-        line: u64,
-        why: Why,
-    },
+    BadScenario { line: u64, why: Why },
     OutOfMemory,
 }
 

@@ -5,9 +5,7 @@ ghost use Rattle.scenario.specs.Words.{action_in, byte_in, call_no_in, client_in
 
 use crate::why::{Why, WordFault};
 use std::alloc::Global;
-use ucm_base::{
-    Action, CallNo, ClientId, ClusterName, Need, ReqText, TextFault, VersionText,
-};
+use ucm_base::{Action, CallNo, ClientId, ClusterName, Need, ReqText, TextFault, VersionText};
 use ucm_text::number_of;
 
 fn place_of(text: &[u8], at: u8) -> Option<usize>
