@@ -69,6 +69,10 @@ abbrev pub first_fault : List (Bool × PackageFault) → Option PackageFault
 first_fault [] = None
 first_fault (row ∷ rows) = if row.0 then Some row.1 else first_fault rows
 
+-- the fault of the fields themselves, which is seen before any text is read
+unfoldable pub field_fault : List ℕ → Option PackageFault
+field_fault bytes = first_fault (field_faults bytes)
+
 -- why bytes are no package
 unfoldable pub fault : List ℕ → Option PackageFault
 fault bytes = first_fault (faults bytes)

@@ -75,7 +75,8 @@ pub fn print_package(alloc: Global, package: &Package) -> Result<Vec<u8>, PrintF
 {
     let text = print_manifest(alloc, &package.manifest)?;
     let payload = package.payload.as_slice();
-    if (44 + text.len() + payload.len()) as u64 > PACKAGE_LIMIT {
+    let total = (44 + text.len() + payload.len()) as u64;
+    if total > PACKAGE_LIMIT {
         return Err(PrintFault::TooLarge);
     }
     if !is_payload_of(&package.manifest, payload) {

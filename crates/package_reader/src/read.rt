@@ -1,8 +1,9 @@
 //! Reading packages.
 ghost use Rattle.std.specs.Prelude.{◌≡◌, ◌⊎◌, ◌<◌, ◌^◌, length, Some, None, Ok, Err, IfOk, IfErr};
 ghost use Rattle.manifest.specs.Form.{manifest_of};
-ghost use Rattle.package_reader.specs.Reading.{fault, reading};
+ghost use Rattle.package_reader.specs.Reading.{fault, field_fault, reading};
 ghost use Rattle.package_reader.specs.Spelling.{IsPackage, package_of};
+ghost use Rattle.package_reader.specs.declared.fault.PackageFault.{PackageFault as AnyFault};
 ghost use Rattle.package_reader.specs.declared.package.Package.{Package as AnyPackage};
 
 use crate::fields::fields_of;
@@ -24,11 +25,12 @@ fn manifest_in(alloc: Global, text: &[u8]) -> Result<Manifest, PackageFault>
     }
 }
 
-#[tactic(auto, unfolding(crate::specs::Reading::fault, crate::specs::Reading::reading))]
+#[tactic(auto, unfolding(crate::specs::Reading::fault, crate::specs::Reading::field_fault, crate::specs::Reading::reading))]
 fn contents_of(alloc: Global, bytes: &[u8]) -> Result<Contents<'_>, PackageFault>
     ensures len { IfOk result (λ c. length c.payload.now < 2 ^ 32) }
     ensures ok { IfOk result (λ c. reading bytes.now ≡ Ok (package_of c)) }
     ensures err { IfErr result (λ e. (e ≡ PackageFault.OutOfMemory) ⊎ (reading bytes.now ≡ Err e)) }
+    ensures fields { (f : AnyFault) → field_fault bytes.now ≡ Some f → result ≡ Err f }
 {
     let fields = fields_of(bytes)?;
     let manifest = manifest_in(alloc, fields.text)?;
@@ -51,6 +53,8 @@ pub fn read_contents(alloc: Global, bytes: &[u8]) -> Result<Contents<'_>, Packag
     // What isn't want of memory is the first fault.
     ensures first { IfErr result (λ e. (e ≡ PackageFault.OutOfMemory) ⊎ (fault bytes.now ≡ Some e)) }
     ensures err { IfErr result (λ e. (e ≡ PackageFault.OutOfMemory) ⊎ (reading bytes.now ≡ Err e)) }
+    // A fault of the fields is answered without a call for memory.
+    ensures fields { (f : AnyFault) → field_fault bytes.now ≡ Some f → result ≡ Err f }
     ensures len { IfOk result (λ c. length c.payload.now < 2 ^ 32) }
 {
     contents_of(alloc, bytes)
@@ -65,6 +69,8 @@ pub fn read_package(alloc: Global, bytes: &[u8]) -> Result<Package, PackageFault
     // What isn't want of memory is the first fault.
     ensures first { IfErr result (λ e. (e ≡ PackageFault.OutOfMemory) ⊎ (fault bytes.now ≡ Some e)) }
     ensures err { IfErr result (λ e. (e ≡ PackageFault.OutOfMemory) ⊎ (reading bytes.now ≡ Err e)) }
+    // A fault of the fields is answered without a call for memory.
+    ensures fields { (f : AnyFault) → field_fault bytes.now ≡ Some f → result ≡ Err f }
 {
     let contents = read_contents(alloc, bytes)?;
     let payload = Vec::from_slice(alloc, contents.payload)?;

@@ -25,6 +25,14 @@ const TWO_NUMBERS: &[u8] =
 const REMOVE: &[u8] =
     b"{\"action\":\"remove\",\"name\":\"core\",\"needs\":[],\"sha256\":\"ba7816bf8f01cfea414140de5dae2223b00361a396177a9cb410ff61f20015ad\",\"version\":\"1.0.0\"}";
 
+fn block(alloc: Global, bytes: &[u8]) -> Result<Block, Fail> {
+    if bytes.len() > 2_000_000 {
+        return Err(Fail::from("too long"));
+    }
+    let bytes = Vec::from_slice(alloc, bytes)?;
+    Ok(Block::of(bytes))
+}
+
 /// A package of `core` 1.0.0 whose manifest has the digest of these bytes.
 fn core(alloc: Global, action: Action, payload: &[u8], told: &[u8]) -> Result<Package, Fail> {
     let Ok(name) = ClusterName::of(b"core") else {
@@ -42,7 +50,7 @@ fn core(alloc: Global, action: Action, payload: &[u8], told: &[u8]) -> Result<Pa
     };
     Ok(Package {
         manifest,
-        payload: Block::of(Vec::from_slice(alloc, payload)?),
+        payload: block(alloc, payload)?,
     })
 }
 

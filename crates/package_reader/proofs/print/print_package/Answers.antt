@@ -6,9 +6,9 @@ use Rattle.package_reader.proofs.Laws.{package_is_read}
 use Rattle.package_reader.proofs.Printed.{too_large, wrong_digest, printed, is_package}
 use Rattle.package_reader.proofs.print.print_package.Goals as goal
 
-pub returns-then-len-payload-gt-PACKAGE_LIMIT-clause-err :
-    goal.returns-then-len-payload-gt-PACKAGE_LIMIT-clause-err
-returns-then-len-payload-gt-PACKAGE_LIMIT-clause-err c =
+pub returns-then-total-gt-PACKAGE_LIMIT-clause-err :
+    goal.returns-then-total-gt-PACKAGE_LIMIT-clause-err
+returns-then-total-gt-PACKAGE_LIMIT-clause-err c =
     inr (too_large c.args.package.now c.in_ok-text.text.items c.in_ok-text.ensures.text (omega (arith, c.in_ok-text.ensures.short)) (omega (arith, ap length c.as_slice-payload.ensures.bytes)))
 
 pub returns-then-not-is_payload_of-clause-err : goal.returns-then-not-is_payload_of-clause-err
