@@ -11,6 +11,8 @@ mod packages;
 mod packing;
 mod recipe;
 mod seal;
+#[cfg(test)]
+mod tests;
 
 pub use fault::PackFault;
 pub use made::MADE_LIMIT;

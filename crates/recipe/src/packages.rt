@@ -85,7 +85,6 @@ fn made(
     Ok(Package { manifest, payload })
 }
 
-
 /// The words of a package line behind its first.
 #[derive(Clone, Copy)]
 struct PackageWords<'a> {
