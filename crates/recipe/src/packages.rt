@@ -1,11 +1,12 @@
 //! Package lines, and the package that one makes.
-ghost use Rattle.std.specs.Prelude.{◌≡◌, ◌≤◌, IfOk, IfErr, Ok, Err, length, map, []};
+ghost use Rattle.std.specs.Prelude.{◌≡◌, ◌≤◌, IfOk, IfErr, IsTrue, Ok, Err, None, length, map, []};
 ghost use Rattle.ucm_base.specs.Limits.{need_limit};
 ghost use Rattle.scenario.specs.declared.why.Why.{Why};
 ghost use Rattle.scenario.specs.Blocks.{bytes_meant};
 ghost use Rattle.scenario.specs.Lines.{needs_in};
 ghost use Rattle.recipe.specs.Packages.{by_words, free_name_in, package_form, package_in, package_named, contents_of, package_words, payload_in};
 
+use crate::lines::first_word;
 use package_reader::Package;
 use scenario::{BlockSource, Why, WordFault, action, name, need, plain_block, version};
 use sha2::{Digest, Sha256};
@@ -174,12 +175,23 @@ fn read_words(alloc: Global, words: &[&[u8]]) -> Result<Option<NamedPackage>, Wo
     }
 }
 
-/// The package of a line, if it makes one.
+/// Whether a line's first word is none of a recipe's own.
+fn is_plain(line: &[u8]) -> bool
+    ensures { IsTrue result → package_in line.now ≡ Ok None }
+{
+    let first = first_word(line);
+    first != b"step".as_slice() && first != b"package".as_slice()
+}
+
+/// The package of a line, if it makes one. A line that isn't a recipe's own takes no memory.
 pub fn read_line(alloc: Global, line: &[u8]) -> Result<Option<NamedPackage>, WordFault>
     ensures package { IfOk result (λ o. package_in line.now ≡ Ok o) }
     ensures refused { IfErr result (λ e. (why : Why) → e ≡ WordFault.Refused why
         → package_in line.now ≡ Err why) }
 {
+    if is_plain(line) {
+        return Ok(None);
+    }
     let words = words_of(alloc, line)?;
     read_words(alloc, words.as_slice())
 }
