@@ -1,0 +1,4 @@
+pub mod Packages
+pub mod Lines
+pub mod Recipes
+pub mod Packing

@@ -1,0 +1,19 @@
+//! Recipes: scripts with lines that make software packages, and what is packed of them.
+//!
+//! Layer: stands on `scenario` (the words of lines), `package_reader` and the kit's `sha2`; the program stands on it.
+//! Its one contract: `pack` answers exactly the bytes that the recipe makes, or its first refused line and why.
+#![tactic(auto)]
+
+mod fault;
+mod lines;
+mod made;
+mod packages;
+mod packing;
+mod recipe;
+mod seal;
+#[cfg(test)]
+mod tests;
+
+pub use fault::PackFault;
+pub use made::MADE_LIMIT;
+pub use packing::{Kind, pack};
