@@ -15,7 +15,7 @@ use Rattle.manifest.specs.Form.{action_named, manifest_of_tree, need_of_tree}
 use Rattle.manifest.proofs.Counted.{few}
 use Rattle.ucm_base.specs.declared.parts.Action.{Action}
 use Rattle.ucm_base.specs.declared.parts.Action.TheVariants.{Install, Update, Remove}
-use Rattle.manifest.specs.Forms.{IsDigest, IsManifest, IsNeed}
+use Rattle.manifest.specs.Valid.{IsDigest, IsManifest, IsNeed}
 use Rattle.manifest.specs.Text.{action_word, manifest_text, need_text, needs_text}
 use Rattle.manifest.specs.Written.{manifest_tree, need_tree, needs_tree}
 use Rattle.ucm_base.specs.declared.parts.Need.{Need}

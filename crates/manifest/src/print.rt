@@ -6,7 +6,7 @@ ghost use Rattle.serde_json.specs.View.{view};
 ghost use Rattle.ucm_base.specs.Limits.{need_limit};
 ghost use Rattle.ucm_base.specs.Name.{is_cluster_name};
 ghost use Rattle.manifest.specs.Form.{manifest_of};
-ghost use Rattle.manifest.specs.Forms.{IsDigest, IsManifest, IsNeed};
+ghost use Rattle.manifest.specs.Valid.{IsDigest, IsManifest, IsNeed};
 ghost use Rattle.manifest.specs.Text.{action_word, manifest_text};
 ghost use Rattle.manifest.specs.Written.{manifest_tree, need_tree, needs_tree};
 

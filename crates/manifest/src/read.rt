@@ -8,6 +8,7 @@ ghost use Rattle.manifest.specs.Form.{action_named, action_of_tree, digest_of_tr
 use crate::digest::digest_of_hex;
 use serde_json::Value;
 use std::alloc::{AllocError, AllocFailed, Global};
+use ucm_base::limits::NEED_LIMIT;
 use ucm_base::{Action, ClusterName, Manifest, Need, Needs, ReqText, TextFault, VersionText};
 
 /// Why no manifest was read.
@@ -159,7 +160,7 @@ fn needs_in(alloc: Global, value: &Value) -> Result<Needs, ManifestFault>
         return Err(ManifestFault::InvalidManifest);
     };
     let values = list.as_slice();
-    if values.len() > 16 {
+    if values.len() as u64 > NEED_LIMIT {
         return Err(ManifestFault::InvalidManifest);
     }
     let items = all_needs(alloc, values)?;

@@ -4,7 +4,7 @@ use Rattle.std.proofs.lemmas.List.Elements.{All-more}
 use Rattle.serde_json.specs.Data.{array}
 use Rattle.serde_json.specs.View.{items_of}
 use Rattle.serde_json.proofs.Views.{view-Array}
-use Rattle.manifest.specs.Forms.{IsNeed}
+use Rattle.manifest.specs.Valid.{IsNeed}
 use Rattle.manifest.specs.Written.{need_tree}
 use Rattle.manifest.proofs.Lists.{mapped-more}
 use Rattle.manifest.proofs.print.needs_value.Goals as goal
