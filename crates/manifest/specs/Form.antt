@@ -55,13 +55,21 @@ need_of_tree d = if has_keys 2 d
 -- an array of at most 16 needs
 abbrev pub needs_of_tree : Data → Option (List Need)
 needs_of_tree d = option_and_then
-    (λ ds. if nat_le (length (items_list ds)) need_limit then all_of need_of_tree (items_list ds) else None)
+    (λ ds. if nat_le (length (items_list ds)) need_limit
+    then all_of need_of_tree (items_list ds) else None)
     (as_array d)
 
 -- the manifest of these parts, where each is there
-abbrev pub manifest_with : Option Action → Option (List ℕ) → Option (List ℕ) → Option (List ℕ) → Option (List Need) → Option Manifest
+abbrev pub manifest_with : Option Action → Option (List ℕ) → Option (List ℕ) → Option (List ℕ)
+    → Option (List Need) → Option Manifest
 manifest_with (Some action) (Some name) (Some sha256) (Some version) (Some needs) =
-    Some (record { action = action; name = name; version = version; needs = needs; sha256 = sha256 })
+    Some (record {
+      action = action;
+      name = name;
+      version = version;
+      needs = needs;
+      sha256 = sha256;
+    })
 manifest_with action name sha256 version needs = None
 
 -- an object with exactly the keys `action`, `name`, `needs`, `sha256` and `version`

@@ -16,7 +16,8 @@ action_word Remove = codes "remove"
 
 -- `{"name":..,"req":..}`
 abbrev pub need_text : Need → List ℕ
-need_text n = concat (codes "{\"name\":" ∷ quoted n.name ∷ codes ",\"req\":" ∷ quoted n.req ∷ codes "}" ∷ [])
+need_text n = concat
+    (codes "{\"name\":" ∷ quoted n.name ∷ codes ",\"req\":" ∷ quoted n.req ∷ codes "}" ∷ [])
 
 -- the needs, with a comma between each two
 abbrev pub needs_text : List Need → List ℕ

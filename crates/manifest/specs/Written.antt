@@ -9,7 +9,9 @@ use Rattle.ucm_base.specs.declared.parts.Manifest.{Manifest}
 
 -- an object of a need's name and requirement
 abbrev pub need_tree : Need → Data
-need_tree n = object (member (codes "name") (string n.name) (member (codes "req") (string n.req) no_members))
+need_tree n = object
+    (member (codes "name") (string n.name)
+    (member (codes "req") (string n.req) no_members))
 
 -- an array of needs
 abbrev pub needs_tree : List Need → Data

@@ -73,7 +73,13 @@ fn manifest_value(alloc: Global, m: &Manifest) -> Result<Value, AllocError>
     let sha256 = digest.as_str();
     let text = m.version.text();
     let version = text.as_str();
-    json!(in alloc; {"action": action, "name": name, "needs": needs, "sha256": sha256, "version": version})
+    json!(in alloc; {
+        "action": action,
+        "name": name,
+        "needs": needs,
+        "sha256": sha256,
+        "version": version,
+    })
 }
 
 /// The canonical text of a manifest: JSON (RFC 8259) without blanks. It reads as the manifest.
