@@ -5,7 +5,6 @@ use Rattle.sha2.specs.Sha256.{sha256}
 use Rattle.ucm_base.specs.Limits.{need_limit}
 use Rattle.ucm_base.specs.declared.parts.Action.{Action}
 use Rattle.ucm_base.specs.declared.parts.Need.{Need}
-use Rattle.manifest.specs.Form.{manifest}
 use Rattle.package_reader.specs.Reading.{is_remove}
 use Rattle.package_reader.specs.declared.package.Package.{Package}
 use Rattle.scenario.specs.declared.why.Why.{Why}
@@ -30,7 +29,10 @@ payload_in action word =
 -- the package that says this of itself, and has the payload's digest
 abbrev pub contents_of : Action → List ℕ → List ℕ → List Need → List ℕ → Package
 contents_of action cluster version needs payload =
-    record { manifest = manifest action cluster version needs (sha256 payload); payload = payload }
+    record {
+      manifest = record { action = action; name = cluster; version = version; needs = needs; sha256 = sha256 payload };
+      payload = payload;
+    }
 
 abbrev pub package_words : List ℕ → List ℕ → List ℕ → List ℕ → List ℕ → List (List ℕ) → Result NamedPackage Why
 package_words name action cluster version block needs = do
