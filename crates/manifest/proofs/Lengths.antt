@@ -1,8 +1,8 @@
 -- How long a canonical text is at most.
-use Rattle.std.proofs.Common.{◌≡◌, ◌≤◌, ◌<◌, ◌+◌, ◌*◌, ◌++◌, ◌∙◌, ℕ, List, [], ◌∷◌, length, map, Bool, true, false, refl, sym, ap, arith}
+use Rattle.std.proofs.Common.{◌≡◌, ◌≤◌, ◌+◌, ◌*◌, ◌∙◌, ℕ, List, [], ◌∷◌, length, Bool, true, false, refl, ap, arith}
 use Rattle.std.specs.Prelude.{◌&&◌, ◌/◌, ◌%◌, codes, cond, flat_map, nat_le, nat_lt}
 use Rattle.std.specs.Char.{digit_char}
-use Rattle.std.specs.List.{AllByRecursion, concat, list_all, join_with_byte}
+use Rattle.std.specs.List.{AllByRecursion, concat, list_all}
 use Rattle.std.proofs.lemmas.Bool.{and_parts}
 use Rattle.std.proofs.lemmas.List.{length-append}
 use Rattle.std.proofs.lemmas.List.Elements.{recursion_from_All}
@@ -16,7 +16,7 @@ use Rattle.ucm_base.specs.declared.parts.Action.TheVariants.{Install, Update, Re
 use Rattle.ucm_base.specs.declared.parts.Need.{Need}
 use Rattle.ucm_base.specs.declared.parts.Manifest.{Manifest}
 use Rattle.manifest.specs.Digits.{is_lower_digit}
-use Rattle.manifest.specs.Forms.{IsDigest, IsManifest, IsNeed}
+use Rattle.manifest.specs.Valid.{IsDigest, IsManifest, IsNeed}
 use Rattle.manifest.specs.Text.{action_word, manifest_text, need_text, needs_text}
 use Rattle.manifest.proofs.Trees.{all_lower}
 
@@ -90,9 +90,9 @@ pub manifest_short : (m : Manifest) → IsManifest m → length (manifest_text m
 manifest_short m h =
     let needs = needs_short m.needs (recursion_from_All IsNeed m.needs h.needs) in
     let sum = total
-        (codes "{\"action\":" ∷ quoted (action_word m.action)
-        ∷ codes ",\"name\":" ∷ quoted m.name
-        ∷ codes ",\"needs\":[" ∷ needs_text m.needs ∷ codes "]"
-        ∷ codes ",\"sha256\":" ∷ quoted (encode_lower m.sha256)
-        ∷ codes ",\"version\":" ∷ quoted m.version ∷ codes "}" ∷ []) in
+    (codes "{\"action\":" ∷ quoted (action_word m.action)
+    ∷ codes ",\"name\":" ∷ quoted m.name
+    ∷ codes ",\"needs\":[" ∷ needs_text m.needs ∷ codes "]"
+    ∷ codes ",\"sha256\":" ∷ quoted (encode_lower m.sha256)
+    ∷ codes ",\"version\":" ∷ quoted m.version ∷ codes "}" ∷ []) in
     omega (arith, sum, h.few, needs, action_short m.action, name_short m.name h.name, digest_short m.sha256 h.sha256, text_short m.version _ h.version)

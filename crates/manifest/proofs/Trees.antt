@@ -1,23 +1,24 @@
 -- The tree of a manifest reads as the manifest, and its text is the canonical one.
-use Rattle.std.proofs.Common.{◌≡◌, ◌≤◌, ◌<◌, ◌+◌, ◌*◌, ◌/◌, ◌%◌, ◌++◌, ◌∙◌, ℕ, suc, List, [], ◌∷◌, length, map, true, false, Some, refl, sym, ap, arith}
-use Rattle.std.specs.List.{All, AllByRecursion, list_all, slice_index, join_with_byte}
+use Rattle.std.proofs.Common.{◌≡◌, ◌≤◌, ◌<◌, ◌/◌, ◌%◌, ◌++◌, ◌∙◌, ℕ, suc, List, [], ◌∷◌, length, map, true, false, Some, refl, sym, ap, arith}
+use Rattle.std.specs.List.{AllByRecursion, list_all, slice_index}
 use Rattle.std.proofs.lemmas.List.Elements.{recursion_from_All}
 use Rattle.std.proofs.lemmas.List.{append_assoc, length-map}
-use Rattle.hex.specs.Hex.{encode_lower, encode_with, lower_digits, IsBytes, decode_sized}
+use Rattle.hex.specs.Hex.{encode_lower, encode_with, lower_digits, IsBytes}
 use Rattle.hex.proofs.HexLemmas.{decode_sized-encode_lower}
 use Rattle.serde_json.specs.Data.{Data, depth, items_depth}
 use Rattle.serde_json.specs.View.{items_of}
 use Rattle.serde_json.specs.Written.{has_float, items_have_float, compact_text, items_text}
 use Rattle.json.specs.Print.{escape_byte}
 use Rattle.manifest.specs.Digits.{digest_of_text, is_lower_digit}
-use Rattle.manifest.specs.Trees.{all_of, items_list, only}
+use Rattle.manifest.specs.Trees.{all_of, items_list}
 use Rattle.manifest.specs.Form.{action_named, manifest_of_tree, need_of_tree}
-use Rattle.manifest.proofs.Counted.{few}
+use Rattle.std.specs.Prelude.{nat_le}
+use Rattle.ucm_base.specs.Limits.{need_limit}
 use Rattle.ucm_base.specs.declared.parts.Action.{Action}
 use Rattle.ucm_base.specs.declared.parts.Action.TheVariants.{Install, Update, Remove}
-use Rattle.manifest.specs.Forms.{IsDigest, IsManifest, IsNeed}
+use Rattle.manifest.specs.Valid.{IsDigest, IsManifest, IsNeed}
 use Rattle.manifest.specs.Text.{action_word, manifest_text, need_text, needs_text}
-use Rattle.manifest.specs.Written.{manifest_tree, need_tree, needs_tree}
+use Rattle.manifest.specs.Written.{manifest_tree, need_tree}
 use Rattle.ucm_base.specs.declared.parts.Need.{Need}
 use Rattle.ucm_base.specs.declared.parts.Manifest.{Manifest}
 
@@ -46,6 +47,9 @@ needs_back (n ∷ ns) h = rw (needs_back ns h.1, need_back n h.0) refl
 listed : (ds : List Data) → items_list (items_of ds) ≡ ds
 listed [] = refl
 listed (d ∷ ds) = ap (λ xs. d ∷ xs) (listed ds)
+
+few : (n : ℕ) → n ≤ need_limit → nat_le n need_limit ≡ true
+few n h = grind arith
 
 action_back : (a : Action) → action_named (action_word a) ≡ Some a
 action_back Install = refl

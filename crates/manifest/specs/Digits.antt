@@ -8,6 +8,7 @@ use Rattle.hex.specs.declared.error.FromHexError.{FromHexError}
 abbrev pub is_lower_digit : ℕ → Bool
 is_lower_digit c = (nat_le 48 c && nat_le c 57) || (nat_le 97 c && nat_le c 102)
 
+-- the value, where there is one
 abbrev pub ok_of : Result (List ℕ) FromHexError → Option (List ℕ)
 ok_of (Ok bytes) = Some bytes
 ok_of (Err e) = None

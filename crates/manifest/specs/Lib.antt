@@ -1,6 +1,6 @@
 pub mod Digits
 pub mod Trees
 pub mod Form
-pub mod Forms
+pub mod Valid
 pub mod Text
 pub mod Written

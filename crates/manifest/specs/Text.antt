@@ -8,6 +8,7 @@ use Rattle.ucm_base.specs.declared.parts.Action.TheVariants.{Install, Update, Re
 use Rattle.ucm_base.specs.declared.parts.Need.{Need}
 use Rattle.ucm_base.specs.declared.parts.Manifest.{Manifest}
 
+-- the word of an action
 abbrev pub action_word : Action → List ℕ
 action_word Install = codes "install"
 action_word Update = codes "update"
@@ -15,12 +16,14 @@ action_word Remove = codes "remove"
 
 -- `{"name":..,"req":..}`
 abbrev pub need_text : Need → List ℕ
-need_text n = concat (codes "{\"name\":" ∷ quoted n.name ∷ codes ",\"req\":" ∷ quoted n.req ∷ codes "}" ∷ [])
+need_text n = concat
+    (codes "{\"name\":" ∷ quoted n.name ∷ codes ",\"req\":" ∷ quoted n.req ∷ codes "}" ∷ [])
 
 -- the needs, with a comma between each two
 abbrev pub needs_text : List Need → List ℕ
 needs_text ns = join_with_byte 44 (map need_text ns)
 
+-- `{"action":..,"name":..,"needs":[..],"sha256":..,"version":..}`
 abbrev pub manifest_text : Manifest → List ℕ
 manifest_text m = concat
     (codes "{\"action\":" ∷ quoted (action_word m.action)

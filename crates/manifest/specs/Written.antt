@@ -7,12 +7,17 @@ use Rattle.manifest.specs.Text.{action_word}
 use Rattle.ucm_base.specs.declared.parts.Need.{Need}
 use Rattle.ucm_base.specs.declared.parts.Manifest.{Manifest}
 
+-- an object of a need's name and requirement
 abbrev pub need_tree : Need → Data
-need_tree n = object (member (codes "name") (string n.name) (member (codes "req") (string n.req) no_members))
+need_tree n = object
+    (member (codes "name") (string n.name)
+    (member (codes "req") (string n.req) no_members))
 
+-- an array of needs
 abbrev pub needs_tree : List Need → Data
 needs_tree ns = array (items_of (map need_tree ns))
 
+-- an object of a manifest's five parts
 abbrev pub manifest_tree : Manifest → Data
 manifest_tree m = object
     (member (codes "action") (string (action_word m.action))

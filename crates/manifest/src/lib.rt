@@ -7,6 +7,8 @@
 mod digest;
 mod print;
 mod read;
+#[cfg(test)]
+mod tests;
 
 pub use print::print_manifest;
 pub use read::{ManifestFault, read_manifest};

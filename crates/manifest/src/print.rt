@@ -6,7 +6,7 @@ ghost use Rattle.serde_json.specs.View.{view};
 ghost use Rattle.ucm_base.specs.Limits.{need_limit};
 ghost use Rattle.ucm_base.specs.Name.{is_cluster_name};
 ghost use Rattle.manifest.specs.Form.{manifest_of};
-ghost use Rattle.manifest.specs.Forms.{IsDigest, IsManifest, IsNeed};
+ghost use Rattle.manifest.specs.Valid.{IsDigest, IsManifest, IsNeed};
 ghost use Rattle.manifest.specs.Text.{action_word, manifest_text};
 ghost use Rattle.manifest.specs.Written.{manifest_tree, need_tree, needs_tree};
 
@@ -73,7 +73,13 @@ fn manifest_value(alloc: Global, m: &Manifest) -> Result<Value, AllocError>
     let sha256 = digest.as_str();
     let text = m.version.text();
     let version = text.as_str();
-    json!(in alloc; {"action": action, "name": name, "needs": needs, "sha256": sha256, "version": version})
+    json!(in alloc; {
+        "action": action,
+        "name": name,
+        "needs": needs,
+        "sha256": sha256,
+        "version": version,
+    })
 }
 
 /// The canonical text of a manifest: JSON (RFC 8259) without blanks. It reads as the manifest.

@@ -1,13 +1,16 @@
 //! Reading manifests.
-ghost use Rattle.std.specs.Prelude.{◌≡◌, ◌==◌, ◌≤◌, IfOk, IfErr, Some, None, map, option_map, option_and_then, length};
+ghost use Rattle.std.specs.Prelude.{◌≡◌, ◌==◌, ◌≤◌, IfOk, IfErr, Some, None, map, option_map, option_and_then, length, nat_le};
 ghost use Rattle.serde_json.specs.Find.{as_str, get};
 ghost use Rattle.serde_json.specs.View.{view};
+ghost use Rattle.ucm_base.specs.Limits.{need_limit};
+ghost use Rattle.manifest.specs.declared.read.ManifestFault.TheVariants.{InvalidManifest};
 ghost use Rattle.manifest.specs.Trees.{all_of, field, has_keys};
 ghost use Rattle.manifest.specs.Form.{action_named, action_of_tree, digest_of_tree, manifest_of, manifest_of_tree, name_of_tree, need_of_tree, needs_of_tree, req_of_tree, version_of_tree};
 
 use crate::digest::digest_of_hex;
 use serde_json::Value;
 use std::alloc::{AllocError, AllocFailed, Global};
+use ucm_base::limits::NEED_LIMIT;
 use ucm_base::{Action, ClusterName, Manifest, Need, Needs, ReqText, TextFault, VersionText};
 
 /// Why no manifest was read.
@@ -98,7 +101,8 @@ fn action_at(value: &Value, key: &str) -> Option<Action>
 
 fn version_at(alloc: Global, value: &Value, key: &str) -> Result<VersionText, ManifestFault>
     ensures ok { IfOk result (λ v. field key.now version_of_tree (view value.now) ≡ Some v) }
-    ensures invalid { IfErr result (λ e. e ≡ ManifestFault.InvalidManifest → field key.now version_of_tree (view value.now) ≡ None) }
+    ensures invalid { IfErr result
+        (λ e. e ≡ InvalidManifest → field key.now version_of_tree (view value.now) ≡ None) }
 {
     match text_at(value, key) {
         Some(text) => match VersionText::of(alloc, text.as_bytes()) {
@@ -112,7 +116,8 @@ fn version_at(alloc: Global, value: &Value, key: &str) -> Result<VersionText, Ma
 
 fn req_at(alloc: Global, value: &Value, key: &str) -> Result<ReqText, ManifestFault>
     ensures ok { IfOk result (λ v. field key.now req_of_tree (view value.now) ≡ Some v) }
-    ensures invalid { IfErr result (λ e. e ≡ ManifestFault.InvalidManifest → field key.now req_of_tree (view value.now) ≡ None) }
+    ensures invalid { IfErr result
+        (λ e. e ≡ InvalidManifest → field key.now req_of_tree (view value.now) ≡ None) }
 {
     match text_at(value, key) {
         Some(text) => match ReqText::of(alloc, text.as_bytes()) {
@@ -126,7 +131,8 @@ fn req_at(alloc: Global, value: &Value, key: &str) -> Result<ReqText, ManifestFa
 
 fn need_in(alloc: Global, value: &Value) -> Result<Need, ManifestFault>
     ensures ok { IfOk result (λ n. need_of_tree (view value.now) ≡ Some n) }
-    ensures invalid { IfErr result (λ e. e ≡ ManifestFault.InvalidManifest → need_of_tree (view value.now) ≡ None) }
+    ensures invalid { IfErr result
+        (λ e. e ≡ InvalidManifest → need_of_tree (view value.now) ≡ None) }
 {
     if !has_count(value, 2) {
         return Err(ManifestFault::InvalidManifest);
@@ -141,7 +147,8 @@ fn need_in(alloc: Global, value: &Value) -> Result<Need, ManifestFault>
 fn all_needs(alloc: Global, values: &[Value]) -> Result<Vec<Need>, ManifestFault>
     ensures ok { IfOk result (λ v. all_of need_of_tree (map view values.now) ≡ Some v.items) }
     ensures count { IfOk result (λ v. length v.items ≡ length values.now) }
-    ensures invalid { IfErr result (λ e. e ≡ ManifestFault.InvalidManifest → all_of need_of_tree (map view values.now) ≡ None) }
+    ensures invalid { IfErr result
+        (λ e. e ≡ InvalidManifest → all_of need_of_tree (map view values.now) ≡ None) }
 {
     let mut out = Vec::new(alloc);
     'needs: for i in 0..values.len() {
@@ -151,15 +158,22 @@ fn all_needs(alloc: Global, values: &[Value]) -> Result<Vec<Need>, ManifestFault
     Ok(out)
 }
 
+fn are_few(values: &[Value]) -> bool
+    ensures { result ≡ nat_le (length values.now) need_limit }
+{
+    values.len() as u64 <= NEED_LIMIT
+}
+
 fn needs_in(alloc: Global, value: &Value) -> Result<Needs, ManifestFault>
     ensures ok { IfOk result (λ v. needs_of_tree (view value.now) ≡ Some v) }
-    ensures invalid { IfErr result (λ e. e ≡ ManifestFault.InvalidManifest → needs_of_tree (view value.now) ≡ None) }
+    ensures invalid { IfErr result
+        (λ e. e ≡ InvalidManifest → needs_of_tree (view value.now) ≡ None) }
 {
     let Some(list) = value.as_array() else {
         return Err(ManifestFault::InvalidManifest);
     };
     let values = list.as_slice();
-    if values.len() > 16 {
+    if !are_few(values) {
         return Err(ManifestFault::InvalidManifest);
     }
     let items = all_needs(alloc, values)?;
@@ -168,7 +182,8 @@ fn needs_in(alloc: Global, value: &Value) -> Result<Needs, ManifestFault>
 
 fn needs_at(alloc: Global, value: &Value, key: &str) -> Result<Needs, ManifestFault>
     ensures ok { IfOk result (λ v. field key.now needs_of_tree (view value.now) ≡ Some v) }
-    ensures invalid { IfErr result (λ e. e ≡ ManifestFault.InvalidManifest → field key.now needs_of_tree (view value.now) ≡ None) }
+    ensures invalid { IfErr result
+        (λ e. e ≡ InvalidManifest → field key.now needs_of_tree (view value.now) ≡ None) }
 {
     match value.get(key) {
         Some(inner) => needs_in(alloc, inner),
@@ -178,7 +193,8 @@ fn needs_at(alloc: Global, value: &Value, key: &str) -> Result<Needs, ManifestFa
 
 fn manifest_in(alloc: Global, value: &Value) -> Result<Manifest, ManifestFault>
     ensures ok { IfOk result (λ m. manifest_of_tree (view value.now) ≡ Some m) }
-    ensures invalid { IfErr result (λ e. e ≡ ManifestFault.InvalidManifest → manifest_of_tree (view value.now) ≡ None) }
+    ensures invalid { IfErr result
+        (λ e. e ≡ InvalidManifest → manifest_of_tree (view value.now) ≡ None) }
 {
     if !has_count(value, 5) {
         return Err(ManifestFault::InvalidManifest);
@@ -206,7 +222,7 @@ fn manifest_in(alloc: Global, value: &Value) -> Result<Manifest, ManifestFault>
 /// The manifest of a text, if it is one: JSON (RFC 8259), an object of exactly five keys.
 pub fn read_manifest(alloc: Global, bytes: &[u8]) -> Result<Manifest, ManifestFault>
     ensures ok { IfOk result (λ m. manifest_of bytes.now ≡ Some m) }
-    ensures invalid { IfErr result (λ e. e ≡ ManifestFault.InvalidManifest → manifest_of bytes.now ≡ None) }
+    ensures invalid { IfErr result (λ e. e ≡ InvalidManifest → manifest_of bytes.now ≡ None) }
 {
     match Value::from_slice(alloc, bytes) {
         Ok(value) => manifest_in(alloc, &value),

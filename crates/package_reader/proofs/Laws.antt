@@ -1,10 +1,10 @@
 -- What is read is a package, and each package is read.
-use Rattle.std.proofs.Common.{◌≡◌, ℕ, ◌+◌, ◌<◌, ◌≤◌, ◌^◌, Bool, true, false, not, ◌&&◌, ◌||◌, nat_lt, List, [], ◌∷◌, ◌++◌, length, take, drop, get_or, Option, Some, None, ◌⊎◌, Result, Ok, Err, refl, sym, ◌∙◌, ap, subst, arith, inl, inr, take-append-drop, append_assoc}
+use Rattle.std.proofs.Common.{◌≡◌, ℕ, ◌+◌, Bool, true, false, not, ◌||◌, nat_lt, List, [], ◌∷◌, ◌++◌, length, take, drop, Option, Some, None, ◌⊎◌, Result, Ok, Err, refl, sym, ◌∙◌, ap, arith, inl, inr, take-append-drop, append_assoc}
 use Rattle.std.specs.List.{AllByRecursion}
 use Rattle.std.specs.Option.{option_map_or}
 use Rattle.std.specs.Prelude.{is_none}
 use Rattle.std.specs.Str.{bytes_eq}
-use Rattle.std.proofs.lemmas.Bool.{cases_Bool, not-false, not_from_true, ltb-true, ltb-false, lt-ltb, le-ltb, or_parts, or_from, or_left, or_right, or_cases, and_parts, and_from, not_from_false}
+use Rattle.std.proofs.lemmas.Bool.{cases_Bool, not-false, not_from_true, ltb-true, ltb-false, le-ltb, or_parts, or_from, or_left, or_right, and_parts, and_from, not_from_false}
 use Rattle.std.proofs.lemmas.List.{length-append, length-drop, take_all, take_at, drop_at, append_cancel_right, nil_from_length}
 use Rattle.std.proofs.lemmas.Slice.Eq.{bytes_eq-Decides}
 use Rattle.sha2.specs.Sha256.{sha256}
@@ -15,12 +15,11 @@ use Rattle.ucm_base.specs.declared.parts.Action.{Action}
 use Rattle.ucm_base.specs.declared.parts.Action.TheVariants.{Install, Update, Remove}
 use Rattle.ucm_base.specs.declared.parts.Manifest.{Manifest}
 use Rattle.package_reader.specs.declared.fault.PackageFault.{PackageFault}
-use Rattle.package_reader.specs.declared.fault.PackageFault.TheVariants.{PackageInconsistent, InvalidManifest}
 use Rattle.package_reader.specs.declared.package.Package.{Package}
-use Rattle.package_reader.specs.Fields.{mark, manifest_limit, number_at, block_at, after_block, payload_place, digest_place, text_in, payload_in}
+use Rattle.package_reader.specs.Fields.{mark, manifest_limit, number_at, payload_place, digest_place, text_in, payload_in}
 use Rattle.package_reader.specs.Spelling.{sealed, unsealed, IsPackage, AreBytes}
-use Rattle.package_reader.specs.Reading.{is_remove, is_payload_of, has_digest_at, faults, first_fault, fault, unless, reading}
-use Rattle.package_reader.proofs.Blocks.{StandsAt, spelled_block, block_is_spelled, number_fits}
+use Rattle.package_reader.specs.Reading.{is_remove, is_payload_of, faults, first_fault, fault, unless, reading}
+use Rattle.package_reader.proofs.Blocks.{spelled_block, block_is_spelled, number_fits}
 
 abbrev NoneHolds : List (Bool × PackageFault) → Type 0
 NoneHolds rows = AllByRecursion (λ row. row.0 ≡ false) rows

@@ -19,7 +19,7 @@ is_remove _ = false
 -- the payload is the manifest's: its digest is, and a removal has none
 abbrev pub is_payload_of : Manifest → List ℕ → Bool
 is_payload_of manifest payload =
-    bytes_eq (sha256 payload) manifest.sha256 && (not (is_remove manifest.action) || (nat_lt (length payload) 1))
+    bytes_eq (sha256 payload) manifest.sha256 && (not (is_remove manifest.action) || nat_lt (length payload) 1)
 
 -- the bytes from a place on begin with the digest of all before
 abbrev pub has_digest_at : List ℕ → ℕ → Bool
@@ -77,7 +77,7 @@ field_fault bytes = first_fault (field_faults bytes)
 unfoldable pub fault : List ℕ → Option PackageFault
 fault bytes = first_fault (faults bytes)
 
--- a fault goes before what the fields hold
+-- a fault goes before what the fields hold; where there is none, the text is a manifest
 abbrev pub unless : Option PackageFault → Option Manifest → List ℕ → Result Package PackageFault
 unless (Some f) manifest payload = Err f
 unless None (Some m) payload = Ok (record { manifest = m; payload = payload })

@@ -1,6 +1,6 @@
 //! The fields of a package, taken one after another.
 ghost use Rattle.std.specs.Prelude.{◌≡◌, ◌+◌, ◌<◌, ◌≤◌, ◌^◌, length, take, drop, Some, None, MatchOption, IfOk, IfErr, OnOk};
-ghost use Rattle.package_reader.specs.Fields.{number_at, block_at, after_block, payload_place, digest_place, text_in, payload_in};
+ghost use Rattle.package_reader.specs.Fields.{number_at, block_at, text_in, payload_in};
 ghost use Rattle.package_reader.specs.Reading.{text_faults, block_faults, digest_faults, field_faults, first_fault};
 
 use crate::{MANIFEST_LIMIT, PackageFault};
@@ -55,7 +55,8 @@ fn bytes_at(bytes: &[u8], place: usize, len: usize) -> Option<&[u8]>
 /// The manifest's text, behind the mark and its length.
 fn text_of(bytes: &[u8]) -> Result<&[u8], PackageFault>
     ensures text { IfOk result (λ t. t.now ≡ text_in bytes.now) }
-    ensures limit { IfOk result (λ t. (length t.now ≡ number_at bytes.now 4) × (length t.now ≤ MANIFEST_LIMIT)) }
+    ensures len { IfOk result (λ t. length t.now ≡ number_at bytes.now 4) }
+    ensures limit { IfOk result (λ t. length t.now ≤ MANIFEST_LIMIT) }
     ensures ok { OnOk result (first_fault (text_faults bytes.now) ≡ None) }
     ensures err { IfErr result (λ e. first_fault (text_faults bytes.now) ≡ Some e) }
 {
@@ -78,7 +79,8 @@ fn text_of(bytes: &[u8]) -> Result<&[u8], PackageFault>
 fn block_of(bytes: &[u8], place: usize) -> Result<&[u8], PackageFault>
     requires { place < 2 ^ 32 }
     ensures block { IfOk result (λ b. b.now ≡ block_at bytes.now place) }
-    ensures len { IfOk result (λ b. (length b.now ≡ number_at bytes.now place) × (length b.now < 2 ^ 32)) }
+    ensures len { IfOk result (λ b. length b.now ≡ number_at bytes.now place) }
+    ensures limit { IfOk result (λ b. length b.now < 2 ^ 32) }
     ensures ok { OnOk result (first_fault (block_faults bytes.now place) ≡ None) }
     ensures err { IfErr result (λ e. first_fault (block_faults bytes.now place) ≡ Some e) }
 {
@@ -91,8 +93,8 @@ fn block_of(bytes: &[u8], place: usize) -> Result<&[u8], PackageFault>
     Ok(block)
 }
 
-/// Whether the digest of all bytes before a place stands there, with nothing behind it.
-fn ends_with_digest(bytes: &[u8], place: usize) -> Result<(), PackageFault>
+/// Refuses bytes that don't end with the digest (FIPS 180-4) of all before a place.
+fn check_digest(bytes: &[u8], place: usize) -> Result<(), PackageFault>
     requires { place ≤ length bytes.now }
     ensures ok { OnOk result (first_fault (digest_faults bytes.now place) ≡ None) }
     ensures err { IfErr result (λ e. first_fault (digest_faults bytes.now place) ≡ Some e) }
@@ -119,6 +121,6 @@ pub(crate) fn fields_of(bytes: &[u8]) -> Result<Fields<'_>, PackageFault>
 {
     let text = text_of(bytes)?;
     let payload = block_of(bytes, 8 + text.len())?;
-    ends_with_digest(bytes, 12 + text.len() + payload.len())?;
+    check_digest(bytes, 12 + text.len() + payload.len())?;
     Ok(Fields { text, payload })
 }

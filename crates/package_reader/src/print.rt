@@ -65,11 +65,13 @@ pub(crate) fn sealed_bytes(
     Ok(bytes)
 }
 
-/// The bytes of a package, which are read as it. The payload is hashed once, and all bytes before the digest once.
+/// The bytes of a package, which are read as it: at most 1,048,576, with a manifest's text of at most 16,384. The
+/// payload is hashed once, and all bytes before the digest once.
 pub fn print_package(alloc: Global, package: &Package) -> Result<Vec<u8>, PrintFault>
     ensures ok { IfOk result (λ b. printing «package».now ≡ Ok b.items) }
     // What isn't want of memory is the first fault.
-    ensures err { IfErr result (λ e. (e ≡ PrintFault.OutOfMemory) ⊎ (printing «package».now ≡ Err e)) }
+    ensures err { IfErr result (λ e. (e ≡ PrintFault.OutOfMemory)
+        ⊎ (printing «package».now ≡ Err e)) }
     ensures spelled { IfOk result (λ b. IsPackage b.items «package».now) }
     ensures back { IfOk result (λ b. reading b.items ≡ Ok «package».now) }
 {

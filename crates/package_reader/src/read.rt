@@ -29,7 +29,8 @@ fn manifest_in(alloc: Global, text: &[u8]) -> Result<Manifest, PackageFault>
 fn contents_of(alloc: Global, bytes: &[u8]) -> Result<Contents<'_>, PackageFault>
     ensures len { IfOk result (λ c. length c.payload.now < 2 ^ 32) }
     ensures ok { IfOk result (λ c. reading bytes.now ≡ Ok (package_of c)) }
-    ensures err { IfErr result (λ e. (e ≡ PackageFault.OutOfMemory) ⊎ (reading bytes.now ≡ Err e)) }
+    ensures err { IfErr result (λ e. (e ≡ PackageFault.OutOfMemory)
+        ⊎ (reading bytes.now ≡ Err e)) }
     ensures fields { (f : AnyFault) → field_fault bytes.now ≡ Some f → result ≡ Err f }
 {
     let fields = fields_of(bytes)?;
@@ -43,16 +44,19 @@ fn contents_of(alloc: Global, bytes: &[u8]) -> Result<Contents<'_>, PackageFault
     Ok(Contents { manifest, payload })
 }
 
-/// Reads a package and leaves its payload where it lies; no byte is hashed more than the format asks: the payload
-/// once, and all bytes before the digest once.
+/// Reads a package and leaves its payload where it lies. The payload is hashed once, and all bytes before the
+/// digest once. A fault has the place, in bytes from 0, from which the bytes are no package.
 pub fn read_contents(alloc: Global, bytes: &[u8]) -> Result<Contents<'_>, PackageFault>
     ensures package { IfOk result (λ c. IsPackage bytes.now (package_of c)) }
     ensures ok { IfOk result (λ c. reading bytes.now ≡ Ok (package_of c)) }
     // A package is refused for want of memory alone.
-    ensures only { (p : AnyPackage) → IsPackage bytes.now p → IfErr result (λ e. e ≡ PackageFault.OutOfMemory) }
+    ensures only { (p : AnyPackage) → IsPackage bytes.now p
+        → IfErr result (λ e. e ≡ PackageFault.OutOfMemory) }
     // What isn't want of memory is the first fault.
-    ensures first { IfErr result (λ e. (e ≡ PackageFault.OutOfMemory) ⊎ (fault bytes.now ≡ Some e)) }
-    ensures err { IfErr result (λ e. (e ≡ PackageFault.OutOfMemory) ⊎ (reading bytes.now ≡ Err e)) }
+    ensures first { IfErr result (λ e. (e ≡ PackageFault.OutOfMemory)
+        ⊎ (fault bytes.now ≡ Some e)) }
+    ensures err { IfErr result (λ e. (e ≡ PackageFault.OutOfMemory)
+        ⊎ (reading bytes.now ≡ Err e)) }
     // A fault of the fields is answered without a call for memory.
     ensures fields { (f : AnyFault) → field_fault bytes.now ≡ Some f → result ≡ Err f }
     ensures len { IfOk result (λ c. length c.payload.now < 2 ^ 32) }
@@ -60,15 +64,18 @@ pub fn read_contents(alloc: Global, bytes: &[u8]) -> Result<Contents<'_>, Packag
     contents_of(alloc, bytes)
 }
 
-/// Reads a package.
+/// Reads a package as `read_contents` does, and copies its payload.
 pub fn read_package(alloc: Global, bytes: &[u8]) -> Result<Package, PackageFault>
     ensures package { IfOk result (λ p. IsPackage bytes.now p) }
     ensures ok { IfOk result (λ p. reading bytes.now ≡ Ok p) }
     // A package is refused for want of memory alone.
-    ensures only { (p : AnyPackage) → IsPackage bytes.now p → IfErr result (λ e. e ≡ PackageFault.OutOfMemory) }
+    ensures only { (p : AnyPackage) → IsPackage bytes.now p
+        → IfErr result (λ e. e ≡ PackageFault.OutOfMemory) }
     // What isn't want of memory is the first fault.
-    ensures first { IfErr result (λ e. (e ≡ PackageFault.OutOfMemory) ⊎ (fault bytes.now ≡ Some e)) }
-    ensures err { IfErr result (λ e. (e ≡ PackageFault.OutOfMemory) ⊎ (reading bytes.now ≡ Err e)) }
+    ensures first { IfErr result (λ e. (e ≡ PackageFault.OutOfMemory)
+        ⊎ (fault bytes.now ≡ Some e)) }
+    ensures err { IfErr result (λ e. (e ≡ PackageFault.OutOfMemory)
+        ⊎ (reading bytes.now ≡ Err e)) }
     // A fault of the fields is answered without a call for memory.
     ensures fields { (f : AnyFault) → field_fault bytes.now ≡ Some f → result ≡ Err f }
 {

@@ -8,10 +8,11 @@ ghost use Rattle.package_reader.specs.declared.package.Package.{Package as AnyPa
 /// Bytes are the package of at most one manifest and payload, which is what reading gives; where they are of
 /// none, they have a first fault. It does nothing; its clauses are the laws.
 pub fn a_package_is_one()
-    ensures one { (bytes : List ℕ) (p q : AnyPackage) → IsPackage bytes p → IsPackage bytes q → p ≡ q }
+    ensures one { (bytes : List ℕ) (p q : AnyPackage) → IsPackage bytes p → IsPackage bytes q
+        → p ≡ q }
     ensures read { (bytes : List ℕ) (p : AnyPackage) → AreBytes bytes
         → ((reading bytes ≡ Ok p) ↔ IsPackage bytes p) }
-    ensures refused { (bytes : List ℕ) (f : AnyFault) → ((reading bytes ≡ Err f) ↔ (fault bytes ≡ Some f)) }
+    ensures refused { (bytes : List ℕ) (f : AnyFault) → (reading bytes ≡ Err f) ↔ (fault bytes ≡ Some f) }
     ensures faultless { (bytes : List ℕ) → AreBytes bytes
         → ((fault bytes ≡ None) ↔ ((p : AnyPackage) × IsPackage bytes p)) }
 {}

@@ -1,10 +1,10 @@
-use Rattle.std.proofs.Common.{◌∙◌, map, subst, ap, sym, arith}
+use Rattle.std.proofs.Common.{◌∙◌, map, subst, ap, arith}
 use Rattle.std.proofs.lemmas.List.{take_all}
 use Rattle.std.proofs.lemmas.List.Elements.{All-more}
 use Rattle.serde_json.specs.Data.{array}
 use Rattle.serde_json.specs.View.{items_of}
 use Rattle.serde_json.proofs.Views.{view-Array}
-use Rattle.manifest.specs.Forms.{IsNeed}
+use Rattle.manifest.specs.Valid.{IsNeed}
 use Rattle.manifest.specs.Written.{need_tree}
 use Rattle.manifest.proofs.Lists.{mapped-more}
 use Rattle.manifest.proofs.print.needs_value.Goals as goal

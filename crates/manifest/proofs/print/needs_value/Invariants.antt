@@ -1,7 +1,7 @@
 use Rattle.std.proofs.Common.{◌≡◌, map, take}
 use Rattle.std.specs.List.{All}
 use Rattle.serde_json.specs.View.{view}
-use Rattle.manifest.specs.Forms.{IsNeed}
+use Rattle.manifest.specs.Valid.{IsNeed}
 use Rattle.manifest.specs.Written.{need_tree}
 use Rattle.manifest.proofs.print.needs_value.Given as goal
 

@@ -1,9 +1,8 @@
-use Rattle.std.proofs.Common.{◌≡◌, ◌≤◌, ◌∙◌, ap, length, subst, sym, Some}
+use Rattle.std.proofs.Common.{◌≤◌, ◌∙◌, ap, length, subst, sym, Some}
 use Rattle.std.proofs.lemmas.Result.{IfOk-weaker}
 use Rattle.serde_json.specs.Data.{depth}
 use Rattle.serde_json.specs.View.{view}
 use Rattle.serde_json.specs.Written.{has_float, compact_text}
-use Rattle.manifest.specs.Text.{manifest_text}
 use Rattle.manifest.proofs.Reading.{manifest_of-read, both}
 use Rattle.manifest.proofs.Lengths.{manifest_short}
 use Rattle.manifest.proofs.Trees.{manifest_back, manifest_written, no_float, low}

@@ -1,23 +1,21 @@
-use Rattle.std.proofs.Common.{◌∙◌, Some, sym, ap, arith}
+use Rattle.std.proofs.Common.{◌∙◌, Some, true, false, sym, ap}
 use Rattle.std.proofs.lemmas.Result.{err_from_is_err_and}
 use Rattle.serde_json.specs.View.{items_view, view}
-use Rattle.manifest.proofs.Counted.{needs-few, needs-many}
+use Rattle.manifest.proofs.Reading.{counted}
 use Rattle.manifest.proofs.read.needs_in.Goals as goal
 
-pub returns-then-values-gt16-clause-invalid : goal.returns-then-values-gt16-clause-invalid
-returns-then-values-gt16-clause-invalid c =
+pub returns-then-not-are_few-clause-invalid : goal.returns-then-not-are_few-clause-invalid
+returns-then-not-are_few-clause-invalid c =
     let at = ap (λ vs. Some (items_view vs)) c.as_slice-values.ensures.value ∙ c.in-Some.ensures in
-    λ _. needs-many (view c.args.value.now) c.as_slice-values.result.now at c.if-values-gt16.true
+    λ _. counted (view c.args.value.now) c.as_slice-values.result.now false at c.if-not-are_few.ensures
 
 pub returns-in_err-items-clause-invalid : goal.returns-in_err-items-clause-invalid
 returns-in_err-items-clause-invalid c =
     let at = ap (λ vs. Some (items_view vs)) c.as_slice-values.ensures.value ∙ c.in-Some.ensures in
-    let few = c.if-values-gt16.false in
     let p = err_from_is_err_and c.from_residual.result c.from_residual.ensures.1 in
-    rw (p.1, p.2) (λ bad. needs-few (view c.args.value.now) c.as_slice-values.result.now at (omega (arith, few)) ∙ c.in_err-items.ensures.invalid bad)
+    rw (p.1, p.2) (λ bad. counted (view c.args.value.now) c.as_slice-values.result.now true at c.if-not-are_few.ensures ∙ c.in_err-items.ensures.invalid bad)
 
 pub returns-clause-ok : goal.returns-clause-ok
 returns-clause-ok c =
     let at = ap (λ vs. Some (items_view vs)) c.as_slice-values.ensures.value ∙ c.in-Some.ensures in
-    let few = c.if-values-gt16.false in
-    needs-few (view c.args.value.now) c.as_slice-values.result.now at (omega (arith, few)) ∙ c.in_ok-items.ensures.ok ∙ ap Some (sym c.of.ensures)
+    counted (view c.args.value.now) c.as_slice-values.result.now true at c.if-not-are_few.ensures ∙ c.in_ok-items.ensures.ok ∙ ap Some (sym c.of.ensures)

@@ -13,10 +13,12 @@ pub record IsDigest (digest : List ℕ) : Type 0 where
   pub size : length digest ≡ 32
   pub bytes : IsBytes digest
 
+-- a name and a requirement
 pub record IsNeed (n : Need) : Type 0 where
   pub name : is_cluster_name n.name ≡ true
   pub req : is_req_text n.req ≡ true
 
+-- a name, a version, at most 16 needs and a digest
 pub record IsManifest (m : Manifest) : Type 0 where
   pub name : is_cluster_name m.name ≡ true
   pub version : is_version_text m.version ≡ true
