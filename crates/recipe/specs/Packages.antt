@@ -1,4 +1,4 @@
--- Package lines: `package <name> <action> <cluster> <version> <block> <need>*`, and the package that one makes.
+-- Package lines, and the packages that they make.
 use Rattle.std.specs.Prelude.{ℕ, ◌==◌, ◌||◌, not, nat_le, if◌then◌else◌, List, [], ◌∷◌, length, codes, Option, Some, None, Result, Ok, Err}
 use Rattle.std.specs.Str.{bytes_eq}
 use Rattle.sha2.specs.Sha256.{sha256}
