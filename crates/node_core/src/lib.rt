@@ -5,10 +5,10 @@
 //! step of the definition, and takes no memory.
 #![tactic(auto)]
 
-mod core;
 mod held;
+mod node;
 mod prepared;
 mod transfers;
 
-pub use core::{Core, Hold};
+pub use node::{Core, Hold};
 pub use prepared::Prepared;
