@@ -8,6 +8,8 @@
 mod core;
 mod held;
 mod prepared;
+mod session_rules;
+mod sessions;
 mod transfers;
 
 pub use core::{Core, Hold};
