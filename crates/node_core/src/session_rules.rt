@@ -1,10 +1,12 @@
 //! The status table, and what refuses the calls on a session, row by row.
 ghost use Rattle.std.specs.Prelude.{◌≡◌, ◌==◌, not, option_map};
 ghost use Rattle.pm_types.specs.NodeState.{some_passes};
-ghost use Rattle.pm_types.specs.Sessions.{status_table};
+ghost use Rattle.pm_types.specs.Refusals.{first_refusal};
+ghost use Rattle.pm_types.specs.Sessions.{cancel_refusals, status_table};
 ghost use Rattle.node_core.specs.Sessions.{goal_of};
 
-use pm_types::{Call, Outcome, Session, Status};
+use pm_types::{Call, Outcome, Phase, Refusal, Session, Status};
+use transfer_blocks::Found;
 use ucm_base::ClientId;
 
 /// Where a call leads: to a status, to cleaning up with an outcome, or back to what was before processing.
@@ -40,5 +42,18 @@ pub(crate) fn is_anothers(session: &Option<Session>, client: ClientId) -> bool
     match session {
         Some(session) => session.owner != client,
         None => false,
+    }
+}
+
+/// Why the processing of a transfer isn't cancelled.
+pub(crate) fn cancel_refusal(found: Option<Found>) -> Option<Refusal>
+    ensures { result ≡ first_refusal (cancel_refusals (option_map (λ f. f.header) found)) }
+{
+    let Some(found) = found else {
+        return Some(Refusal::InvalidTransferId);
+    };
+    match found.header.phase {
+        Phase::Processing => None,
+        _ => Some(Refusal::OperationNotPermitted),
     }
 }
