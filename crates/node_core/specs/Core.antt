@@ -1,10 +1,10 @@
 -- A node in memory: its stored state, where its bytes lie, and what is ready for the next call.
-use Rattle.std.specs.Prelude.{◌≡◌, ◌≤◌, ◌+◌, ℕ, Bool, true, false, ⊤, [], length, slice_range, slice_index_or, Option, None}
+use Rattle.std.specs.Prelude.{◌≡◌, ◌≤◌, ◌+◌, ℕ, Bool, true, false, ⊤, [], length, slice_range, slice_index_or, Option, Some, None}
 use Rattle.std.specs.List.{AllByRecursion}
 use Rattle.ucm_base.specs.declared.ids.CallNo.{CallNo}
 use Rattle.ucm_base.specs.Parts.{Bytes}
 use Rattle.pm_types.specs.declared.calls.Call.{Call}
-use Rattle.pm_types.specs.declared.calls.Call.TheVariants.{Sync, TransferStart, TransferData, TransferExit, DeleteTransfer}
+use Rattle.pm_types.specs.declared.calls.Call.TheVariants.{Sync, TransferStart, TransferData, TransferExit, DeleteTransfer, ProcessSwPackage}
 use Rattle.pm_types.specs.declared.replies.Refusal.{Refusal}
 use Rattle.pm_types.specs.declared.replies.Reached.{Reached}
 use Rattle.pm_types.specs.declared.replies.Reply.{Reply}
@@ -23,7 +23,8 @@ use Rattle.node_core.specs.declared.prepared.Prepared.{Prepared}
 use Rattle.node_core.specs.declared.prepared.Prepared.TheVariants.{Nothing}
 use Rattle.node_core.specs.Packages.{package_reading}
 use Rattle.node_core.specs.Places.{IsCopied}
-use Rattle.node_core.specs.Prepared.{IsVerdictKept, verdict_kept}
+use Rattle.node_core.specs.Prepared.{IsVerdictKept, session_kept, verdict_kept}
+use Rattle.node_core.specs.Sessions.{opened}
 
 -- a node in memory
 pub record Holding : Type 0 where
@@ -108,6 +109,9 @@ IsReady v client (TransferData id counter block) =
 IsReady v client (TransferExit id) =
     first_refusal (exit_refusals (header_of (transfer_of (node_of v) client id))) ≡ None
     → IsVerdictKept (verdict_kept v.prepared) (verdict_on v client (TransferExit id))
+IsReady v client (ProcessSwPackage id tag) =
+    refusal_by v client (ProcessSwPackage id tag) ≡ None
+    → v.state.session ≡ None → session_kept v.prepared ≡ Some (opened v.state.running client tag)
 IsReady v client _ = ⊤
 
 -- the same, where the call is newer than the client's last one

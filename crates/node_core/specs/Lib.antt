@@ -1,6 +1,6 @@
 pub mod Packages
 pub mod Prepared
 pub mod Places
+pub mod Sessions
 pub mod Core
 pub mod Holds
-pub mod Sessions

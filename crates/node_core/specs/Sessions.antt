@@ -103,6 +103,9 @@ opened running client tag = record {
   outcome = None;
 }
 
--- a session goes on with the package of a transfer
-abbrev pub begun : ℕ → SessionOf Extent → State → State
-begun id x s = record s { transfers = phased id Processing s.transfers; session = Some (record x { processing = Some id; units_done = 0 }) }
+abbrev pub taken_up : ℕ → SessionOf Extent → SessionOf Extent
+taken_up id x = record x { processing = Some id; units_done = 0 }
+
+-- a session takes up the package of a transfer
+abbrev pub begun : ℕ → Option (SessionOf Extent) → State → State
+begun id session s = record s { transfers = phased id Processing s.transfers; session = option_map (taken_up id) session }

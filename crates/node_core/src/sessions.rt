@@ -1,18 +1,82 @@
 //! The calls on a session.
-ghost use Rattle.std.specs.Prelude.{◌≡◌, ◌==◌, length, None, Some, IfOk, IfErr, OnOk};
-ghost use Rattle.pm_types.specs.declared.calls.Call.TheVariants.{Cancel, Finish, RevertProcessedSwPackages, Rollback};
+ghost use Rattle.std.specs.Prelude.{◌≡◌, ◌≤◌, [], length, None, Some, IfOk, IfErr, OnOk};
+ghost use Rattle.std.specs.Option.{option_or};
+ghost use Rattle.ucm_base.specs.Limits.{cluster_limit};
+ghost use Rattle.pm_types.specs.declared.calls.Call.TheVariants.{Cancel, Finish, ProcessSwPackage, RevertProcessedSwPackages, Rollback};
 ghost use Rattle.pm_types.specs.Refusals.{first_refusal};
-ghost use Rattle.pm_types.specs.Sessions.{session_refusals, status_table};
-ghost use Rattle.node_core.specs.Core.{IsJudged, IsSound, node_of, refusal_by};
-ghost use Rattle.node_core.specs.Sessions.{arrived, changes_kept, cleaning_up, goal_of, stopped};
+ghost use Rattle.pm_types.specs.Sessions.{parts_refusal, session_refusals, status_table};
+ghost use Rattle.node_core.specs.Core.{IsJudged, IsReady, IsSound, node_of, refusal_by};
+ghost use Rattle.node_core.specs.Prepared.{session_kept};
+ghost use Rattle.node_core.specs.Sessions.{arrived, begun, changes_kept, cleaning_up, contents_of, goal_of, stopped};
+ghost use Rattle.transfer_blocks.specs.Table.{stored_of};
 
 use crate::held::Held;
-use crate::session_rules::{Goal, cancel_refusal, goal_from, is_anothers};
-use pm_types::{Call, Outcome, Phase, Refusal, Reply, Status};
+use crate::session_rules::{
+    Goal, cancel_refusal, goal_from, is_anothers, package_refusal, part_refusal,
+};
+use pm_types::{Call, Change, Extent, Outcome, Phase, Refusal, Reply, Status};
 use transfer_blocks::Staging;
 use ucm_base::ClientId;
 
 impl<S: Staging> Held<S> {
+    /// ProcessSwPackage, by the session that is ready where there is none.
+    pub(crate) fn process(&mut self, client: ClientId, id: u32, tag: u32) -> Reply
+        requires sound { IsSound self.old }
+        requires ready { IsReady self.old client (ProcessSwPackage id tag) }
+        ensures judged { IsJudged self.old client (ProcessSwPackage id tag) result self.new }
+        ensures faults { self.new.faults ≡ self.old.faults }
+    {
+        match self.processing(client, id, tag) {
+            Ok(goal) => {
+                self.begin(id);
+                self.arrive(goal)
+            }
+            Err(refusal) => Reply::Refused(refusal),
+        }
+    }
+
+    /// Where ProcessSwPackage leads, unless it is refused.
+    fn processing(&self, client: ClientId, id: u32, tag: u32) -> Result<Goal, Refusal>
+        requires sound { IsSound self.now }
+        ensures refused { IfErr result (λ why.
+            refusal_by self.now client (ProcessSwPackage id tag) ≡ Some why) }
+        ensures passed { OnOk result
+            (refusal_by self.now client (ProcessSwPackage id tag) ≡ None) }
+        ensures goal { IfOk result (λ goal.
+            status_table self.now.state.status (ProcessSwPackage id tag) ≡ Some (goal_of goal)) }
+    {
+        let goal = self.goal(client, &Call::ProcessSwPackage { id, tag })?;
+        let found = self.transfers.find(client, id);
+        if let Some(refusal) = package_refusal(&self.session, client, tag, found) {
+            return Err(refusal);
+        }
+        match self.contents_refusal(client, id) {
+            Some(refusal) => Err(refusal),
+            None => Ok(goal),
+        }
+    }
+
+    /// Why what a transfer brings isn't processed.
+    fn contents_refusal(&self, client: ClientId, id: u32) -> Option<Refusal>
+        ensures { result ≡ parts_refusal self.now.state.running (changes_kept self.now.state) []
+            (contents_of (stored_of self.now.state.transfers client id)) }
+    {
+        let transfer = self.transfers.stored(client, id)?;
+        let part = transfer.contents.first()?;
+        part_refusal(self.running.as_slice(), self.changes(), part)
+    }
+
+    /// The planned changes.
+    fn changes(&self) -> &[Change<Extent>]
+        ensures changes { result.now ≡ changes_kept self.now.state }
+        ensures few { length result.now ≤ cluster_limit }
+    {
+        match &self.session {
+            Some(session) => session.changes.as_slice(),
+            None => &[],
+        }
+    }
+
     /// Finish.
     pub(crate) fn finish(&mut self, client: ClientId) -> Reply
         requires sound { IsSound self.old }
@@ -103,7 +167,7 @@ impl<S: Staging> Held<S> {
             Goal::To(status) => self.status = status,
             Goal::CleanUp(outcome) => self.clean_up(outcome),
             Goal::Resume => {
-                if self.plans_nothing() {
+                if self.changes().is_empty() {
                     self.clean_up(Outcome::Old);
                 } else {
                     self.status = Status::Ready;
@@ -123,13 +187,20 @@ impl<S: Staging> Held<S> {
         }
     }
 
-    /// Whether no change is planned.
-    fn plans_nothing(&self) -> bool
-        ensures { result ≡ (length (changes_kept self.now.state) == 0) }
+    /// The session takes up the package, or the one that is ready begins with it.
+    fn begin(&mut self, id: u32)
+        ensures { self.new ≡ record self.old {
+            state = begun id (option_or self.old.state.session (session_kept self.old.prepared))
+                self.old.state;
+            prepared = self.new.prepared } }
     {
-        match &self.session {
-            Some(session) => session.changes.as_slice().is_empty(),
-            None => true,
+        self.transfers.set_phase(id, Phase::Processing);
+        if self.session.is_none() {
+            self.session = self.prepared.take_session();
+        }
+        if let Some(session) = &mut self.session {
+            session.processing = Some(id);
+            session.units_done = 0;
         }
     }
 
