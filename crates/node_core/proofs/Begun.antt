@@ -9,13 +9,15 @@ use Rattle.std.specs.Cmp.Derive.{both_true}
 use Rattle.std.proofs.lemmas.Bool.{and_parts}
 use Rattle.std.proofs.lemmas.List.{append-nil}
 use Rattle.ucm_base.specs.Parts.{Bytes}
-use Rattle.pm_types.specs.declared.calls.Call.TheVariants.{ProcessSwPackage}
+use Rattle.pm_types.specs.declared.calls.Call.TheVariants.{Activate, ProcessSwPackage}
+use Rattle.pm_types.specs.declared.clusters.Cluster.{Cluster}
 use Rattle.pm_types.specs.declared.clusters.Extent.{Extent}
+use Rattle.pm_types.specs.Clusters.{planned, unmet_among}
 use Rattle.pm_types.specs.declared.clusters.Part.{Part}
 use Rattle.pm_types.specs.declared.replies.Refusal.{Refusal}
 use Rattle.pm_types.specs.declared.replies.Refusal.TheVariants.{InvalidTransferId, OperationNotPermitted}
 use Rattle.pm_types.specs.declared.replies.Reply.{Reply}
-use Rattle.pm_types.specs.declared.replies.Reply.TheVariants.{Done}
+use Rattle.pm_types.specs.declared.replies.Reply.TheVariants.{Done, Refused}
 use Rattle.pm_types.specs.declared.state.StoredTransfer.{StoredTransfer}
 use Rattle.pm_types.specs.declared.status.Phase.{Phase}
 use Rattle.pm_types.specs.declared.status.Phase.TheVariants.{Transferring, Transferred, Processing as BeingProcessed, Processed}
@@ -23,7 +25,7 @@ use Rattle.pm_types.specs.declared.status.Status.{Status}
 use Rattle.pm_types.specs.declared.status.Status.TheVariants.{Idle}
 use Rattle.pm_types.specs.NodeState.{Session, SessionOf, Transfer, is_in, phase_code, some_passes}
 use Rattle.pm_types.specs.Refusals.{first_refusal}
-use Rattle.pm_types.specs.Sessions.{Goal, begin_processing, changes_in, is_wrong_tag, new_session, parts_refusal, process_refusal, session_refusals, status_table}
+use Rattle.pm_types.specs.Sessions.{Goal, activate_refusal, begin_processing, changes_in, is_wrong_tag, new_session, parts_refusal, process_refusal, session_refusals, status_table}
 use Rattle.pm_types.specs.Stored.{Areas, State, IsInOrder, IsPlaced, change_meaning, cluster_place, meaning, names_fit_places, session_meaning, slots_differ, transfer_meaning}
 use Rattle.pm_types.specs.Transfers.{parts_of, transfer_of}
 use Rattle.pm_types.specs.Validity.{should_run}
@@ -36,10 +38,10 @@ use Rattle.node_core.specs.Core.{Holding, IsJudged, IsReady, IsSound, node_of, r
 use Rattle.node_core.specs.declared.prepared.Prepared.{Prepared}
 use Rattle.node_core.specs.Packages.{package_reading}
 use Rattle.node_core.specs.Places.{IsCopied, IsCopiedIn, IsPartCopied}
-use Rattle.node_core.specs.Prepared.{session_kept, with_length}
-use Rattle.node_core.specs.Sessions.{arrived, begun, changes_kept, contents_of, has_wrong_tag, opened, package_refusals, phased, taken_up}
-use Rattle.node_core.proofs.Arrived.{done-judged}
-use Rattle.node_core.proofs.Natural.{parts-mean, parts-with-length}
+use Rattle.node_core.specs.Prepared.{session_kept, unmet_kept, with_length}
+use Rattle.node_core.specs.Sessions.{arrived, begun, changes_kept, contents_of, has_wrong_tag, missing_dependencies, opened, package_refusals, phased, taken_up}
+use Rattle.node_core.proofs.Arrived.{done-judged, led-judged, refused-judged}
+use Rattle.node_core.proofs.Natural.{parts-mean, parts-with-length, planned-means, unmet-means}
 use Rattle.node_core.proofs.Phased.{phased-means, phased-placed, phased-slots}
 use Rattle.node_core.proofs.Stored.{found-means, some-stored}
 
@@ -235,3 +237,25 @@ process-judged v client id tag reply goal w new sound ready none table begins re
     judged =
         done-judged v client (ProcessSwPackage id tag) goal (begun id (Some (unwrap_or v.state.session (opened v.state.running client tag))) v.state) w.prepared (begin_processing (node_of v) client id tag) none refl refl
         (begun-means v sound client id tag there.0 there.1 phase) table (begun-order v sound client id tag there.0 there.1 phase) (begun-copied v sound client id tag there.0 there.1 phase) refl
+
+-- Activate is refused by the need that was looked for
+pub activate-by : (v : Holding) (client : ℕ) (why : Option Refusal) → IsReady v client Activate → first_refusal (session_refusals (node_of v) client Activate) ≡ None → why ≡ unwrap_or (unmet_kept v.prepared) None → refusal_by v client Activate ≡ why
+activate-by v client why ready none taken = ap (λ o. option_or o (activate_refusal (node_of v))) none ∙ sym (taken ∙ ap (λ o. unwrap_or o None) (ready none))
+
+-- Activate with an unmet need, and without
+pub activate-refused : (v : Holding) (client : ℕ) (o : Option Refusal) (why : Refusal) → IsSound v → IsReady v client Activate → first_refusal (session_refusals (node_of v) client Activate) ≡ None → o ≡ unwrap_or (unmet_kept v.prepared) None → o ≡ Some why
+    → IsJudged v client Activate (Refused why) v
+activate-refused v client o why sound ready none taken some = refused-judged v client Activate why v.prepared sound (activate-by v client o ready none taken ∙ some)
+
+pub activate-judged : (v : Holding) (client : ℕ) (reply : Reply) (goal : Goal) (new : Holding) (o : Option Refusal) → IsSound v → IsReady v client Activate → first_refusal (session_refusals (node_of v) client Activate) ≡ None → o ≡ unwrap_or (unmet_kept v.prepared) None → o ≡ None
+    → status_table v.state.status Activate ≡ Some goal → reply ≡ Done → new ≡ record v { state = arrived goal v.state } → IsJudged v client Activate reply new
+activate-judged v client reply goal new o sound ready passed taken none table replies leads =
+    led-judged v client Activate reply new goal sound (activate-by v client o ready passed taken ∙ none) refl refl table replies leads
+
+-- what the planned clusters leave unmet refuses an activation
+pub missing-is : {v w : Holding} → v ≡ w → (cs : List (Cluster Extent)) → cs ≡ option_map_or (λ (x : SessionOf Extent). planned x.changes x.saved) v.state.session v.state.running → option_map missing_dependencies (unmet_among cs) ≡ activate_refusal (node_of w)
+missing-is {v = v} same cs is = ap (option_map missing_dependencies) (ap unmet_among is ∙ go v.state.session) ∙ ap (λ (x : Holding). activate_refusal (node_of x)) same
+  where
+    go : (o : Option (SessionOf Extent)) → unmet_among (option_map_or (λ (x : SessionOf Extent). planned x.changes x.saved) o v.state.running) ≡ unmet_among (option_map_or (λ (x : Session). planned x.changes x.saved) (option_map (session_meaning v.areas) o) (node_of v).running)
+    go None = sym (unmet-means v.areas v.state.running)
+    go (Some x) = sym (unmet-means v.areas (planned x.changes x.saved)) ∙ ap unmet_among (sym (planned-means v.areas x.changes x.saved))

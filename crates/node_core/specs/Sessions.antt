@@ -12,13 +12,14 @@ use Rattle.pm_types.specs.declared.status.Status.TheVariants.{Ready, CleaningUp}
 use Rattle.pm_types.specs.declared.clusters.Cluster.{Cluster}
 use Rattle.pm_types.specs.declared.clusters.Part.{Part}
 use Rattle.pm_types.specs.declared.replies.Refusal.{Refusal}
-use Rattle.pm_types.specs.declared.replies.Refusal.TheVariants.{InvalidTransferId, OperationNotPermitted}
+use Rattle.pm_types.specs.declared.replies.Refusal.TheVariants.{InvalidTransferId, MissingDependencies, OperationNotPermitted}
 use Rattle.pm_types.specs.declared.transfers.Header.{Header}
 use Rattle.pm_types.specs.Clusters.{cluster_of, has_cluster}
 use Rattle.std.specs.List.{list_any}
 use Rattle.std.specs.Str.{bytes_eq}
 use Rattle.pm_types.specs.NodeState.{SessionOf, is_in, some_passes}
 use Rattle.ucm_base.specs.Names.{different_names}
+use Rattle.ucm_base.specs.Needs.{Needing, Unmet}
 use Rattle.pm_types.specs.Sessions.{Goal, To, CleanUp, Resume}
 use Rattle.pm_types.specs.Stored.{State}
 use Rattle.transfer_blocks.specs.Table.{moved}
@@ -109,3 +110,10 @@ taken_up id x = record x { processing = Some id; units_done = 0 }
 -- a session takes up the package of a transfer
 abbrev pub begun : ℕ → Option (SessionOf Extent) → State → State
 begun id session s = record s { transfers = phased id Processing s.transfers; session = option_map (taken_up id) session }
+
+-- a cluster with what it needs
+abbrev pub needing_of : Cluster Extent → Needing
+needing_of c = record { name = c.name; version = c.version; needs = c.needs }
+
+abbrev pub missing_dependencies : Unmet → Refusal
+missing_dependencies u = MissingDependencies u.cluster u.need.name u.need.req

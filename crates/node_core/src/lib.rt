@@ -7,6 +7,8 @@
 
 mod core;
 mod held;
+mod opening;
+mod plan;
 mod prepared;
 mod session_rules;
 mod sessions;

@@ -1,12 +1,12 @@
 //! The calls on a session.
-ghost use Rattle.std.specs.Prelude.{◌≡◌, ◌≤◌, [], length, None, Some, IfOk, IfErr, OnOk};
+ghost use Rattle.std.specs.Prelude.{◌≡◌, ◌≤◌, [], length, None, Some, unwrap_or, IfOk, IfErr, OnOk};
 ghost use Rattle.std.specs.Option.{option_or};
 ghost use Rattle.ucm_base.specs.Limits.{cluster_limit};
-ghost use Rattle.pm_types.specs.declared.calls.Call.TheVariants.{Cancel, Finish, ProcessSwPackage, RevertProcessedSwPackages, Rollback};
+ghost use Rattle.pm_types.specs.declared.calls.Call.TheVariants.{Activate, Cancel, Finish, ProcessSwPackage, RevertProcessedSwPackages, Rollback};
 ghost use Rattle.pm_types.specs.Refusals.{first_refusal};
 ghost use Rattle.pm_types.specs.Sessions.{parts_refusal, session_refusals, status_table};
 ghost use Rattle.node_core.specs.Core.{IsJudged, IsReady, IsSound, node_of, refusal_by};
-ghost use Rattle.node_core.specs.Prepared.{session_kept};
+ghost use Rattle.node_core.specs.Prepared.{session_kept, unmet_kept};
 ghost use Rattle.node_core.specs.Sessions.{arrived, begun, changes_kept, cleaning_up, contents_of, goal_of, stopped};
 ghost use Rattle.transfer_blocks.specs.Table.{stored_of};
 
@@ -36,7 +36,7 @@ impl<S: Staging> Held<S> {
     }
 
     /// Where ProcessSwPackage leads, unless it is refused.
-    fn processing(&self, client: ClientId, id: u32, tag: u32) -> Result<Goal, Refusal>
+    pub(crate) fn processing(&self, client: ClientId, id: u32, tag: u32) -> Result<Goal, Refusal>
         requires sound { IsSound self.now }
         ensures refused { IfErr result (λ why.
             refusal_by self.now client (ProcessSwPackage id tag) ≡ Some why) }
@@ -113,6 +113,22 @@ impl<S: Staging> Held<S> {
         }
     }
 
+    /// Activate, by the unmet need that was looked for.
+    pub(crate) fn activate(&mut self, client: ClientId) -> Reply
+        requires sound { IsSound self.old }
+        requires ready { IsReady self.old client Activate }
+        ensures judged { IsJudged self.old client Activate result self.new }
+        ensures faults { self.new.faults ≡ self.old.faults }
+    {
+        match self.goal(client, &Call::Activate) {
+            Ok(goal) => match self.unmet() {
+                Some(refusal) => Reply::Refused(refusal),
+                None => self.arrive(goal),
+            },
+            Err(refusal) => Reply::Refused(refusal),
+        }
+    }
+
     /// Cancel.
     pub(crate) fn cancel(&mut self, client: ClientId, id: u32) -> Reply
         requires sound { IsSound self.old }
@@ -143,7 +159,7 @@ impl<S: Staging> Held<S> {
     }
 
     /// Where the call leads, unless the session or the table refuses it.
-    fn goal(&self, client: ClientId, call: &Call) -> Result<Goal, Refusal>
+    pub(crate) fn goal(&self, client: ClientId, call: &Call) -> Result<Goal, Refusal>
         ensures refused { IfErr result (λ why. first_refusal
             (session_refusals (node_of self.now) client call.now) ≡ Some why) }
         ensures passed { OnOk result (first_refusal
@@ -185,6 +201,13 @@ impl<S: Staging> Held<S> {
         if let Some(session) = &mut self.session {
             session.processing = None;
         }
+    }
+
+    /// What refuses the activation.
+    fn unmet(&self) -> Option<Refusal>
+        ensures { result ≡ unwrap_or (unmet_kept self.now.prepared) None }
+    {
+        self.prepared.unmet()
     }
 
     /// The session takes up the package, or the one that is ready begins with it.
