@@ -7,7 +7,11 @@
 
 mod held;
 mod node;
+mod opening;
+mod plan;
 mod prepared;
+mod session_rules;
+mod sessions;
 mod transfers;
 
 pub use node::{Core, Hold};

@@ -1,10 +1,10 @@
 //! A node in memory.
-ghost use Rattle.std.specs.Prelude.{◌≡◌, ◌<◌, ◌≤◌, ◌+◌, true, OnOk, IsErrOf};
+ghost use Rattle.std.specs.Prelude.{◌≡◌, ◌<◌, ◌≤◌, ◌+◌, OnOk, IsErrOf};
 ghost use Rattle.ucm_base.specs.Limits.{entry_limit};
 ghost use Rattle.transfer_blocks.specs.Faults.{HasRisen};
 ghost use Rattle.node_laws.specs.Fit.{IsFit};
 ghost use Rattle.node_core.specs.Packages.{package_reading};
-ghost use Rattle.node_core.specs.Core.{IsReady, IsReserved, IsSound, holding, is_served, node_of, step_by};
+ghost use Rattle.node_core.specs.Core.{IsReady, IsReserved, IsSound, holding, node_of, step_by};
 
 use crate::held::Held;
 use crate::prepared::Prepared;
@@ -120,13 +120,14 @@ impl<S: Staging> Core<S> {
                 self.held.stage(client, *id, *counter, bytes.as_slice())
             }
             Call::TransferExit { id } => self.held.read(alloc, client, *id),
+            Call::ProcessSwPackage { id, tag } => self.held.open(alloc, client, *id, *tag),
+            Call::Activate => self.held.look(alloc, client),
             _ => Ok(()),
         }
     }
 
     /// Executes a numbered call after `reserve` of the same. It takes no memory.
     pub fn exec(&mut self, client: ClientId, no: CallNo, call: &Call) -> Reached
-        requires served { is_served call.now ≡ true }
         requires reserved { IsReserved self.old client no call.now }
         requires entries { self.old.state.entries < entry_limit }
         ensures reached { result ≡ (step_by self.old client no call.now).1 }
