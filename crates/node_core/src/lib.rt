@@ -6,10 +6,12 @@
 #![tactic(auto)]
 
 mod core;
+mod format;
 mod held;
 mod prepared;
 mod query;
 mod transfers;
 
 pub use core::{Core, Hold};
+pub use format::{Installed, format_areas};
 pub use prepared::Prepared;
