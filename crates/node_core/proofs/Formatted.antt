@@ -13,7 +13,7 @@ use Rattle.ucm_base.specs.Parts.{Bytes}
 use Rattle.pm_types.specs.declared.clusters.Cluster.{Cluster}
 use Rattle.pm_types.specs.declared.clusters.Extent.{Extent}
 use Rattle.pm_types.specs.Histories.{formatted}
-use Rattle.pm_types.specs.Stored.{Areas, IsExtent, cluster_meaning, cluster_place, fresh_state, meaning, names_fit_places}
+use Rattle.pm_types.specs.Stored.{Areas, IsExtent, cluster_meaning, cluster_place, fresh_state, names_fit_places}
 use Rattle.transfer_blocks.specs.declared.area.Area.{Area}
 use Rattle.transfer_blocks.specs.declared.area.Area.TheVariants.{Side}
 use Rattle.transfer_blocks.specs.Areas.{AreasFit, content_of, no_contents, with_content}
@@ -23,7 +23,7 @@ use Rattle.node_laws.proofs.Kept.{keeps-fit}
 use Rattle.node_laws.proofs.Lists.{each-unmap}
 use Rattle.node_laws.proofs.NameLists.{eq-name, name-swap, names-behind, names-tail}
 use Rattle.node_laws.proofs.Planned.{names_of}
-use Rattle.node_core.specs.Core.{IsSound, holding, node_of}
+use Rattle.node_core.specs.Core.{IsSound, holding}
 use Rattle.node_core.specs.Format.{AreInstalled, in_order, placed, placed_from}
 use Rattle.node_core.specs.Packages.{package_reading}
 use Rattle.node_core.proofs.Ordered.{lt-differ, order-each, order-rises}

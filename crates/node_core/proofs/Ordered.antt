@@ -1,6 +1,6 @@
 -- Clusters in order of name: each is inserted behind those that stand before it.
-use Rattle.std.proofs.Common.{◌≡◌, refl, sym, subst, ap, ap₂, ◌∙◌, arith, ℕ, ◌≤◌, ◌+◌, Bool, true, false, List, [], ◌∷◌, ◌++◌, cond, length, map, filter, take, drop, fold}
-use Rattle.std.specs.Prelude.{◌&&◌, ◌||◌, not}
+use Rattle.std.proofs.Common.{◌≡◌, refl, sym, subst, ap, ap₂, ◌∙◌, arith, ℕ, ◌≤◌, Bool, true, false, List, [], ◌∷◌, ◌++◌, cond, length, filter, take, drop, fold}
+use Rattle.std.specs.Prelude.{◌||◌, not}
 use Rattle.std.specs.List.{AllByRecursion, insert}
 use Rattle.std.specs.Str.{bytes_eq}
 use Rattle.std.specs.Ordering.{nat_cmp, is_lt, is_eq, ordering_reverse}
@@ -18,7 +18,7 @@ use Rattle.ucm_base.specs.Parts.{Bytes}
 use Rattle.pm_types.specs.declared.clusters.Cluster.{Cluster}
 use Rattle.pm_types.specs.Clusters.{with_cluster}
 use Rattle.node_laws.proofs.Lists.{each-append, each-filter, each-imp, each-unmap, length-filter}
-use Rattle.node_laws.proofs.NameLists.{lt-trans, name-eq, eq-name, names-behind, names-tail}
+use Rattle.node_laws.proofs.NameLists.{lt-trans, name-eq, names-behind, names-tail}
 use Rattle.node_laws.proofs.Planned.{names_of, planned-rise}
 use Rattle.node_core.specs.Format.{in_order, named_before}
 

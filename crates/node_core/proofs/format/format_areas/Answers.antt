@@ -1,4 +1,4 @@
-use Rattle.std.proofs.Common.{◌≤◌, length, subst, sym, ap, ◌∙◌}
+use Rattle.std.proofs.Common.{◌≤◌, length, subst, sym}
 use Rattle.std.specs.List.{AllByRecursion}
 use Rattle.ucm_base.specs.Limits.{package_limit}
 use Rattle.node_core.specs.Core.{IsSound, holding}

@@ -1,7 +1,5 @@
 use Rattle.std.proofs.Common.{◌≡◌, ◌≤◌, ◌++◌, length}
-use Rattle.std.specs.List.{AllByRecursion}
 use Rattle.std.specs.Vec.Iter.{into_iter_items, into_iter_len}
-use Rattle.ucm_base.specs.Limits.{package_limit}
 use Rattle.node_core.specs.Format.{AreInstalled}
 use Rattle.node_core.proofs.format.install.Given as goal
 
