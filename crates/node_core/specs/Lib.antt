@@ -5,3 +5,4 @@ pub mod Sessions
 pub mod Core
 pub mod Holds
 pub mod Units
+pub mod Format
