@@ -12,7 +12,7 @@ ghost use Rattle.node_core.specs.Core.{IsSound, holding, node_of};
 ghost use Rattle.node_core.specs.Format.{AreInstalled, in_order, named_before, placed};
 ghost use Rattle.node_core.specs.Packages.{package_reading};
 
-use crate::core::{Core, Hold};
+use crate::node::{Core, Hold};
 use pm_types::{Cluster, Clusters, Extent, State};
 use std::alloc::{AllocError, Global};
 use transfer_blocks::{Area, Staging, StagingFault};

@@ -8,7 +8,7 @@ ghost use Rattle.transfer_blocks.specs.Faults.{HasRisen};
 ghost use Rattle.node_core.specs.Core.{IsKept, IsReady, IsSound, node_of};
 ghost use Rattle.node_core.specs.Sessions.{missing_dependencies, needing_of, opened};
 
-use crate::core::Hold;
+use crate::node::Hold;
 use crate::held::Held;
 use crate::plan::planned;
 use crate::prepared::Prepared;
