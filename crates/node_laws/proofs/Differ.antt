@@ -128,8 +128,7 @@ few-with running changes before part p few = go part.manifest.action p.1 p.2
         let grown = fewer-within more (cluster_of part ∷ old) (with-part running changes before part) in
         let one = one-more old (cluster_of part) in
         omega (arith, low, grown, one)
-    go Update h k = there h
-    go Remove h k = there h
+    go _ h k = there h
 
 -- the names stay few after an accepted package
 pub few-kept : (running : List (Cluster Bytes)) (changes : List (Change Bytes)) (before parts : List (Part Bytes)) → parts_refusal running changes before parts ≡ None → length (names_among running changes before) ≤ cluster_limit → length (names_among running changes (before ++ parts)) ≤ cluster_limit

@@ -71,10 +71,8 @@ module _ (read : Reading) (reading : IsReading read) where
   judge-fit s client c low fit = go (refusal s client c (verdict_for read s client c)) refl
     where
       done : (r : Reply) → IsFit read (accepted s client c (verdict_for read s client c)) → IsFit read (after_reply s client c (verdict_for read s client c) r)
-      done Done h = h
-      done (Started id) h = h
-      done (Synced x) h = h
       done (Refused why) h = fit
+      done _ h = h
 
       go : (o : Option Refusal) → refusal s client c (verdict_for read s client c) ≡ o → IsFit read (after_reply s client c (verdict_for read s client c) (refused_or (acceptance s client c) o))
       go None e = done (acceptance s client c) (accepted-fit s client c low fit e)
@@ -91,9 +89,8 @@ module _ (read : Reading) (reading : IsReading read) where
       done = executed-fit s client at c low fit
 
       order : (kept : Kept) (o : Ordering) → IsFit read (by_order s (executed s client at c (verdict_for read s client c)) kept o).0
-      order kept Less = fit
-      order kept Equal = fit
       order kept Greater = done
+      order kept _ = fit
 
       by : (o : Option Kept) → IsFit read (by_last s (executed s client at c (verdict_for read s client c)) at o).0
       by None = done
@@ -120,15 +117,12 @@ module _ (read : Reading) (reading : IsReading read) where
       processing p v (Some id) m j = is _ (packaged p id m (subst (λ o. Busy (record s { status = Processing }) (record x { processing = o })) m v) (nat_lt (x.units_done + 1) (all_units (parts_of_id s x id))) refl) j
 
       go : (st : Status) → s.status ≡ st → Busy (record s { status = st }) x → unit_of s x passed st ≡ Some t → IsFit read t
-      go Idle p v j = absurd (cc)
-      go Ready p v j = absurd (cc)
       go Processing p v j = processing p v x.processing refl j
       go Activating p v j = is _ (activate-fit read s x fit v) j
       go Verifying p v j = is _ (verify-fit read s x passed fit e v) j
-      go Activated p v j = absurd (cc)
       go RollingBack p v j = is _ (roll_back-fit read s x fit e v) j
-      go RolledBack p v j = absurd (cc)
       go CleaningUp p v j = is _ (clean_up-fit read s x fit v) j
+      go _ p v j = absurd (cc)
 
   unit-fit : (s : NodeState) (passed : Bool) → IsFit read s → IsFit read (unwrap_or (worked s passed) s)
   unit-fit s passed fit = go s.session refl
@@ -146,9 +140,8 @@ module _ (read : Reading) (reading : IsReading read) where
   answered s client at c r e = by (of_client s.last client) e
     where
       order : (kept : Kept) (o : Ordering) → (by_order s (executed s client at c (verdict_for read s client c)) kept o).1 ≡ Answered r → r ≡ reply_to s client c (verdict_for read s client c)
-      order kept Less q = absurd (cc)
-      order kept Equal q = absurd (cc)
       order kept Greater q = cc
+      order kept _ q = absurd (cc)
 
       by : (o : Option Kept) → (by_last s (executed s client at c (verdict_for read s client c)) at o).1 ≡ Answered r → r ≡ reply_to s client c (verdict_for read s client c)
       by None q = cc

@@ -174,10 +174,8 @@ idle-waits s client tag low own b f = record {
 }
   where
     unplanned : (t : Transfer) (p : Phase) → (phase_code p == 3) ≡ false → IsPlannedWhole (new_session s client tag) t p
-    unplanned t Transferring e = tt
-    unplanned t Transferred e = tt
-    unplanned t BeingProcessed e = tt
     unplanned t Processed e = absurd (cc)
+    unplanned t _ e = tt
 
 own-tag : (a b : Bool) → (if a then b else not b) ≡ false → b ≡ not a
 own-tag true b e = e

@@ -52,30 +52,22 @@ whole-in t p q a b h = to q b (from p a h)
   where
     from : (p : Phase) → IsLate p → IsWholeFromTransferred t p → IsWholeFromTransferred t Transferred
     from Transferring a h = elim a [ ]
-    from Transferred a h = h
-    from BeingProcessed a h = h
-    from Processed a h = h
+    from _ a h = h
 
     to : (q : Phase) → IsLate q → IsWholeFromTransferred t Transferred → IsWholeFromTransferred t q
     to Transferring b h = elim b [ ]
-    to Transferred b h = h
-    to BeingProcessed b h = h
-    to Processed b h = h
+    to _ b h = h
 
 read-in : (read : Reading) (t : Transfer) (p q : Phase) → IsLate p → IsLate q → IsRead read t p → IsRead read t q
 read-in read t p q a b h = to q b (from p a h)
   where
     from : (p : Phase) → IsLate p → IsRead read t p → IsRead read t Transferred
     from Transferring a h = elim a [ ]
-    from Transferred a h = h
-    from BeingProcessed a h = h
-    from Processed a h = h
+    from _ a h = h
 
     to : (q : Phase) → IsLate q → IsRead read t Transferred → IsRead read t q
     to Transferring b h = elim b [ ]
-    to Transferred b h = h
-    to BeingProcessed b h = h
-    to Processed b h = h
+    to _ b h = h
 
 -- the transfers with one of them in another late phase
 module _ (s : NodeState) (client id : ℕ) (u : Transfer) (p : Phase) (q : Phase) (e : found client id s.transfers ≡ Some u) (phase : u.header.phase ≡ p) (a : IsLate p) (b : IsLate q) where
@@ -145,9 +137,7 @@ not-planned id n (t ∷ ts) h k = go ((t.header.id == n) && is_in Processed t.he
   where
     other : (p : Phase) → (phase_code p == 3) ≡ true → (phase_code p == 2) ≡ (id == t.header.id) → t.header.id ≡ n → (n == id) ≡ false
     other Processed a b e = grind (arith, nat_tests, e, b)
-    other Transferring a b e = absurd (cc)
-    other Transferred a b e = absurd (cc)
-    other BeingProcessed a b e = absurd (cc)
+    other _ a b e = absurd (cc)
 
     go : (b : Bool) → ((t.header.id == n) && is_in Processed t.header) ≡ b → (b || is_processed ts n) ≡ true → (is_processed ts n ≡ true → (n == id) ≡ false) → (n == id) ≡ false
     go true q m rec = let own = and_parts (t.header.id == n) (is_in Processed t.header) q in other t.header.phase own.1 h.0 (eqb-true _ _ own.0)
@@ -236,9 +226,7 @@ last-fit read s x id u fit v e = record {
     still : (t : Transfer) (p : Phase) → (t.header.id == id) ≡ false → IsPlannedWhole x t p → IsPlannedWhole (later x id u.parts) t p
     still t Processed n h =
         (h.0, filter-append _ x.changes _ ∙ (ap (λ cs. filter (λ change. change.transfer == t.header.id) x.changes ++ cs) (filter-none _ _ (each-changes_of (λ change. (change.transfer == t.header.id) ≡ false) id u.parts (λ _. other-id t n))) ∙ (append-nil _ ∙ h.1)))
-    still t Transferring n h = tt
-    still t Transferred n h = tt
-    still t BeingProcessed n h = tt
+    still t _ n h = tt
 
     now : IsPlannedWhole (later x id u.parts) (rephased Processed u) Processed
     now =

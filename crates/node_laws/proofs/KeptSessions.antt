@@ -69,20 +69,18 @@ pub data Move : Type 0 where
   finish_old : Move
 
 abbrev pub from : Move → Status
-from activate = Ready
-from revert = Ready
 from give_up = Verifying
 from finish = Activated
 from roll_back = Activated
 from finish_old = RolledBack
+from _ = Ready
 
 abbrev pub to : Move → Goal
 to activate = To Activating
-to revert = CleanUp Old
 to give_up = To RollingBack
 to finish = CleanUp New
 to roll_back = To RollingBack
-to finish_old = CleanUp Old
+to _ = CleanUp Old
 
 pub to-fit : (read : Reading) (s : NodeState) (x : Session) (b : Status) → IsFit read s → s.session ≡ Some x → Busy (record s { status = b }) x → IsFit read (record s { status = b })
 to-fit read s x b fit e v = subst (λ o. IsFit read (record s { status = b; session = o })) (sym e) (moved-fit read s x b s.running fit (base-of s fit.consistent).running v)
@@ -124,12 +122,8 @@ move-of reverts Ready e = (revert, refl, refl)
 move-of _ _ e = absurd (cc)
 
 not-idle : (m : Move) → SessionIsDue (from m) None → ⊥
-not-idle activate h = h
-not-idle revert h = h
-not-idle give_up h = h
-not-idle finish h = h
-not-idle roll_back h = h
 not-idle finish_old h = h
+not-idle _ h = h
 
 pub led-fit : (read : Reading) (s : NodeState) (client : ℕ) (c : Mover) → IsFit read s → first_refusal (session_refusals s client (call_by c)) ≡ None → IsFit read (led_by (call_by c) s)
 led-fit read s client c fit r =

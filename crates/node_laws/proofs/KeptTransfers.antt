@@ -156,5 +156,4 @@ delete-fit read s client id fit r =
         go : (p : Phase) → ((phase_code p == 2) || (phase_code p == 3)) ≡ false → IsEarly p
         go Transferring q = transferring
         go Transferred q = transferred
-        go BeingProcessed q = absurd (cc)
-        go Processed q = absurd (cc)
+        go _ q = absurd (cc)

@@ -30,7 +30,6 @@ module _ (read : Reading) where
       by_kept (Some kept) e rest = by_order_of (call_no_cmp a.no kept.no) refl
         where
           by_order_of : (o : Ordering) → call_no_cmp a.no kept.no ≡ o → Legal (by_order s done kept o)
-          by_order_of Less f = rest s
-          by_order_of Equal f = rest s
           by_order_of Greater f =
               ((clients.0, ap (λ k. (by_last s done a.no k).1) e ∙ ap (λ o. (by_order s done kept o).1) f), rest done.0)
+          by_order_of _ f = rest s

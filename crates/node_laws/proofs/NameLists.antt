@@ -24,10 +24,9 @@ pub name-swap : (a b : List ℕ) → bytes_eq a b ≡ bytes_eq b a
 name-swap a b = go (bytes_eq a b) (bytes_eq b a) refl refl
   where
     go : (x y : Bool) → bytes_eq a b ≡ x → bytes_eq b a ≡ y → x ≡ y
-    go true true p q = refl
-    go false false p q = refl
     go true false p q = absurd (let z = eq-name b a (sym (name-eq a b p)) in let f : ⊥ = cc in f)
     go false true p q = absurd (let z = eq-name a b (sym (name-eq b a q)) in let f : ⊥ = cc in f)
+    go _ _ p q = refl
 
 -- all names of one list are in another
 abbrev pub Within : List (List ℕ) → List (List ℕ) → Type 0
@@ -151,8 +150,7 @@ lt-trans a b c h k = ap is_lt (nat_list_cmp_total.trans a b c (less (slice_cmp n
   where
     less : (o : Ordering) → is_lt o ≡ true → o ≡ Less
     less Less e = refl
-    less Equal e = absurd (cc)
-    less Greater e = absurd (cc)
+    less _ e = absurd (cc)
 
 -- each name of a list stands behind another
 abbrev pub Behind : List ℕ → List (List ℕ) → Type 0

@@ -32,9 +32,8 @@ changed-rise : (part : Part Bytes) (cs : List (Cluster Bytes)) → names_rise (n
 changed-rise part cs r = go part.manifest.action
   where
     go : (a : Action) → names_rise (names_of (changed_as a (brought part) cs)) ≡ true
-    go Install = with-rise (brought part) cs r
-    go Update = with-rise (brought part) cs r
     go Remove = names-filter _ _ cs r
+    go _ = with-rise (brought part) cs r
 
 pub planned-rise : (changes : List (Change Bytes)) (cs : List (Cluster Bytes)) → names_rise (names_of cs) ≡ true → names_rise (names_of (planned changes cs)) ≡ true
 planned-rise [] cs r = r
@@ -55,9 +54,8 @@ changed-within part cs = go part.manifest.action
         (each-append _ _ _ (some (λ d. name_lt d.name (cluster_of part))) (has-self (cluster_of part) (names_of cs), some (λ d. name_lt (cluster_of part) d.name)))
 
     go : (a : Action) → Within (names_of (changed_as a (brought part) cs)) (cluster_of part ∷ names_of cs)
-    go Install = with
-    go Update = with
     go Remove = some (λ d. not (bytes_eq d.name (cluster_of part)))
+    go _ = with
 
 pub planned-within : (changes : List (Change Bytes)) (cs : List (Cluster Bytes)) → Within (names_of (planned changes cs)) (names_of cs ++ changed_names changes)
 planned-within [] cs = within-left (names_of cs) (names_of cs) [] (within-self (names_of cs))

@@ -30,28 +30,25 @@ pub early-not_processed : (h : Header) → IsEarly h.phase → is_in Processed h
 early-not_processed h e = go h.phase e
   where
     go : (p : Phase) → IsEarly p → (phase_code p == 3) ≡ false
-    go Transferring e = refl
-    go Transferred e = refl
     go BeingProcessed e = elim e [ ]
     go Processed e = elim e [ ]
+    go _ e = refl
 
 pub early-not_processing : (h : Header) → IsEarly h.phase → is_in BeingProcessed h ≡ false
 early-not_processing h e = go h.phase e
   where
     go : (p : Phase) → IsEarly p → (phase_code p == 2) ≡ false
-    go Transferring e = refl
-    go Transferred e = refl
     go BeingProcessed e = elim e [ ]
     go Processed e = elim e [ ]
+    go _ e = refl
 
 pub early-whole : (x : Session) (t : Transfer) → IsEarly t.header.phase → IsPlannedWhole x t t.header.phase
 early-whole x t e = go t.header.phase e
   where
     go : (p : Phase) → IsEarly p → IsPlannedWhole x t p
-    go Transferring e = tt
-    go Transferred e = tt
     go BeingProcessed e = elim e [ ]
     go Processed e = elim e [ ]
+    go _ e = tt
 
 -- what such a change keeps
 pub record Quiet (next : ℕ) (ts us : List Transfer) : Type 0 where
@@ -165,17 +162,14 @@ quiet-changed next client id ts u f h k e early later = record {
 }
   where
     never : (a b : Bool) → (a && false) ≡ (b && false)
-    never true true = refl
-    never true false = refl
-    never false true = refl
-    never false false = refl
+    never a b = grind arith
 
     stays : (owner n : ℕ) (t : Transfer) → found owner n ts ≡ Some t → is_in BeingProcessed t.header ≡ true → (b : Bool) → (t.header.id == id) ≡ b → (if b then f t else t) ≡ t
     stays owner n t m p false q = refl
     stays owner n t m p true q =
         let same : t ≡ u = (found-has (λ v. is_of owner n v.header) _ ts t (only client id ts u h.rise e) m).1 q in
         let z : is_in BeingProcessed t.header ≡ false = ap (λ (v : Transfer). is_in BeingProcessed v.header) same ∙ early-not_processing u.header early in
-        absurd (let w : ⊥ = cc in w)
+        absurd (cc)
 
 -- a transfer less, before processing
 pub quiet-deleted : (next client id : ℕ) (ts : List Transfer) (u : Transfer) → Held next ts → found client id ts ≡ Some u → IsEarly u.header.phase → Quiet next ts (filter (λ t. not (t.header.id == id)) ts)
@@ -195,7 +189,7 @@ quiet-deleted next client id ts u h e early = record {
         go true q =
             let same = (found-has (λ v. is_of owner n v.header) _ ts t (only client id ts u h.rise e) m).1 (ap (λ i. i == id) (found-is owner n ts t m).0 ∙ q) in
             let z : is_in BeingProcessed t.header ≡ false = ap (λ (v : Transfer). is_in BeingProcessed v.header) same ∙ early-not_processing u.header early in
-            absurd (let w : ⊥ = cc in w)
+            absurd (cc)
 
     passes : (n : ℕ) (t : Transfer) → ((t.header.id == id) ≡ true → t ≡ u) → ((t.header.id == n) && is_in Processed t.header) ≡ true → not (t.header.id == id) ≡ true
     passes n t k p = go (t.header.id == id) refl
@@ -205,4 +199,4 @@ quiet-deleted next client id ts u h e early = record {
         go true q =
             let own = (and_parts (t.header.id == n) (is_in Processed t.header) p).1 in
             let z : is_in Processed t.header ≡ false = ap (λ (v : Transfer). is_in Processed v.header) (k q) ∙ early-not_processed u.header early in
-            absurd (let w : ⊥ = cc in w)
+            absurd (cc)

@@ -50,24 +50,18 @@ is-transferring h e = go h.phase e
   where
     go : (p : Phase) → (phase_code p == 0) ≡ true → p ≡ Transferring
     go Transferring q = refl
-    go Transferred q = absurd (cc)
-    go BeingProcessed q = absurd (cc)
-    go Processed q = absurd (cc)
+    go _ q = absurd (cc)
 
 pub is-transferred : (h : Header) → is_in Transferred h ≡ true → h.phase ≡ Transferred
 is-transferred h e = go h.phase e
   where
     go : (p : Phase) → (phase_code p == 1) ≡ true → p ≡ Transferred
-    go Transferring q = absurd (cc)
     go Transferred q = refl
-    go BeingProcessed q = absurd (cc)
-    go Processed q = absurd (cc)
+    go _ q = absurd (cc)
 
 pub is-processing : (h : Header) → is_in BeingProcessed h ≡ true → h.phase ≡ BeingProcessed
 is-processing h e = go h.phase e
   where
     go : (p : Phase) → (phase_code p == 2) ≡ true → p ≡ BeingProcessed
-    go Transferring q = absurd (cc)
-    go Transferred q = absurd (cc)
     go BeingProcessed q = refl
-    go Processed q = absurd (cc)
+    go _ q = absurd (cc)

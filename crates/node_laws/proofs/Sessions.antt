@@ -119,14 +119,7 @@ free-of s e v = record {
   where
     idle : (st : Status) → SessionIsDue st None → st ≡ Idle
     idle Idle h = refl
-    idle Ready h = absurd h
-    idle Processing h = absurd h
-    idle Activating h = absurd h
-    idle Verifying h = absurd h
-    idle Activated h = absurd h
-    idle RollingBack h = absurd h
-    idle RolledBack h = absurd h
-    idle CleaningUp h = absurd h
+    idle _ h = absurd h
 
 -- a fact of the state without a session, and of the state with one
 pub by-session : (s : NodeState) (P : Option Session → Type 0) → (s.session ≡ None → P None) → ((x : Session) → s.session ≡ Some x → P (Some x)) → P s.session

@@ -41,18 +41,12 @@ in-last e (x ∷ xs) = inr (in-last e xs)
 
 -- an earlier campaign stays one
 stays : (f : Fold) (e : MasterEvent) (x : ℕ × CampaignResult) → InEarlier x f.earlier → InEarlier x (after_event f e).earlier
-stays f (Start epoch) x h = h
-stays f (Begin k named) x h = h
-stays f (PhaseTo p) x h = h
-stays f (VoteOf n v) x h = h
-stays f CancelAsked x h = h
-stays f (Decide d) x h = h
-stays f (EndedAt n o) x h = h
 stays f (Enter r) x h = go f.current
   where
     go : (o : Option Current) → InEarlier x (entered f.earlier o r)
     go None = h
     go (Some c) = in-more x f.earlier (c.campaign, r) h
+stays f _ x h = h
 
 all-stay : (f : Fold) (es : List MasterEvent) (x : ℕ × CampaignResult) → InEarlier x f.earlier → InEarlier x (campaign_from f es).earlier
 all-stay f [] x h = h

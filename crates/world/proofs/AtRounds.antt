@@ -18,30 +18,26 @@ use Rattle.world.proofs.EarlyFacts.{Hold, Apart, Has, Sends, Fills, Activates, I
 module _ (N : NodeRules) (laws : NodeLaws N) where
   hold-same : (s t : N.State) → KeepsTransfers N s t → (ids : List ℕ) (ps : List (List ℕ)) → Hold N s ids ps → Hold N t ids ps
   hold-same s t keeps [] [] h = tt
-  hold-same s t keeps [] (p ∷ ps) h = absurd h
-  hold-same s t keeps (id ∷ ids) [] h = absurd h
   hold-same s t keeps (id ∷ ids) (p ∷ ps) h =
       (subst (λ l. Contains l id) (sym keeps.transfers) h.0, keeps.received id ∙ h.1, hold-same s t keeps ids ps h.2)
+  hold-same s t keeps _ _ h = absurd h
 
   -- all that these transfers need is that they stay, and that no other than id changes
   hold-apart : (s t : N.State) (id : ℕ) → ((x : ℕ) → Contains (N.transfers s) x → Contains (N.transfers t) x) → ((x : ℕ) → x ≢ id → N.received t x ≡ N.received s x) → (ids : List ℕ) (ps : List (List ℕ)) → Apart id ids → Hold N s ids ps → Hold N t ids ps
   hold-apart s t id stay same [] [] a h = tt
-  hold-apart s t id stay same [] (p ∷ ps) a h = absurd h
-  hold-apart s t id stay same (x ∷ ids) [] a h = absurd h
   hold-apart s t id stay same (x ∷ ids) (p ∷ ps) a h = (stay x h.0, same x a.0 ∙ h.1, hold-apart s t id stay same ids ps a.1 h.2)
+  hold-apart s t id stay same _ _ a h = absurd h
 
   -- an id that isn't among the transfers is none of these
   fresh-apart : (s : N.State) (id : ℕ) → (Contains (N.transfers s) id → ⊥) → (ids : List ℕ) (ps : List (List ℕ)) → Hold N s ids ps → Apart id ids
   fresh-apart s id fresh [] [] h = tt
-  fresh-apart s id fresh [] (p ∷ ps) h = absurd h
-  fresh-apart s id fresh (x ∷ ids) [] h = absurd h
   fresh-apart s id fresh (x ∷ ids) (p ∷ ps) h = (λ e. fresh (subst (λ y. Contains (N.transfers s) y) e h.0), fresh-apart s id fresh ids ps h.2)
+  fresh-apart s id fresh _ _ h = absurd h
 
   hold-push : (s : N.State) (ids : List ℕ) (ps : List (List ℕ)) (id : ℕ) (p : List ℕ) → Hold N s ids ps → Contains (N.transfers s) id → N.received s id ≡ p → Hold N s (ids ++ id ∷ []) (ps ++ p ∷ [])
   hold-push s [] [] id p h there e = (there, e, tt)
-  hold-push s [] (q ∷ ps) id p h there e = absurd h
-  hold-push s (x ∷ ids) [] id p h there e = absurd h
   hold-push s (x ∷ ids) (q ∷ ps) id p h there e = (h.0, h.1, hold-push s ids ps id p h.2 there e)
+  hold-push s _ _ id p h there e = absurd h
 
   has-same : (s t : N.State) → KeepsTransfers N s t → KeepsSession N s t → (k : ℕ) (changes : List N.Change) → Has N s k changes → Has N t k changes
   has-same s t transfers session k changes h =
@@ -101,23 +97,21 @@ module _ (N : NodeRules) (laws : NodeLaws N) where
   -- where client 0 has a session at a stage, it is not being cleaned up
   pub at-not_cleaning : (s : N.State) (k tag : ℕ) (ps : List (List ℕ)) (stage : Stage) → IsAt N s k ps stage → N.mine s ≡ Some tag → N.status s ≢ CleaningUp
   at-not_cleaning s k tag ps At_sync h mine e = cc (h, mine)
-  at-not_cleaning s k tag ps (At_start ids left) h mine e = let none = h.none in cc (none, mine)
-  at-not_cleaning s k tag ps (At_data ids id counter bytes left) h mine e = let none = h.none in cc (none, mine)
-  at-not_cleaning s k tag ps (At_process ids zero) h mine e = let none = h.none in cc (none, mine)
-  at-not_cleaning s k tag ps (At_process ids (suc taken)) h mine e = elim h.has.planned [ inl a ↦ (let f : ⊥ = cc (a.0, e) in f) | inr b ↦ (let f : ⊥ = cc (b.0, e) in f) ]
-  at-not_cleaning s k tag ps At_activate h mine e = elim h.planned [ inl a ↦ (let f : ⊥ = cc (a.0, e) in f) | inr b ↦ (let f : ⊥ = cc (b.0, e) in f) ]
+  at-not_cleaning s k tag ps (At_process ids (suc taken)) h mine e = elim h.has.planned [ inl a ↦ (cc (a.0, e)) | inr b ↦ (cc (b.0, e)) ]
+  at-not_cleaning s k tag ps At_activate h mine e = elim h.planned [ inl a ↦ (cc (a.0, e)) | inr b ↦ (cc (b.0, e)) ]
   at-not_cleaning s k tag ps Over h mine e =
       elim h.status [
-        | inl a ↦ (let f : ⊥ = cc (a, e) in f)
+        | inl a ↦ (cc (a, e))
         | inr b ↦ elim b [
-          | inl a ↦ (let f : ⊥ = cc (a, e) in f)
+          | inl a ↦ (cc (a, e))
           | inr c ↦ elim c [
-            | inl a ↦ (let f : ⊥ = cc (a, e) in f)
-            | inr d ↦ elim d [ inl a ↦ (let f : ⊥ = cc (a, e) in f) | inr a ↦ (let f : ⊥ = cc (a, e) in f) ]
+            | inl a ↦ (cc (a, e))
+            | inr d ↦ elim d [ inl a ↦ (cc (a, e)) | inr a ↦ (cc (a, e)) ]
           ]
         ]
       ]
   at-not_cleaning s k tag ps Refused_once h mine e = h
+  at-not_cleaning s k tag ps _ h mine e = let none = h.none in cc (none, mine)
 
   -- a unit
   has-unit : (s : N.State) (passed : Bool) (k : ℕ) (changes : List N.Change) → Has N s k changes → Has N (N.unit s passed) k changes × KeepsTransfers N s (N.unit s passed)
@@ -125,9 +119,9 @@ module _ (N : NodeRules) (laws : NodeLaws N) where
       elim h.planned [
         | inl r ↦
             (let same : N.unit s passed ≡ s = laws.unit_still s passed (ap is_working r.0) in
-            (subst (λ t. Has N t k changes) (sym same) h, laws.unit_received s passed k h.mine (λ e. let f : ⊥ = cc (r.0, e) in f)))
+            (subst (λ t. Has N t k changes) (sym same) h, laws.unit_received s passed k h.mine (λ e. cc (r.0, e))))
         | inr p ↦
-            (let keeps = laws.unit_received s passed k h.mine (λ e. let f : ⊥ = cc (p.0, e) in f) in
+            (let keeps = laws.unit_received s passed k h.mine (λ e. cc (p.0, e)) in
             let u = laws.unit_processing s passed k p.1 h.mine p.0 p.2 in (
               record {
                 mine = u.0;
@@ -144,13 +138,10 @@ module _ (N : NodeRules) (laws : NodeLaws N) where
   at-none_unit : (s : N.State) (passed : Bool) (k : ℕ) (ps : List (List ℕ)) (stage : Stage) → N.mine s ≡ None → IsAt N s k ps stage → IsAt N (N.unit s passed) k ps stage
   at-none_unit s passed k ps stage none =
       let u = laws.unit_none s passed none in
-      at-same s (N.unit s passed) u.2 (λ e. u.0) (λ tag e. absurd (let f : ⊥ = cc (none, e) in f)) k ps stage
+      at-same s (N.unit s passed) u.2 (λ e. u.0) (λ tag e. absurd (cc (none, e))) k ps stage
 
   pub at-unit : (s : N.State) (passed : Bool) (k : ℕ) (ps : List (List ℕ)) (stage : Stage) → IsAt N s k ps stage → IsAt N (N.unit s passed) k ps stage
   at-unit s passed k ps At_sync h = at-none_unit s passed k ps At_sync h h
-  at-unit s passed k ps (At_start ids left) h = at-none_unit s passed k ps (At_start ids left) h.none h
-  at-unit s passed k ps (At_data ids id counter bytes left) h = at-none_unit s passed k ps (At_data ids id counter bytes left) h.none h
-  at-unit s passed k ps (At_process ids zero) h = at-none_unit s passed k ps (At_process ids zero) h.none h
   at-unit s passed k ps (At_process ids (suc taken)) h =
       let u = has-unit s passed k (flat_map N.changes_of h.done) h.has in
       record { done = h.done; left = h.left; all = h.all; has = u.0; hold = hold-same s (N.unit s passed) u.1 ids h.left h.hold }
@@ -172,6 +163,7 @@ module _ (N : NodeRules) (laws : NodeLaws N) where
         ]
       ]
   at-unit s passed k ps Refused_once h = absurd h
+  at-unit s passed k ps x h = at-none_unit s passed k ps x h.none h
 
   -- the stage's call: refused, or the node is at the next stage
   abbrev IsLed : N.State → Call → ℕ → List (List ℕ) → Stage → Type 0
@@ -181,16 +173,8 @@ module _ (N : NodeRules) (laws : NodeLaws N) where
   led-refused s call k ps stage why e = inl (ap (onward ps stage) e ∙ go stage)
     where
       go : (x : Stage) → onward ps x (Refused why) ≡ Refused_once
-      go At_sync = refl
-      go (At_start ids []) = refl
-      go (At_start ids (p ∷ left)) = refl
-      go (At_data ids id counter [] left) = refl
       go (At_data ids id counter (b ∷ bs) left) = refl
-      go (At_process [] taken) = refl
-      go (At_process (id ∷ ids) taken) = refl
-      go At_activate = refl
-      go Over = refl
-      go Refused_once = refl
+      go _ = refl
 
   led-to : (s : N.State) (call : Call) (k : ℕ) (ps : List (List ℕ)) (stage : Stage) (r : Reply) → (N.judge s call).1 ≡ r → IsAt N (N.judge s call).0 k ps (onward ps stage r) → IsLed s call k ps stage
   led-to s call k ps stage r e h = inr (subst (λ y. IsAt N (N.judge s call).0 k ps (onward ps stage y)) (sym e) h)
@@ -319,7 +303,7 @@ module _ (N : NodeRules) (laws : NodeLaws N) where
       later done [] all has hold d = absurd hold
       later done (p ∷ left) all has hold d =
           let u = laws.process_ready s id k k has.mine d in
-          let planned : N.planned s ≡ flat_map N.changes_of done = elim has.planned [ inl r ↦ r.1 | inr q ↦ absurd (let f : ⊥ = cc (u.0, q.0) in f) ] in
+          let planned : N.planned s ≡ flat_map N.changes_of done = elim has.planned [ inl r ↦ r.1 | inr q ↦ absurd (cc (u.0, q.0)) ] in
           goes done p left all hold (inl planned) d (u.2, u.3, u.4 ∙ planned, u.5)
 
       from : (n : ℕ) → IsAt N s k ps (At_process (id ∷ ids) n) → (N.judge s (ProcessSwPackage id k)).1 ≡ Done → IsAt N (N.judge s (ProcessSwPackage id k)).0 k ps (next_processed ids (suc taken))
@@ -332,21 +316,19 @@ module _ (N : NodeRules) (laws : NodeLaws N) where
         | inl d ↦
             (let m = laws.activate_mine s d in
             let u = laws.activate.only s k h.mine d m.2 in
-            let planned : N.planned s ≡ flat_map N.changes_of ps = elim h.planned [ inl r ↦ r.1 | inr q ↦ absurd (let f : ⊥ = cc (m.2, q.0) in f) ] in
+            let planned : N.planned s ≡ flat_map N.changes_of ps = elim h.planned [ inl r ↦ r.1 | inr q ↦ absurd (cc (m.2, q.0)) ] in
             led-to s Activate k ps At_activate Done d (record { mine = u.0; planned = u.2 ∙ planned; status = inl u.1 }))
         | inr r ↦ led-refused s Activate k ps At_activate r.0 r.1
       ]
 
   pub at-judge : (s : N.State) (k : ℕ) (ps : List (List ℕ)) (stage : Stage) (call : Call) → call_at k stage ≡ Some call → IsAt N s k ps stage → IsLed s call k ps stage
   at-judge s k ps At_sync call e h = let q : Sync ≡ call = cc e in subst (λ c. IsLed s c k ps At_sync) q (led-sync s k ps h)
-  at-judge s k ps (At_start ids []) call e h = absurd (let g : ⊥ = cc e in g)
   at-judge s k ps (At_start ids (p ∷ left)) call e h = let q : TransferStart (length p) ≡ call = cc e in subst (λ c. IsLed s c k ps (At_start ids (p ∷ left))) q (led-start s k ps ids p left h)
   at-judge s k ps (At_data ids id counter [] left) call e h = let q : TransferExit id ≡ call = cc e in subst (λ c. IsLed s c k ps (At_data ids id counter [] left)) q (led-exit s k ps ids id counter left h)
   at-judge s k ps (At_data ids id counter (b ∷ bs) left) call e h =
       let q : TransferData id counter (take 4096 (b ∷ bs)) ≡ call = cc e in
       subst (λ c. IsLed s c k ps (At_data ids id counter (b ∷ bs) left)) q (led-data s k ps ids id counter b bs left h)
-  at-judge s k ps (At_process [] taken) call e h = absurd (let g : ⊥ = cc e in g)
   at-judge s k ps (At_process (id ∷ ids) taken) call e h = let q : ProcessSwPackage id k ≡ call = cc e in subst (λ c. IsLed s c k ps (At_process (id ∷ ids) taken)) q (led-process s k ps id ids taken h)
   at-judge s k ps At_activate call e h = let q : Activate ≡ call = cc e in subst (λ c. IsLed s c k ps At_activate) q (led-activate s k ps h)
-  at-judge s k ps Over call e h = absurd (let g : ⊥ = cc e in g)
   at-judge s k ps Refused_once call e h = absurd h
+  at-judge s k ps _ call e h = absurd (cc e)

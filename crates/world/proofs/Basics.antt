@@ -38,32 +38,26 @@ pub judged-by : (s : NodeState) (client : ℕ) (c : Call) (v : Verdict) (P : Nod
 judged-by s client c v P here there = go (reply_to s client c v)
   where
     go : (r : Reply) → P (after_reply s client c v r)
-    go reply.Done = there
-    go (reply.Started id) = there
-    go (reply.Synced x) = there
     go (reply.Refused why) = here
+    go _ = there
 
 pub refused-leaves : (s : NodeState) (client : ℕ) (c : Call) (v : Verdict) (why : Refusal) → (reply_to s client c v) ≡ Refused why → (judge s client c v).0 ≡ s
 refused-leaves s client c v why e = go (reply_to s client c v) e
   where
     go : (r : Reply) → r ≡ Refused why → after_reply s client c v r ≡ s
-    go reply.Done q = absurd (let f : ⊥ = cc q in f)
-    go (reply.Started id) q = absurd (let f : ⊥ = cc q in f)
-    go (reply.Synced x) q = absurd (let f : ⊥ = cc q in f)
     go (reply.Refused w) q = refl
+    go _ q = absurd (cc q)
 
 pub done-accepted : (s : NodeState) (client : ℕ) (c : Call) (v : Verdict) → (reply_to s client c v) ≡ Done → (judge s client c v).0 ≡ accepted s client c v
 done-accepted s client c v e = go (reply_to s client c v) e
   where
     go : (r : Reply) → r ≡ Done → after_reply s client c v r ≡ accepted s client c v
     go reply.Done q = refl
-    go (reply.Started id) q = absurd (let f : ⊥ = cc q in f)
-    go (reply.Synced x) q = absurd (let f : ⊥ = cc q in f)
-    go (reply.Refused w) q = absurd (let f : ⊥ = cc q in f)
+    go _ q = absurd (cc q)
 
 pub done-none : (r : Reply) (o : Option Refusal) → (refused_or r o) ≡ Done → o ≡ None
 done-none r None e = refl
-done-none r (Some why) e = absurd (let f : ⊥ = cc e in f)
+done-none r (Some why) e = absurd (cc e)
 
 pub done-or-refused : (r : Reply) (o : Option Refusal) → r ≡ Done → ((refused_or r o) ≡ Done) ⊎ ((why : Refusal) × ((refused_or r o) ≡ Refused why))
 done-or-refused r None e = inl e
@@ -71,11 +65,11 @@ done-or-refused r (Some why) e = inr (why, refl)
 
 pub or-none : {A : Type 0} (a b : Option A) → option_or a b ≡ None → (a ≡ None) × (b ≡ None)
 or-none None b e = (refl, e)
-or-none (Some x) b e = absurd (let f : ⊥ = cc e in f)
+or-none (Some x) b e = absurd (cc e)
 
 pub not-refused : (row : Bool × Refusal) (rows : List (Bool × Refusal)) → first_refusal (row ∷ rows) ≡ None → (row.0 ≡ false) × (first_refusal rows ≡ None)
 not-refused (false, r) rows e = (refl, e)
-not-refused (true, r) rows e = absurd (let f : ⊥ = cc e in f)
+not-refused (true, r) rows e = absurd (cc e)
 
 -- what is kept
 pub last-kept : (s : NodeState) (at : CallNo) (c : Call) (r : Reply) → IsConsistent s → of_client (kept_after s at c r).last 0 ≡ Some (record { no = at; reply = r })
@@ -97,19 +91,10 @@ mark_of st x = record { owner = x.owner; tag = x.tag; status = st }
 seen : (owner tag : ℕ) (st : Status) (b c : Bool) → (owner == 0) ≡ b → (tag == 0) ≡ c → c ≡ not b → is_status st Idle ≡ false → ◌≡◌ {A = Option SessionMark} (Some (record { owner = owner; tag = tag; status = st })) (seen_of owner st (tag_if b tag))
 seen owner tag st true c p q r i = let z : owner ≡ 0 = eqb-true owner 0 p in ap (λ (n : ℕ). Some (record { owner = n; tag = tag; status = st })) z
 seen owner tag st false true p q r i = let z : tag ≡ 0 = eqb-true tag 0 q in ap (λ (n : ℕ). Some (record { owner = owner; tag = n; status = st })) z ∙ sym (ap (λ (b : Bool). if b then None else Some (record { owner = owner; tag = 0; status = st })) i)
-seen owner tag st false false p q r i = absurd (let f : ⊥ = cc r in f)
+seen owner tag st false false p q r i = absurd (cc r)
 
 session-shown : (o : Option Session) (st : Status) → SessionIsDue st o → option_map (mark_of st) o ≡ seen_of (option_map_or (λ (x : Session). x.owner) o 0) st (option_and_then (λ (x : Session). tag_if (x.owner == 0) x.tag) o)
 session-shown None Idle h = refl
-session-shown (Some x) Idle h = absurd h
-session-shown None Ready h = absurd h
-session-shown None Processing h = absurd h
-session-shown None Activating h = absurd h
-session-shown None Verifying h = absurd h
-session-shown None Activated h = absurd h
-session-shown None RollingBack h = absurd h
-session-shown None RolledBack h = absurd h
-session-shown None CleaningUp h = absurd h
 session-shown (Some x) Ready h = seen x.owner x.tag Ready (x.owner == 0) (x.tag == 0) refl refl h refl
 session-shown (Some x) Processing h = seen x.owner x.tag Processing (x.owner == 0) (x.tag == 0) refl refl h refl
 session-shown (Some x) Activating h = seen x.owner x.tag Activating (x.owner == 0) (x.tag == 0) refl refl h refl
@@ -118,6 +103,7 @@ session-shown (Some x) Activated h = seen x.owner x.tag Activated (x.owner == 0)
 session-shown (Some x) RollingBack h = seen x.owner x.tag RollingBack (x.owner == 0) (x.tag == 0) refl refl h refl
 session-shown (Some x) RolledBack h = seen x.owner x.tag RolledBack (x.owner == 0) (x.tag == 0) refl refl h refl
 session-shown (Some x) CleaningUp h = seen x.owner x.tag CleaningUp (x.owner == 0) (x.tag == 0) refl refl h refl
+session-shown _ _ h = absurd h
 
 module _ (read : Reading) (clusters : List (Cluster Bytes)) where
   -- a step that leaves the session and the status
@@ -158,26 +144,20 @@ module _ (read : Reading) (clusters : List (Cluster Bytes)) where
       resume (x ∷ xs) = refl
 
       go : (o : Option Goal) → (option_map_or (arrive s) o s).ended ≡ s.ended
-      go None = refl
-      go (Some (To status)) = refl
-      go (Some (CleanUp outcome)) = refl
       go (Some Resume) = resume (changes_in s)
+      go _ = refl
 
   pub judge_ended : (s : NodeState) (c : Call) → ended_in (judged_in read s c).0 ≡ ended_in s
   judge_ended s c = ap (λ l. of_client l 0) (judged-by s 0 (c) (verdict_for read s 0 (c)) (λ t. t.ended ≡ s.ended) refl (go c))
     where
       go : (d : Call) → (accepted s 0 (d) (verdict_for read s 0 (c))).ended ≡ s.ended
-      go Sync = refl
-      go (TransferStart size) = refl
-      go (TransferData id counter bytes) = refl
-      go (TransferExit id) = refl
-      go (DeleteTransfer id) = refl
       go (ProcessSwPackage id tag) = led-ended (call.ProcessSwPackage id tag) (begin_processing s 0 id tag)
       go Activate = led-ended call.Activate s
       go Finish = led-ended call.Finish s
       go Rollback = led-ended call.Rollback s
       go Revert = led-ended call.RevertProcessedSwPackages s
       go (Cancel id) = led-ended (call.Cancel id) (stop_processing s id)
+      go _ = refl
 
   pub refused : (s : NodeState) (c : Call) (why : Refusal) → (judged_in read s c).1 ≡ Refused why → (judged_in read s c).0 ≡ s
   refused s c why e = refused-leaves s 0 (c) (verdict_for read s 0 (c)) why e

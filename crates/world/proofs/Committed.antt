@@ -24,22 +24,8 @@ pub late-commit : (call : Call) (o : Option Status) (shown : Option _) → (is_s
 late-commit Sync o shown e = inl refl
 late-commit Finish o shown e = inr (inl refl)
 late-commit (DeleteTransfer id) o shown e = inr (inr (id, refl))
-late-commit (TransferStart size) None shown e = absurd (let g : ⊥ = cc e in g)
-late-commit (TransferStart size) (Some s) shown e = absurd (let g : ⊥ = cc e in g)
-late-commit (TransferData id counter bytes) None shown e = absurd (let g : ⊥ = cc e in g)
-late-commit (TransferData id counter bytes) (Some s) shown e = absurd (let g : ⊥ = cc e in g)
-late-commit (TransferExit id) None shown e = absurd (let g : ⊥ = cc e in g)
-late-commit (TransferExit id) (Some s) shown e = absurd (let g : ⊥ = cc e in g)
-late-commit (ProcessSwPackage id tag) None shown e = absurd (let g : ⊥ = cc e in g)
-late-commit (ProcessSwPackage id tag) (Some s) shown e = absurd (let g : ⊥ = cc e in g)
-late-commit Activate None shown e = absurd (let g : ⊥ = cc e in g)
-late-commit Activate (Some s) shown e = absurd (let g : ⊥ = cc e in g)
-late-commit Rollback None shown e = absurd (let g : ⊥ = cc e in g)
-late-commit Rollback (Some s) shown e = absurd (let g : ⊥ = cc e in g)
-late-commit Revert None shown e = absurd (let g : ⊥ = cc e in g)
-late-commit Revert (Some s) shown e = absurd (let g : ⊥ = cc e in g)
-late-commit (Cancel id) None shown e = absurd (let g : ⊥ = cc e in g)
-late-commit (Cancel id) (Some s) shown e = absurd (let g : ⊥ = cc e in g)
+late-commit _ None shown e = absurd (cc e)
+late-commit _ (Some s) shown e = absurd (cc e)
 
 module _ (N : NodeRules) (laws : NodeLaws N) (k : ℕ) (changes : List N.Change) where
   -- the campaign's session waits for Finish, or is being cleaned up after it
@@ -77,7 +63,7 @@ module _ (N : NodeRules) (laws : NodeLaws N) (k : ℕ) (changes : List N.Change)
           let m = laws.finish_mine s d in
           elim m.2 [
             | inl a ↦ (let o = laws.finish_new.only s k w.mine d a in record { mine = o.0; status = inr (o.1, o.3); planned = o.2 ∙ w.planned })
-            | inr b ↦ absurd (elim w.status [ inl x ↦ (let g : ⊥ = cc (b, x) in g) | inr y ↦ (let g : ⊥ = cc (b, y.0) in g) ])
+            | inr b ↦ absurd (elim w.status [ inl x ↦ (cc (b, x)) | inr y ↦ (cc (b, y.0)) ])
           ])
 
   pub waiting-foreign : (moves : List (Move N)) (call : N.ForeignCall) → IsWaiting moves → IsWaiting (Foreign call ∷ moves)

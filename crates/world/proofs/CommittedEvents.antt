@@ -50,9 +50,8 @@ module _ (N : NodeRules) (laws : NodeLaws N) (packages : Packages) (n : ℕ) whe
   fresh-exec s m e = go (no_lt m.at (N.last s)) (no_eq m.at (N.last s)) refl refl e
     where
       go : (a b : Bool) → no_lt m.at (N.last s) ≡ a → no_eq m.at (N.last s) ≡ b → is_fresh_done (if a then Stale (N.last s) else (if b then Again (N.kept s) else Fresh (N.judge s m.call).1)) ≡ true → Executable N s m
-      go true b p q h = absurd (let g : ⊥ = cc h in g)
-      go false true p q h = absurd (let g : ⊥ = cc h in g)
       go false false p q h = above-last m.at (N.last s) p q
+      go _ _ p q h = absurd (cc h)
 
   exec-back : (s : N.State) (m m' : Message) → Executable N (delivered N s m.at m.call) m' → Executable N s m'
   exec-back s m m' =
@@ -65,7 +64,7 @@ module _ (N : NodeRules) (laws : NodeLaws N) (packages : Packages) (n : ℕ) whe
       let h = and-left N laws (record { epoch = 0; earlier = []; current = None }) n (has_tag k m.call) (is_status (N.status s) Idle && is_fresh_done (reached N s m.at m.call)) e in
       let h2 = and-left N laws (record { epoch = 0; earlier = []; current = None }) n (is_status (N.status s) Idle) (is_fresh_done (reached N s m.at m.call)) h.1 in
       let q = has-tag-process k m.call (calm (fresh-exec s m h2.1)) in
-      let g : ⊥ = cc (q, h.0) in g)
+      cc (q, h.0))
 
   pub committed-deliver : (f : Fold) (x : NodeWorld N) (m : Message) → InSent m x.sent → KeptFold f → KeptOld N f n (record { moves = Delivered m ∷ x.moves; sent = x.sent; told = x.told }) → KeptCommitted f x → KeptCommitted f (record { moves = Delivered m ∷ x.moves; sent = x.sent; told = x.told })
   committed-deliver f x m sent fold old kept =
@@ -158,8 +157,8 @@ module _ (N : NodeRules) (laws : NodeLaws N) (packages : Packages) (n : ℕ) whe
   pub committed-enter : (f : Fold) (x : NodeWorld N) (c : Current) (r : CampaignResult) → f.current ≡ Some c → (1 ≤ n → n ≤ 8 → packages c.campaign n ≢ [] → flag_of c.named n ≡ true) → all_ended c ≡ true → is_result_of c.decision r ≡ true → KeptOld N f n x → KeptCommitted f x → KeptCommitted (record { epoch = f.epoch; earlier = f.earlier ++ (c.campaign, r) ∷ []; current = None }) x
   committed-enter f x c r current names ended result old kept =
       record {
-        calm = λ c' current'. absurd (let z : ⊥ = cc current' in z);
-        committed = λ c' current'. absurd (let z : ⊥ = cc current' in z);
+        calm = λ c' current'. absurd (cc current');
+        committed = λ c' current'. absurd (cc current');
         entered = λ k earlier low high named.
             elim (in-append (k, Successful) f.earlier (c.campaign, r) earlier) [
               | inl h ↦ kept.entered k h low high named
@@ -177,9 +176,8 @@ module _ (N : NodeRules) (laws : NodeLaws N) (packages : Packages) (n : ℕ) whe
       }
     where
       success : (o : Option Decision) → is_result_of o Successful ≡ true → o ≡ Some Commit
-      success None e = absurd (let z : ⊥ = cc e in z)
       success (Some Commit) e = refl
-      success (Some (Abort cause)) e = absurd (let z : ⊥ = cc e in z)
+      success _ e = absurd (cc e)
 
       waits_no_more : IsWaiting N laws c.campaign (changes_of c.campaign) x.moves → ⊥
       waits_no_more w =

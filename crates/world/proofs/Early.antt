@@ -101,8 +101,8 @@ module _ (N : NodeRules) (laws : NodeLaws N) (packages : Packages) (numbers : Li
       marked (Some c) d e' undecided quiet = go (is_undecided c) refl (some-inj (changed c (Start epoch)) d e')
         where
           go : (b : Bool) → is_undecided c ≡ b → (if b then record c { restart = true } else c) ≡ d → ⊥
-          go true p q = let z : true ≡ d.restart = ap (λ y. y.restart) q in let g : ⊥ = cc (z, quiet) in g
-          go false p q = let z : c.decision ≡ None = ap (λ y. y.decision) q ∙ undecided in let g : ⊥ = cc (ap is_none z, p) in g
+          go true p q = let z : true ≡ d.restart = ap (λ y. y.restart) q in cc (z, quiet)
+          go false p q = let z : c.decision ≡ None = ap (λ y. y.decision) q ∙ undecided in cc (ap is_none z, p)
 
   plain : (w : World N) (e : MasterEvent) → ((n : ℕ) (c : Current) → SameAt n c (changed c e)) → ((c : Current) → (changed c e).restart ≡ c.restart) → ((n : ℕ) (c : Current) → vote_of (changed c e) n ≡ Some Vote.Yes → (vote_of c n ≡ Some Vote.Yes) ⊎ (showed_after_activate Activated (w.node n).told ≡ true)) → WorldEarly w → WorldEarly (record { fold = record { epoch = w.fold.epoch; earlier = w.fold.earlier; current = changed_in w.fold.current e }; node = w.node })
   plain w e sames restarts votes each n =
@@ -115,7 +115,7 @@ module _ (N : NodeRules) (laws : NodeLaws N) (packages : Packages) (numbers : Li
       same = same-fold n w.fold w.fold.epoch e (omega arith) (λ c. sames n c)
 
       back : (o : Option Current) (d : Current) → changed_in o e ≡ Some d → (c : Current) × (o ≡ Some c) × (d.campaign ≡ c.campaign) × (d.decision ≡ c.decision) × (d.restart ≡ c.restart) × (vote_of d n ≡ Some Vote.Yes → (vote_of c n ≡ Some Vote.Yes) ⊎ (showed_after_activate Activated (w.node n).told ≡ true))
-      back None d q = absurd (let z : ⊥ = cc q in z)
+      back None d q = absurd (cc q)
       back (Some c) d q =
           let same_d = some-inj (changed c e) d q in
           (c, refl, sym (ap (λ y. y.campaign) same_d) ∙ (sames n c).campaign, sym (ap (λ y. y.decision) same_d) ∙ (sames n c).decision, sym (ap (λ y. y.restart) same_d) ∙ restarts c, λ v. votes n c (ap (λ y. vote_of y n) same_d ∙ v))
@@ -144,7 +144,7 @@ module _ (N : NodeRules) (laws : NodeLaws N) (packages : Packages) (numbers : Li
 
       decided : (p : Option Current) (c : Current) → changed_in p (Decide d) ≡ Some c → c.decision ≡ None → ⊥
       decided None c q u = cc q
-      decided (Some b) c q u = let z : Some d ≡ None = ap (λ y. y.decision) (some-inj (record b { decision = Some d }) c q) ∙ u in let g : ⊥ = cc z in g
+      decided (Some b) c q u = let z : Some d ≡ None = ap (λ y. y.decision) (some-inj (record b { decision = Some d }) c q) ∙ u in cc z
 
   ended : (w : World N) (nd : NodeId) (o : Outcome) (p : Option Current) → w.fold.current ≡ p → in_current p (EndedAt nd o) ≡ None → InCurrent p (λ c. EndEvidence w.fold.epoch c (w.node nd).told (w.node nd).sent) → WorldKept N laws packages numbers w → WorldEarly w → WorldEarly (record { fold = record { epoch = w.fold.epoch; earlier = w.fold.earlier; current = changed_in p (EndedAt nd o) }; node = w.node })
   ended w nd o None e h evidence kept each n = absurd evidence
@@ -172,11 +172,11 @@ module _ (N : NodeRules) (laws : NodeLaws N) (packages : Packages) (numbers : Li
           (each n).live
 
   enter : (w : World N) (r : CampaignResult) (p : Option Current) → w.fold.current ≡ p → in_current p (Enter r) ≡ None → WorldEarly w → WorldEarly (record { fold = record { epoch = w.fold.epoch; earlier = entered w.fold.earlier p r; current = None }; node = w.node })
-  enter w r None e h each n = absurd (let g : ⊥ = cc h in g)
+  enter w r None e h each n = absurd (cc h)
   enter w r (Some c) e h each n =
       record {
         live = live-fold N laws packages numbers n w.fold (record { epoch = w.fold.epoch; earlier = entered w.fold.earlier (Some c) r; current = None }) (w.node n) (λ k p. absurd (out k p)) (each n).live;
-        early = early-no N laws packages numbers n (record { epoch = w.fold.epoch; earlier = entered w.fold.earlier (Some c) r; current = None }) (w.node n) (λ d current undecided quiet. let g : ⊥ = cc current in g);
+        early = early-no N laws packages numbers n (record { epoch = w.fold.epoch; earlier = entered w.fold.earlier (Some c) r; current = None }) (w.node n) (λ d current undecided quiet. cc current);
       }
     where
       out : (k : ℕ) → InPresent w.fold n (λ y. k ≡ y.campaign) → ⊥
@@ -195,8 +195,7 @@ module _ (N : NodeRules) (laws : NodeLaws N) (packages : Packages) (numbers : Li
     where
       none-of : (p : Option Current) → is_none p ≡ true → p ≡ None
       none-of None q = refl
-      none-of (Some x) q = absurd (let g : ⊥ = cc q in g)
-  of-record w (PhaseTo p) h evidence kept each = plain w (PhaseTo p) (λ n c. same-refl n c (changed c (PhaseTo p)) refl refl refl refl) (λ c. refl) (λ n c v. inl v) each
+      none-of (Some x) q = absurd (cc q)
   of-record w (VoteOf nd v) h evidence kept each = plain w (VoteOf nd v) (λ n c. same-refl n c (changed c (VoteOf nd v)) refl refl refl refl) (λ c. refl) (λ n c y. voted n c y) each
     where
       voted : (n : ℕ) (c : Current) → vote_of (changed c (VoteOf nd v)) n ≡ Some Vote.Yes → (vote_of c n ≡ Some Vote.Yes) ⊎ (showed_after_activate Activated (w.node n).told ≡ true)
@@ -208,10 +207,10 @@ module _ (N : NodeRules) (laws : NodeLaws N) (packages : Packages) (numbers : Li
                 let shown : VoteEvidence Vote.Yes (w.node nd).told = subst (λ z. VoteEvidence z (w.node nd).told) v_is evidence in
                 inr (subst (λ k. showed_after_activate Activated (w.node k).told ≡ true) (sym q.0) shown))
           ]
-  of-record w CancelAsked h evidence kept each = plain w CancelAsked (λ n c. same-refl n c (changed c CancelAsked) refl refl refl refl) (λ c. refl) (λ n c v. inl v) each
   of-record w (Decide d) h evidence kept each = decide w d w.fold.current refl each
   of-record w (EndedAt nd o) h evidence kept each = ended w nd o w.fold.current refl h evidence kept each
   of-record w (Enter r) h evidence kept each = enter w r w.fold.current refl h each
+  of-record w x h evidence kept each = plain w x (λ n c. same-refl n c (changed c x) refl refl refl refl) (λ c. refl) (λ n c v. inl v) each
 
   keeps : (w : World N) (e : Event N) → Allowed N packages numbers w e → WorldKept N laws packages numbers w → WorldEarly w → WorldEarly (happens N w e)
   keeps w (Deliver n which told) allowed kept each =
@@ -237,12 +236,12 @@ module _ (N : NodeRules) (laws : NodeLaws N) (packages : Packages) (numbers : Li
         where
           none-of : (p : Option Decision) → is_none p ≡ true → p ≡ None
           none-of None z = refl
-          none-of (Some x) z = absurd (let g : ⊥ = cc z in g)
+          none-of (Some x) z = absurd (cc z)
 
           quiet : (x y : Bool) → c.restart ≡ y → not (x || y) ≡ true → c.restart ≡ false
           quiet x false p z = p
-          quiet true true p z = absurd (let g : ⊥ = cc z in g)
-          quiet false true p z = absurd (let g : ⊥ = cc z in g)
+          quiet true true p z = absurd (cc z)
+          quiet false true p z = absurd (cc z)
 
   pub early-opened : (openings : ℕ → N.ForeignCall) → WorldEarly (opened_world N openings)
   early-opened openings n =
@@ -253,7 +252,7 @@ module _ (N : NodeRules) (laws : NodeLaws N) (packages : Packages) (numbers : Li
               live = λ m h. absurd h;
               entry_sent = λ k e h. absurd h;
             };
-        early = early-no N laws packages numbers n nothing_yet (record { moves = Foreign (openings n) ∷ []; sent = []; told = [] }) (λ d current undecided quiet. let g : ⊥ = cc current in g);
+        early = early-no N laws packages numbers n nothing_yet (record { moves = Foreign (openings n) ∷ []; sent = []; told = [] }) (λ d current undecided quiet. cc current);
       }
 
   pub early : Early N laws packages numbers

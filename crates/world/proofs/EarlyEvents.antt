@@ -42,16 +42,7 @@ or-right false b e = e
 
 sync-is : (call : Call) → is_sync call ≡ true → call ≡ Sync
 sync-is Sync e = refl
-sync-is (TransferStart size) e = absurd (let g : ⊥ = cc e in g)
-sync-is (TransferData id counter bytes) e = absurd (let g : ⊥ = cc e in g)
-sync-is (TransferExit id) e = absurd (let g : ⊥ = cc e in g)
-sync-is (DeleteTransfer id) e = absurd (let g : ⊥ = cc e in g)
-sync-is (ProcessSwPackage id tag) e = absurd (let g : ⊥ = cc e in g)
-sync-is Activate e = absurd (let g : ⊥ = cc e in g)
-sync-is Finish e = absurd (let g : ⊥ = cc e in g)
-sync-is Rollback e = absurd (let g : ⊥ = cc e in g)
-sync-is Revert e = absurd (let g : ⊥ = cc e in g)
-sync-is (Cancel id) e = absurd (let g : ⊥ = cc e in g)
+sync-is _ e = absurd (cc e)
 
 -- what the message before a new one of an undecided campaign is
 told-before : (a b d e g : Bool) → a ≡ true → d ≡ true → g ≡ false → (not a || (b || (not d || (e && g)))) ≡ true → b ≡ true
@@ -74,7 +65,7 @@ module _ (N : NodeRules) (laws : NodeLaws N) (packages : Packages) (numbers : Li
           no-join e n e' n' p' q' = cc
 
       go : (a b : Bool) → no_lt m.at (N.last s) ≡ a → no_eq m.at (N.last s) ≡ b → ((if a then Stale (N.last s) else (if b then Again (N.kept s) else Fresh (N.judge s m.call).1)) ≡ Again r) ⊎ ((if a then Stale (N.last s) else (if b then Again (N.kept s) else Fresh (N.judge s m.call).1)) ≡ Fresh r) → m.at ≡ N.last (if a then s else (if b then s else N.keep (N.judge s m.call).0 m.at m.call (N.judge s m.call).1))
-      go true b p q h' = absurd (elim h' [ inl e ↦ (let g : ⊥ = cc e in g) | inr e ↦ (let g : ⊥ = cc e in g) ])
+      go true b p q h' = absurd (elim h' [ inl e ↦ (cc e) | inr e ↦ (cc e) ])
       go false true p q h' = let same = eq-tests m.at.epoch m.at.number (N.last s).epoch (N.last s).number p q in join m.at (N.last s) same.0 same.1
       go false false p q h' = sym (laws.keep_last (N.judge s m.call).0 m.at m.call (N.judge s m.call).1)
 
@@ -128,8 +119,7 @@ module _ (N : NodeRules) (laws : NodeLaws N) (packages : Packages) (numbers : Li
                   | inl q ↦ (subst (λ y. InSent y x.sent) (sym (ap (λ z. z.message) q)) sent, ap (λ z. z.message.campaign) q ∙ eqb-true m.campaign k p)
                   | inr h' ↦ live.entry_sent k e h'
                 ]
-            entry k e true false p h = live.entry_sent k e h
-            entry k e false b p h = live.entry_sent k e h
+            entry k e _ _ p h = live.entry_sent k e h
 
     pub live-foreign : (f : Fold) (x : NodeWorld N) (call : N.ForeignCall) → KeptLive N f n x → KeptLive N f n (record { moves = Foreign call ∷ x.moves; sent = x.sent; told = x.told })
     live-foreign f x call live =
@@ -306,12 +296,12 @@ module _ (N : NodeRules) (laws : NodeLaws N) (packages : Packages) (numbers : Li
                 last = λ e h. absurd h;
                 told_entry = λ e h. absurd h;
                 is_on = inr (free (N.mine (state_of N x)) refl, old.fresh k is_fresh);
-                over = λ d. absurd (let z : ⊥ = cc d in z);
-                activated = λ d. absurd (let z : ⊥ = cc d in z);
+                over = λ d. absurd (cc d);
+                activated = λ d. absurd (cc d);
               }));
           yes = λ c current undecided quiet voted.
               let same = some-inj (begun k named) c current in
-              absurd (let z = part-none {A = Vote} 8 n in let w = ap (λ y. vote_of y n) same ∙ voted in let f : ⊥ = cc in f);
+              absurd (let z = part-none {A = Vote} 8 n in let w = ap (λ y. vote_of y n) same ∙ voted in cc);
         }
       where
         is_fresh : IsFresh f k
@@ -334,7 +324,7 @@ module _ (N : NodeRules) (laws : NodeLaws N) (packages : Packages) (numbers : Li
         let showed = early.yes c current undecided quiet voted in
         let over = h.over (showed-done Activated x.told showed) in
         elim h.is_on [
-          | inl e ↦ absurd (let z : ⊥ = cc (over, e) in z)
+          | inl e ↦ absurd (cc (over, e))
           | inr p ↦ (over, h.activated showed, subst (λ y. IsAt N (state_of N x) c.campaign (packages c.campaign n) y) over p.0, p.1)
         ]
 

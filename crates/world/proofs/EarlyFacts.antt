@@ -24,14 +24,12 @@ pub record ClientEntry : Type 0 where
   pub reply : Reply
 
 abbrev pub judged : Reached → Option Reply
-judged (Stale _) = None
-judged (Again _) = None
 judged (Fresh r) = Some r
+judged _ = None
 
 abbrev pub with_entry : Option Reply → Bool → Message → List ClientEntry → List ClientEntry
-with_entry None counts m es = es
-with_entry (Some r) false m es = es
 with_entry (Some r) true m es = record { message = m; reply = r } ∷ es
+with_entry _ _ m es = es
 
 -- client 0's entries of the rounds of campaign k, the newest first
 abbrev pub round_entries : (N : NodeRules) → ℕ → List (Move N) → List ClientEntry
@@ -57,9 +55,8 @@ Follows k ps (e ∷ es) = (call_at k (stage_after ps es) ≡ Some e.message.call
 -- these transfers hold these packages, one each
 abbrev pub Hold : (N : NodeRules) → N.State → List ℕ → List (List ℕ) → Type 0
 Hold N s [] [] = Unit {0}
-Hold N s [] (p ∷ ps) = ⊥
-Hold N s (id ∷ ids) [] = ⊥
 Hold N s (id ∷ ids) (p ∷ ps) = Contains (N.transfers s) id × (N.received s id ≡ p) × Hold N s ids ps
+Hold N s _ _ = ⊥
 
 -- the id is none of these
 abbrev pub Apart : ℕ → List ℕ → Type 0

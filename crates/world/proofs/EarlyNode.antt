@@ -1,5 +1,5 @@
 -- What one node's part of the time before the decision keeps under each event.
-use Rattle.std.proofs.Common.{◌≡◌, ◌≢◌, ◌⊎◌, inl, inr, if◌then◌else◌, ◌&&◌, ◌||◌, not, ◌++◌, ℕ, List, [], ◌∷◌, Option, Some, None, Bool, true, false, is_some, nat_eq, refl, sym, ◌∙◌, ap, subst}
+use Rattle.std.proofs.Common.{arith, ◌≡◌, ◌≢◌, ◌⊎◌, inl, inr, if◌then◌else◌, ◌&&◌, ◌||◌, not, ◌++◌, ℕ, List, [], ◌∷◌, Option, Some, None, Bool, true, false, is_some, nat_eq, refl, sym, ◌∙◌, ap, subst}
 use Rattle.std.proofs.lemmas.Bool.{eqb-true, eq-eqb}
 use Rattle.ucm_base.specs.declared.ids.CallNo.{CallNo}
 use Rattle.pm_types.specs.declared.replies.Refusal.{Refusal}
@@ -32,11 +32,11 @@ same-no a b e =
   where
     and-left' : (x y : Bool) → (x && y) ≡ true → (x ≡ true) × (y ≡ true)
     and-left' true y q = (refl, q)
-    and-left' false y q = absurd (let g : ⊥ = cc q in g)
+    and-left' false y q = absurd (cc q)
 
 -- what told has for a number is an answer to a message of this number
 pub told-in : (ts : List Told) (at : CallNo) (r : Reply) → told_reply ts at ≡ Some r → (m : Message) × InTold (Answered m r) ts × (m.at ≡ at)
-told-in [] at r e = absurd (let g : ⊥ = cc e in g)
+told-in [] at r e = absurd (cc e)
 told-in (Showed s ∷ ts) at r e = let h = told-in ts at r e in (h.0, inr h.1, h.2)
 told-in (Answered m q ∷ ts) at r e = go (no_eq m.at at) refl e (λ z. told-in ts at r z)
   where
@@ -45,7 +45,7 @@ told-in (Answered m q ∷ ts) at r e = go (no_eq m.at at) refl e (λ z. told-in 
     go false b e' rec = let h = rec e' in (h.0, inr h.1, h.2)
 
 pub showed-done : (x : Status) (ts : List Told) → showed_after_activate x ts ≡ true → activate_done ts ≡ true
-showed-done x [] e = absurd (let g : ⊥ = cc e in g)
+showed-done x [] e = absurd (cc e)
 showed-done x (Answered m r ∷ ts) e = or-right (is_activate m.call && is_done r) (activate_done ts) (showed-done x ts e)
   where
     or-right : (a b : Bool) → b ≡ true → (a || b) ≡ true
@@ -55,38 +55,19 @@ showed-done x (Showed s ∷ ts) e = go (is_status s x) (activate_done ts) refl e
   where
     go : (a b : Bool) → activate_done ts ≡ b → ((a && b) || showed_after_activate x ts) ≡ true → (showed_after_activate x ts ≡ true → activate_done ts ≡ true) → activate_done ts ≡ true
     go true true q e' rec = q
-    go true false q e' rec = rec e'
-    go false b q e' rec = rec e'
+    go _ _ q e' rec = rec e'
 
 is-activated : (x : Status) → is_status x Activated ≡ true → x ≡ Activated
-is-activated Idle e = absurd (let g : ⊥ = cc e in g)
-is-activated Ready e = absurd (let g : ⊥ = cc e in g)
-is-activated Processing e = absurd (let g : ⊥ = cc e in g)
-is-activated Activating e = absurd (let g : ⊥ = cc e in g)
-is-activated Verifying e = absurd (let g : ⊥ = cc e in g)
 is-activated Activated e = refl
-is-activated RollingBack e = absurd (let g : ⊥ = cc e in g)
-is-activated RolledBack e = absurd (let g : ⊥ = cc e in g)
-is-activated CleaningUp e = absurd (let g : ⊥ = cc e in g)
+is-activated _ e = absurd (cc e)
 
 call-activate : (call : Call) → is_activate call ≡ true → call ≡ Activate
-call-activate Sync e = absurd (let g : ⊥ = cc e in g)
-call-activate (TransferStart size) e = absurd (let g : ⊥ = cc e in g)
-call-activate (TransferData id counter bytes) e = absurd (let g : ⊥ = cc e in g)
-call-activate (TransferExit id) e = absurd (let g : ⊥ = cc e in g)
-call-activate (DeleteTransfer id) e = absurd (let g : ⊥ = cc e in g)
-call-activate (ProcessSwPackage id tag) e = absurd (let g : ⊥ = cc e in g)
 call-activate Activate e = refl
-call-activate Finish e = absurd (let g : ⊥ = cc e in g)
-call-activate Rollback e = absurd (let g : ⊥ = cc e in g)
-call-activate Revert e = absurd (let g : ⊥ = cc e in g)
-call-activate (Cancel id) e = absurd (let g : ⊥ = cc e in g)
+call-activate _ e = absurd (cc e)
 
 reply-done : (r : Reply) → is_done r ≡ true → r ≡ Done
 reply-done Done e = refl
-reply-done (Started id) e = absurd (let g : ⊥ = cc e in g)
-reply-done (Synced x) e = absurd (let g : ⊥ = cc e in g)
-reply-done (Refused why) e = absurd (let g : ⊥ = cc e in g)
+reply-done _ e = absurd (cc e)
 
 -- the replies that are told lead to the same stage as the entries
 stage-push : (ps : List (List ℕ)) (stage : Stage) (rs : List Reply) (r : Reply) → stage_of ps stage (rs ++ r ∷ []) ≡ onward ps (stage_of ps stage rs) r
@@ -118,16 +99,7 @@ module _ (k : ℕ) (ps : List (List ℕ)) where
           (stage-push ps At_sync (replies_of k ts ms) e.reply ∙ ap (λ x. onward ps x e.reply) rec))
 
   at-activate : (stage : Stage) → call_at k stage ≡ Some Activate → stage ≡ At_activate
-  at-activate At_sync e = absurd (let g : ⊥ = cc e in g)
-  at-activate (At_start ids []) e = absurd (let g : ⊥ = cc e in g)
-  at-activate (At_start ids (p ∷ left)) e = absurd (let g : ⊥ = cc e in g)
-  at-activate (At_data ids id counter [] left) e = absurd (let g : ⊥ = cc e in g)
-  at-activate (At_data ids id counter (b ∷ bs) left) e = absurd (let g : ⊥ = cc e in g)
-  at-activate (At_process [] taken) e = absurd (let g : ⊥ = cc e in g)
-  at-activate (At_process (id ∷ ids) taken) e = absurd (let g : ⊥ = cc e in g)
-  at-activate At_activate e = refl
-  at-activate Over e = absurd (let g : ⊥ = cc e in g)
-  at-activate Refused_once e = absurd (let g : ⊥ = cc e in g)
+  at-activate stage e = grind arith
 
   -- over and refused stages have no call
   pub over-none : (stage : Stage) (call : Call) → stage ≡ Over → call_at k stage ≡ Some call → ⊥
@@ -170,9 +142,8 @@ module _ (N : NodeRules) (laws : NodeLaws N) where
   judged-cases s m P here there = go (no_lt m.at (N.last s)) (no_eq m.at (N.last s)) refl refl
     where
       go : (a b : Bool) → no_lt m.at (N.last s) ≡ a → no_eq m.at (N.last s) ≡ b → P (if a then s else (if b then s else N.keep (N.judge s m.call).0 m.at m.call (N.judge s m.call).1)) (judged (if a then Stale (N.last s) else (if b then Again (N.kept s) else Fresh (N.judge s m.call).1)))
-      go true b p q = here
-      go false true p q = here
       go false false p q = there (above-last m.at (N.last s) p q)
+      go _ _ p q = here
 
   module _ (epoch k : ℕ) (ps : List (List ℕ)) where
     -- a judged message is not executable
@@ -258,7 +229,7 @@ module _ (N : NodeRules) (laws : NodeLaws N) where
           over = h.over;
           activated = λ d.
               elim h.is_on [
-                | inl x ↦ absurd (let o = h.over (showed-done Activated told d) in let g : ⊥ = cc (o, x) in g)
+                | inl x ↦ absurd (let o = h.over (showed-done Activated told d) in cc (o, x))
                 | inr x ↦
                     (let a = subst (λ y. IsAt N s k ps y) (h.over (showed-done Activated told d)) x.0 in
                     (laws.foreign_session s call k a.mine).status ∙ h.activated d)
@@ -316,7 +287,7 @@ module _ (N : NodeRules) (laws : NodeLaws N) where
 
         and-left' : (x y : Bool) → (x && y) ≡ true → (x ≡ true) × (y ≡ true)
         and-left' true y z = (refl, z)
-        and-left' false y z = absurd (let g : ⊥ = cc z in g)
+        and-left' false y z = absurd (cc z)
 
         -- an entry with the last number has this reply
         reply-is : (e : ClientEntry) → InEntries e es → m.at ≡ e.message.at → e.reply ≡ r
@@ -345,7 +316,7 @@ module _ (N : NodeRules) (laws : NodeLaws N) where
             ]
           where
             campaign : m.campaign ≡ k
-            campaign = here (λ z. let g : ⊥ = cc (call, z) in g)
+            campaign = here (λ z. cc (call, z))
 
             found : (some : List Message) → AllDone k es some → InSent m some → stage_after ps es ≡ Over
             found some all i =
@@ -391,7 +362,7 @@ module _ (N : NodeRules) (laws : NodeLaws N) where
         ]
       where
         reply-of : (o : Option Reply) → is_some o ≡ true → (r : Reply) × (o ≡ Some r)
-        reply-of None e = absurd (let g : ⊥ = cc e in g)
+        reply-of None e = absurd (cc e)
         reply-of (Some r) e = (r, refl)
 
         done : (fs : List ClientEntry) (some : List Message) → ((e : ClientEntry) → InEntries e fs → (r : Reply) → told_reply told e.message.at ≡ Some r → r ≡ e.reply) → ((m : Message) (ms : List Message) → some ≡ m ∷ ms → m.campaign ≡ k → is_told told m.at ≡ true) → AllDone k fs some → OlderTold told fs → AllTold told fs
@@ -424,16 +395,8 @@ module _ (N : NodeRules) (laws : NodeLaws N) where
 
 -- of the entries of the rounds none is refused but possibly the newest
 onward-refused : (ps : List (List ℕ)) (stage : Stage) (why : Refusal) → onward ps stage (Refused why) ≡ Refused_once
-onward-refused ps At_sync why = refl
-onward-refused ps (At_start ids []) why = refl
-onward-refused ps (At_start ids (p ∷ left)) why = refl
-onward-refused ps (At_data ids id counter [] left) why = refl
 onward-refused ps (At_data ids id counter (b ∷ bs) left) why = refl
-onward-refused ps (At_process [] taken) why = refl
-onward-refused ps (At_process (id ∷ ids) taken) why = refl
-onward-refused ps At_activate why = refl
-onward-refused ps Over why = refl
-onward-refused ps Refused_once why = refl
+onward-refused ps _ why = refl
 
 refused-stage : (k : ℕ) (ps : List (List ℕ)) (es : List ClientEntry) (y : ClientEntry) (why : Refusal) → Follows k ps es → InEntries y es → y.reply ≡ Refused why → stage_after ps es ≡ Refused_once
 refused-stage k ps [] y why f h e = absurd h

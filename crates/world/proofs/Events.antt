@@ -53,7 +53,7 @@ told-later : (k epoch : ℕ) (t : Told) (ts : List Told) → SyncTold k epoch ts
 told-later k epoch t ts h = (h.0, h.1, inr h.2, h.3)
 
 pub shown-told : (k epoch : ℕ) (ts : List Told) → is_some (last_shown k epoch ts) ≡ true → SyncTold k epoch ts
-shown-told k epoch [] e = absurd (let f : ⊥ = cc e in f)
+shown-told k epoch [] e = absurd (cc e)
 shown-told k epoch (Showed s ∷ ts) e = told-later k epoch (Showed s) ts (shown-told k epoch ts e)
 shown-told k epoch (Answered m r ∷ ts) e = go (is_end_sync k epoch m) refl (λ q. shown-told k epoch ts q) e
   where
@@ -62,7 +62,7 @@ shown-told k epoch (Answered m r ∷ ts) e = go (is_end_sync k epoch m) refl (λ
     go false q rec e' = told-later k epoch (Answered m r) ts (rec e')
 
 pub status-told : (k epoch : ℕ) (ts : List Told) (x : Status) → last_status k epoch ts ≡ Some x → SyncTold k epoch ts
-status-told k epoch [] x e = absurd (let f : ⊥ = cc e in f)
+status-told k epoch [] x e = absurd (cc e)
 status-told k epoch (Showed s ∷ ts) x e = go (is_some (last_shown k epoch ts)) refl (λ q. status-told k epoch ts x q) e
   where
     go : (b : Bool) → is_some (last_shown k epoch ts) ≡ b → (last_status k epoch ts ≡ Some x → SyncTold k epoch ts) → or_else (status_if b s) (last_status k epoch ts) ≡ Some x → SyncTold k epoch (Showed s ∷ ts)
@@ -79,9 +79,7 @@ end-sync-decided k epoch m e = go (is_sync m.call) m.decided (nat_eq m.campaign 
   where
     go : (a b c : Bool) → m.decided ≡ b → nat_eq m.campaign k ≡ c → (a && (b && (c && nat_eq m.at.epoch epoch))) ≡ true → (m.decided ≡ true) × (m.campaign ≡ k)
     go true true true p q e' = (p, eqb-true m.campaign k q)
-    go true true false p q e' = absurd (let f : ⊥ = cc e' in f)
-    go true false c p q e' = absurd (let f : ⊥ = cc e' in f)
-    go false b c p q e' = absurd (let f : ⊥ = cc e' in f)
+    go _ _ _ p q e' = absurd (cc e')
 
 module _ (N : NodeRules) (laws : NodeLaws N) (f : Fold) (n : ℕ) where
   -- after an answer to a message of the decided campaign nothing from before the decision is executable
@@ -155,7 +153,7 @@ module _ (N : NodeRules) (laws : NodeLaws N) (f : Fold) (n : ℕ) where
       mine-back tag e = go (N.mine (state_of N x)) refl
         where
           go : (o : Option ℕ) → N.mine (state_of N x) ≡ o → N.mine (state_of N x) ≡ Some tag
-          go None q = absurd (let g : ⊥ = cc (laws.foreign_none (state_of N x) call q, e) in g)
+          go None q = absurd (cc (laws.foreign_none (state_of N x) call q, e))
           go (Some t) q = sym (laws.foreign_session (state_of N x) call t q).mine ∙ e
 
       steps : Steps x (Foreign call)
@@ -179,51 +177,40 @@ module _ (N : NodeRules) (laws : NodeLaws N) (f : Fold) (n : ℕ) where
       same x i w = ap N.mine (laws.unit_still s passed (ap is_working i ∙ w)) ∙ e
 
       at_status : (x : Status) → N.status s ≡ x → (N.mine (N.unit s passed) ≡ Some tag) ⊎ ((N.status s ≡ CleaningUp) × (N.mine (N.unit s passed) ≡ None))
-      at_status Idle i = inl (same Idle i refl)
-      at_status Ready i = inl (same Ready i refl)
       at_status Processing i = let id = laws.processing_id s tag e i in inl (laws.unit_processing s passed tag id.0 e i id.1).0
       at_status Activating i = inl (laws.unit_activating s passed tag e i).0
       at_status Verifying i = inl (laws.unit_verifying s passed tag e i).0
-      at_status Activated i = inl (same Activated i refl)
       at_status RollingBack i = inl (laws.unit_rolling s passed tag e i).0
-      at_status RolledBack i = inl (same RolledBack i refl)
       at_status CleaningUp i = inr (i, cleaned N laws s passed tag e i)
+      at_status x i = inl (same x i refl)
 
   pub unit-back : (s : N.State) (passed : Bool) (tag : ℕ) → N.mine (N.unit s passed) ≡ Some tag → N.mine s ≡ Some tag
   unit-back s passed tag e = go (N.mine s) refl
     where
       go : (o : Option ℕ) → N.mine s ≡ o → N.mine s ≡ Some tag
-      go None q = absurd (let g : ⊥ = cc ((laws.unit_none s passed q).0, e) in g)
+      go None q = absurd (cc ((laws.unit_none s passed q).0, e))
       go (Some t) q =
-          elim (unit-mine s passed t q) [ inl h ↦ q ∙ (sym h ∙ e) | inr h ↦ absurd (let g : ⊥ = cc (h.1, e) in g) ]
+          elim (unit-mine s passed t q) [ inl h ↦ q ∙ (sym h ∙ e) | inr h ↦ absurd (cc (h.1, e)) ]
 
   pub is-cleaning : (x : Status) → is_status x CleaningUp ≡ true → x ≡ CleaningUp
-  is-cleaning Idle e = absurd (let g : ⊥ = cc e in g)
-  is-cleaning Ready e = absurd (let g : ⊥ = cc e in g)
-  is-cleaning Processing e = absurd (let g : ⊥ = cc e in g)
-  is-cleaning Activating e = absurd (let g : ⊥ = cc e in g)
-  is-cleaning Verifying e = absurd (let g : ⊥ = cc e in g)
-  is-cleaning Activated e = absurd (let g : ⊥ = cc e in g)
-  is-cleaning RollingBack e = absurd (let g : ⊥ = cc e in g)
-  is-cleaning RolledBack e = absurd (let g : ⊥ = cc e in g)
   is-cleaning CleaningUp e = refl
+  is-cleaning _ e = absurd (cc e)
 
   -- a span under a unit
   still-open : (y : Spans N) (b : Bool) (z : List (Span N)) → (if (y.is_open && b) then record { is_open = false; ended = z } else y).is_open ≡ true → (y.is_open ≡ true) × (b ≡ false)
   still-open y b z e = go y.is_open b refl refl e
     where
       go : (o c : Bool) → y.is_open ≡ o → b ≡ c → (if (o && c) then record { is_open = false; ended = z } else y).is_open ≡ true → (y.is_open ≡ true) × (b ≡ false)
-      go true true p q e' = absurd (let g : ⊥ = cc e' in g)
+      go true true p q e' = absurd (cc e')
       go true false p q e' = (p, q)
-      go false c p q e' = absurd (let g : ⊥ = cc (p, e') in g)
+      go false c p q e' = absurd (cc (p, e'))
 
   pub span-ended : (y : Spans N) (b : Bool) (z : List (Span N)) → ((if (y.is_open && b) then record { is_open = false; ended = z } else y).ended ≡ y.ended) ⊎ ((y.is_open ≡ true) × (b ≡ true) × ((if (y.is_open && b) then record { is_open = false; ended = z } else y).ended ≡ z))
   span-ended y b z = go y.is_open b refl refl
     where
       go : (o c : Bool) → y.is_open ≡ o → b ≡ c → ((if (o && c) then record { is_open = false; ended = z } else y).ended ≡ y.ended) ⊎ ((y.is_open ≡ true) × (b ≡ true) × ((if (o && c) then record { is_open = false; ended = z } else y).ended ≡ z))
       go true true p q = inr (p, q, refl)
-      go true false p q = inl refl
-      go false c p q = inl refl
+      go _ _ p q = inl refl
 
   pub event-unit : (x : NodeWorld N) (passed : Bool) → KeptFold f → KeptOld N f n x → KeptOld N f n (record { moves = Unit_done passed ∷ x.moves; sent = x.sent; told = x.told })
   event-unit x passed fold kept = kept-step x (Unit_done passed) fold kept steps
@@ -242,7 +229,7 @@ module _ (N : NodeRules) (laws : NodeLaws N) (f : Fold) (n : ℕ) where
                 let mine = kept.open_span k h.0 in
                 elim (unit-mine (state_of N x) passed k mine) [
                   | inl q ↦ q
-                  | inr q ↦ absurd (let t : is_status (N.status (state_of N x)) CleaningUp ≡ true = rw q.0 refl in let g : ⊥ = cc (t, h.1) in g)
+                  | inr q ↦ absurd (let t : is_status (N.status (state_of N x)) CleaningUp ≡ true = rw q.0 refl in cc (t, h.1))
                 ];
             ended = λ k.
                 elim (span-ended (spans N k x.moves) (is_status (N.status (state_of N x)) CleaningUp) (record { outcome = N.outcome (state_of N x); before = state_of N x; left = N.unit (state_of N x) passed } ∷ (spans N k x.moves).ended)) [
@@ -267,24 +254,15 @@ module _ (N : NodeRules) (laws : NodeLaws N) (f : Fold) (n : ℕ) where
   -- a delivery
   pub done-is : (r : Reply) → is_done r ≡ true → r ≡ Done
   done-is Done e = refl
-  done-is (Started _) e = absurd (let g : ⊥ = cc e in g)
-  done-is (Synced _) e = absurd (let g : ⊥ = cc e in g)
-  done-is (Refused _) e = absurd (let g : ⊥ = cc e in g)
+  done-is _ e = absurd (cc e)
 
   pub is-idle : (x : Status) → is_status x Idle ≡ true → x ≡ Idle
   is-idle Idle e = refl
-  is-idle Ready e = absurd (let g : ⊥ = cc e in g)
-  is-idle Processing e = absurd (let g : ⊥ = cc e in g)
-  is-idle Activating e = absurd (let g : ⊥ = cc e in g)
-  is-idle Verifying e = absurd (let g : ⊥ = cc e in g)
-  is-idle Activated e = absurd (let g : ⊥ = cc e in g)
-  is-idle RollingBack e = absurd (let g : ⊥ = cc e in g)
-  is-idle RolledBack e = absurd (let g : ⊥ = cc e in g)
-  is-idle CleaningUp e = absurd (let g : ⊥ = cc e in g)
+  is-idle _ e = absurd (cc e)
 
   pub and-left : (a b : Bool) → (a && b) ≡ true → (a ≡ true) × (b ≡ true)
   and-left true b e = (refl, e)
-  and-left false b e = absurd (let g : ⊥ = cc e in g)
+  and-left false b e = absurd (cc e)
 
   idle-none : (s : N.State) → N.status s ≡ Idle → N.mine s ≡ None
   idle-none s i = go (N.mine s) refl
@@ -294,26 +272,16 @@ module _ (N : NodeRules) (laws : NodeLaws N) (f : Fold) (n : ℕ) where
       go (Some tag) e = absurd (laws.session_status s tag e i)
 
   pub begins-mine : (k : ℕ) (s : N.State) (at : CallNo) (call : Call) → (has_tag k call && (is_status (N.status s) Idle && is_fresh_done (reached N s at call))) ≡ true → N.mine (delivered N s at call) ≡ Some k
-  begins-mine k s at Sync e = absurd (let g : ⊥ = cc e in g)
-  begins-mine k s at (TransferStart size) e = absurd (let g : ⊥ = cc e in g)
-  begins-mine k s at (TransferData id counter bytes) e = absurd (let g : ⊥ = cc e in g)
-  begins-mine k s at (TransferExit id) e = absurd (let g : ⊥ = cc e in g)
-  begins-mine k s at (DeleteTransfer id) e = absurd (let g : ⊥ = cc e in g)
   begins-mine k s at (ProcessSwPackage id tag) e = go (no_lt at (N.last s)) (no_eq at (N.last s)) (and-left (is_status (N.status s) Idle) (is_fresh_done (reached N s at (ProcessSwPackage id tag))) (and-left (nat_eq tag k) (is_status (N.status s) Idle && is_fresh_done (reached N s at (ProcessSwPackage id tag))) e).1).1
     where
       go : (a b : Bool) → is_fresh_done (if a then Stale (N.last s) else (if b then Again (N.kept s) else Fresh (N.judge s (ProcessSwPackage id tag)).1)) ≡ true → N.mine (if a then s else (if b then s else N.keep (N.judge s (ProcessSwPackage id tag)).0 at (ProcessSwPackage id tag) (N.judge s (ProcessSwPackage id tag)).1)) ≡ Some k
-      go true b q = absurd (let g : ⊥ = cc q in g)
-      go false true q = absurd (let g : ⊥ = cc q in g)
       go false false q =
           let st : N.status s ≡ Idle = is-idle (N.status s) (and-left (is_status (N.status s) Idle) (is_fresh_done (reached N s at (ProcessSwPackage id tag))) (and-left (nat_eq tag k) (is_status (N.status s) Idle && is_fresh_done (reached N s at (ProcessSwPackage id tag))) e).1).0 in
           let tg : tag ≡ k = eqb-true tag k (and-left (nat_eq tag k) (is_status (N.status s) Idle && is_fresh_done (reached N s at (ProcessSwPackage id tag))) e).0 in
           let d = laws.process_idle s id tag (idle-none s st) (done-is (N.judge s (ProcessSwPackage id tag)).1 q) in
           (laws.keep_session (N.judge s (ProcessSwPackage id tag)).0 at (ProcessSwPackage id tag) (N.judge s (ProcessSwPackage id tag)).1).mine ∙ (d.1 ∙ ap Some tg)
-  begins-mine k s at Activate e = absurd (let g : ⊥ = cc e in g)
-  begins-mine k s at Finish e = absurd (let g : ⊥ = cc e in g)
-  begins-mine k s at Rollback e = absurd (let g : ⊥ = cc e in g)
-  begins-mine k s at Revert e = absurd (let g : ⊥ = cc e in g)
-  begins-mine k s at (Cancel id) e = absurd (let g : ⊥ = cc e in g)
+      go _ _ q = absurd (cc q)
+  begins-mine k s at _ e = absurd (cc e)
 
   pub or-true : (a b : Bool) → (a || b) ≡ true → (a ≡ true) ⊎ (b ≡ true)
   or-true true b e = inl refl
@@ -373,18 +341,9 @@ module _ (N : NodeRules) (laws : NodeLaws N) (f : Fold) (n : ℕ) where
           of_call (ProcessSwPackage id t) q none' e' =
               elim (laws.process_replies (state_of N x) id t) [
                 | inl d ↦ (id, t, refl, (let g : Some t ≡ Some tag = sym (laws.process_idle (state_of N x) id t none' d).1 ∙ e' in cc g))
-                | inr r ↦ absurd (let g : ⊥ = cc (ap N.mine (laws.refused (state_of N x) (ProcessSwPackage id t) r.0 r.1), none', e') in g)
+                | inr r ↦ absurd (cc (ap N.mine (laws.refused (state_of N x) (ProcessSwPackage id t) r.0 r.1), none', e'))
               ]
-          of_call Sync q none' e' = absurd (let g : ⊥ = cc (none-judge N laws (state_of N x) Sync (λ i t z. cc) none', e') in g)
-          of_call (TransferStart size) q none' e' = absurd (let g : ⊥ = cc (none-judge N laws (state_of N x) (TransferStart size) (λ i t z. cc) none', e') in g)
-          of_call (TransferData id counter bytes) q none' e' = absurd (let g : ⊥ = cc (none-judge N laws (state_of N x) (TransferData id counter bytes) (λ i t z. cc) none', e') in g)
-          of_call (TransferExit id) q none' e' = absurd (let g : ⊥ = cc (none-judge N laws (state_of N x) (TransferExit id) (λ i t z. cc) none', e') in g)
-          of_call (DeleteTransfer id) q none' e' = absurd (let g : ⊥ = cc (none-judge N laws (state_of N x) (DeleteTransfer id) (λ i t z. cc) none', e') in g)
-          of_call Activate q none' e' = absurd (let g : ⊥ = cc (none-judge N laws (state_of N x) Activate (λ i t z. cc) none', e') in g)
-          of_call Finish q none' e' = absurd (let g : ⊥ = cc (none-judge N laws (state_of N x) Finish (λ i t z. cc) none', e') in g)
-          of_call Rollback q none' e' = absurd (let g : ⊥ = cc (none-judge N laws (state_of N x) Rollback (λ i t z. cc) none', e') in g)
-          of_call Revert q none' e' = absurd (let g : ⊥ = cc (none-judge N laws (state_of N x) Revert (λ i t z. cc) none', e') in g)
-          of_call (Cancel id) q none' e' = absurd (let g : ⊥ = cc (none-judge N laws (state_of N x) (Cancel id) (λ i t z. cc) none', e') in g)
+          of_call y q none' e' = absurd (cc (none-judge N laws (state_of N x) y (λ i t z. cc) none', e'))
 
           at_mine : (o : Option ℕ) → N.mine (state_of N x) ≡ o → InPresent f n (λ c. tag ≡ c.campaign)
           at_mine (Some old) q =
@@ -453,10 +412,7 @@ module _ (N : NodeRules) (laws : NodeLaws N) (f : Fold) (n : ℕ) where
     where
       rolled : (c : Current) → f.current ≡ Some c → (b : Bool) (r' : Reply) → N.kept (state_of N x) ≡ r' → or_else (status_of_shown (shown_if b r')) (last_status c.campaign f.epoch x.told) ≡ Some RolledBack → IsRolledBack N (state_of N x)
       rolled c current true (Synced y) k e = kept.kept_holds.rolled y k (let e' : Some (session_status y.session) ≡ Some RolledBack = e in cc e')
-      rolled c current true Done k e = kept.told_rolled c current e
-      rolled c current true (Started id) k e = kept.told_rolled c current e
-      rolled c current true (Refused why) k e = kept.told_rolled c current e
-      rolled c current false r' k e = kept.told_rolled c current e
+      rolled c current _ _ k e = kept.told_rolled c current e
 
   -- a status that is told
   pub event-showed : (x : NodeWorld N) (s : Status) → N.status (state_of N x) ≡ s → KeptOld N f n x → KeptOld N f n (record { moves = x.moves; sent = x.sent; told = Showed s ∷ x.told })
@@ -470,9 +426,9 @@ module _ (N : NodeRules) (laws : NodeLaws N) (f : Fold) (n : ℕ) where
         ordered = kept.ordered;
         begun = kept.begun;
         present = kept.present;
-        told_sent = λ m r told. elim told [ inl e ↦ absurd (let e' : Answered m r ≡ Showed s = e in let g : ⊥ = cc e' in g) | inr h ↦ kept.told_sent m r h ];
+        told_sent = λ m r told. elim told [ inl e ↦ absurd (let e' : Answered m r ≡ Showed s = e in cc e') | inr h ↦ kept.told_sent m r h ];
         told_none = λ m y told d c current campaign free.
-            elim told [ inl e ↦ absurd (let e' : Answered m (Synced y) ≡ Showed s = e in let g : ⊥ = cc e' in g) | inr h ↦ kept.told_none m y h d c current campaign free ];
+            elim told [ inl e ↦ absurd (let e' : Answered m (Synced y) ≡ Showed s = e in cc e') | inr h ↦ kept.told_none m y h d c current campaign free ];
         told_rolled = λ c current e. rolled c current (is_some (last_shown c.campaign f.epoch x.told)) e;
         kept_holds = kept.kept_holds;
         finish = kept.finish;

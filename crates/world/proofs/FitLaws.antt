@@ -37,10 +37,9 @@ module _ (read : Reading) (clusters : List (Cluster Bytes)) (keeps : KeepsNode r
   state-is x c = go (judged_in read x.state c).1 refl
     where
       go : (r : Reply) → (judged_in read x.state c).1 ≡ r → (fit_after read clusters keeps x c r).state ≡ (judged_in read x.state c).0
-      go Done e = refl
-      go (Started id) e = refl
       go (Synced y) e = subst (λ d. x.state ≡ (judged_in read x.state d).0) (sym (basics.synced_only read clusters x.state c y e)) refl
       go (Refused why) e = sym (basics.refused read clusters x.state c why e)
+      go _ e = refl
 
   pub unit-is : (x : FitState read) (passed : Bool) → (fit_unit read clusters keeps x passed (is_working x.state.status)).state ≡ unit_in x.state passed
   unit-is x passed = go (is_working x.state.status) refl

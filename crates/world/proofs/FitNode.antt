@@ -31,10 +31,9 @@ pub record FitState (read : Reading) : Type 0 where
 
 -- a refusal and a Sync leave the state
 abbrev pub fit_after : (read : Reading) (clusters : List (Cluster Bytes)) → KeepsNode read clusters → FitState read → Call → Reply → FitState read
-fit_after read clusters keeps x c Done = record { state = (judged_in read x.state c).0; fit = keeps.judge x.state c x.fit }
-fit_after read clusters keeps x c (Started id) = record { state = (judged_in read x.state c).0; fit = keeps.judge x.state c x.fit }
 fit_after read clusters keeps x c (Synced y) = x
 fit_after read clusters keeps x c (Refused why) = x
+fit_after read clusters keeps x c _ = record { state = (judged_in read x.state c).0; fit = keeps.judge x.state c x.fit }
 
 -- a unit in no working status leaves the state
 abbrev pub fit_unit : (read : Reading) (clusters : List (Cluster Bytes)) → KeepsNode read clusters → FitState read → Bool → Bool → FitState read

@@ -35,9 +35,8 @@ pub foreign-cases : (read : Reading) (s : NodeState) (f : ForeignCall) (P : Node
 foreign-cases read s f P here there = go (of_client s.last (suc f.other))
   where
     by : (k : Kept) (o : Ordering) → P (by_order s (executed s (suc f.other) f.at f.call (verdict_for read s (suc f.other) f.call)) k o).0
-    by k Less = here
-    by k Equal = here
     by k Greater = there
+    by k _ = here
 
     go : (o : Option Kept) → P (by_last s (executed s (suc f.other) f.at f.call (verdict_for read s (suc f.other) f.call)) f.at o).0
     go None = there
@@ -59,30 +58,22 @@ led-keeps g status clean c s = go (status_table s.status c)
 
 -- what no call touches
 accepted-last : (s : NodeState) (client : ℕ) (c : Call) (v : Verdict) → (accepted s client c v).last ≡ s.last
-accepted-last s client call.Sync v = refl
-accepted-last s client (call.TransferStart size) v = refl
-accepted-last s client (call.TransferData id counter bytes) v = refl
-accepted-last s client (call.TransferExit id) v = refl
-accepted-last s client (call.DeleteTransfer id) v = refl
 accepted-last s client (call.ProcessSwPackage id tag) v = led-keeps (λ t. t.last) (λ t st. refl) (λ t o. refl) (call.ProcessSwPackage id tag) (begin_processing s client id tag)
 accepted-last s client call.Activate v = led-keeps (λ t. t.last) (λ t st. refl) (λ t o. refl) call.Activate s
 accepted-last s client call.Finish v = led-keeps (λ t. t.last) (λ t st. refl) (λ t o. refl) call.Finish s
 accepted-last s client call.Rollback v = led-keeps (λ t. t.last) (λ t st. refl) (λ t o. refl) call.Rollback s
 accepted-last s client call.RevertProcessedSwPackages v = led-keeps (λ t. t.last) (λ t st. refl) (λ t o. refl) call.RevertProcessedSwPackages s
 accepted-last s client (call.Cancel id) v = led-keeps (λ t. t.last) (λ t st. refl) (λ t o. refl) (call.Cancel id) (stop_processing s id)
+accepted-last s client _ v = refl
 
 accepted-ended : (s : NodeState) (client : ℕ) (c : Call) (v : Verdict) → (accepted s client c v).ended ≡ s.ended
-accepted-ended s client call.Sync v = refl
-accepted-ended s client (call.TransferStart size) v = refl
-accepted-ended s client (call.TransferData id counter bytes) v = refl
-accepted-ended s client (call.TransferExit id) v = refl
-accepted-ended s client (call.DeleteTransfer id) v = refl
 accepted-ended s client (call.ProcessSwPackage id tag) v = led-keeps (λ t. t.ended) (λ t st. refl) (λ t o. refl) (call.ProcessSwPackage id tag) (begin_processing s client id tag)
 accepted-ended s client call.Activate v = led-keeps (λ t. t.ended) (λ t st. refl) (λ t o. refl) call.Activate s
 accepted-ended s client call.Finish v = led-keeps (λ t. t.ended) (λ t st. refl) (λ t o. refl) call.Finish s
 accepted-ended s client call.Rollback v = led-keeps (λ t. t.ended) (λ t st. refl) (λ t o. refl) call.Rollback s
 accepted-ended s client call.RevertProcessedSwPackages v = led-keeps (λ t. t.ended) (λ t st. refl) (λ t o. refl) call.RevertProcessedSwPackages s
 accepted-ended s client (call.Cancel id) v = led-keeps (λ t. t.ended) (λ t st. refl) (λ t o. refl) (call.Cancel id) (stop_processing s id)
+accepted-ended s client _ v = refl
 
 -- client 0's last number and end stay
 pub foreign_last : (read : Reading) (s : NodeState) (f : ForeignCall) → (last_in (foreign_in read s f) ≡ last_in s) × (kept_in (foreign_in read s f) ≡ kept_in s) × (ended_in (foreign_in read s f) ≡ ended_in s)
@@ -91,7 +82,7 @@ foreign_last read s f =
     (let l = judged-by s (suc f.other) f.call (verdict_for read s (suc f.other) f.call) (λ t. t.last ≡ s.last) refl (accepted-last s (suc f.other) f.call (verdict_for read s (suc f.other) f.call)) in
     let e = judged-by s (suc f.other) f.call (verdict_for read s (suc f.other) f.call) (λ t. t.ended ≡ s.ended) refl (accepted-ended s (suc f.other) f.call (verdict_for read s (suc f.other) f.call)) in
     let kept : Kept = record { no = f.at; reply = reply_to s (suc f.other) f.call (verdict_for read s (suc f.other) f.call) } in
-    let other : (l' : List (Option Kept)) → of_client (slice_set l' (suc f.other) (Some kept)) 0 ≡ of_client l' 0 = λ l'. get_or-set_other l' (suc f.other) 0 (Some kept) None (λ q. let z : ⊥ = omega (arith, q) in z) in (
+    let other : (l' : List (Option Kept)) → of_client (slice_set l' (suc f.other) (Some kept)) 0 ≡ of_client l' 0 = λ l'. get_or-set_other l' (suc f.other) 0 (Some kept) None (λ q. omega (arith, q)) in (
       ap (λ o. option_map_or (λ (k : Kept). k.no) o zero_no) (other (judge s (suc f.other) f.call (verdict_for read s (suc f.other) f.call)).0.last ∙ ap (λ l'. of_client l' 0) l),
       ap (λ o. option_map_or (λ (k : Kept). k.reply) o NodeDone) (other (judge s (suc f.other) f.call (verdict_for read s (suc f.other) f.call)).0.last ∙ ap (λ l'. of_client l' 0) l),
       ap (λ l'. of_client l' 0) e,
@@ -116,16 +107,13 @@ same s = record { session = refl; status = refl }
 
 foreign-keeps : (s : NodeState) (x : Session) (client : ℕ) (c : Call) (v : Verdict) → s.session ≡ Some x → (x.owner == client) ≡ false → SameSession s (judge s client c v).0
 foreign-keeps s x client call.Sync v e n = same s
-foreign-keeps s x client (call.TransferStart size) v e n = judged-by s client (call.TransferStart size) v (λ t. SameSession s t) (same s) (record { session = refl; status = refl })
-foreign-keeps s x client (call.TransferData id counter bytes) v e n = judged-by s client (call.TransferData id counter bytes) v (λ t. SameSession s t) (same s) (record { session = refl; status = refl })
-foreign-keeps s x client (call.TransferExit id) v e n = judged-by s client (call.TransferExit id) v (λ t. SameSession s t) (same s) (record { session = refl; status = refl })
-foreign-keeps s x client (call.DeleteTransfer id) v e n = judged-by s client (call.DeleteTransfer id) v (λ t. SameSession s t) (same s) (record { session = refl; status = refl })
 foreign-keeps s x client (call.ProcessSwPackage id tag) v e n = subst (λ t. SameSession s t) (sym (busy-same s client (call.ProcessSwPackage id tag) v (ap (λ o. option_or o (process_refusal s client tag (transfer_of s client id))) (busy s x client (call.ProcessSwPackage id tag) e n)))) (same s)
 foreign-keeps s x client call.Activate v e n = subst (λ t. SameSession s t) (sym (busy-same s client call.Activate v (ap (λ o. option_or o (activate_refusal s)) (busy s x client call.Activate e n)))) (same s)
 foreign-keeps s x client call.Finish v e n = subst (λ t. SameSession s t) (sym (busy-same s client call.Finish v (busy s x client call.Finish e n))) (same s)
 foreign-keeps s x client call.Rollback v e n = subst (λ t. SameSession s t) (sym (busy-same s client call.Rollback v (busy s x client call.Rollback e n))) (same s)
 foreign-keeps s x client call.RevertProcessedSwPackages v e n = subst (λ t. SameSession s t) (sym (busy-same s client call.RevertProcessedSwPackages v (busy s x client call.RevertProcessedSwPackages e n))) (same s)
 foreign-keeps s x client (call.Cancel id) v e n = subst (λ t. SameSession s t) (sym (busy-same s client (call.Cancel id) v (ap (λ o. option_or o (first_refusal (cancel_refusals (header_of (transfer_of s client id))))) (busy s x client (call.Cancel id) e n)))) (same s)
+foreign-keeps s x client y v e n = judged-by s client y v (λ t. SameSession s t) (same s) (record { session = refl; status = refl })
 
 pub foreign_session : (read : Reading) (clusters : List (Cluster Bytes)) (s : NodeState) (f : ForeignCall) (tag : ℕ) → mine_in s ≡ Some tag → KeepsSession (real read clusters) s (foreign_in read s f)
 foreign_session read clusters s f tag mine =
@@ -150,11 +138,6 @@ led-mine : (c : Call) (s : NodeState) → mine_in (led_by c s) ≡ mine_in s
 led-mine c s = led-keeps mine_in (λ t st. refl) (λ t o. mine-changed (λ x. record x { outcome = Some o }) (λ x. refl) (λ x. refl) t.session) c s
 
 accepted-none : (s : NodeState) (other : ℕ) (c : Call) (v : Verdict) → mine_in s ≡ None → mine_in (accepted s (suc other) c v) ≡ None
-accepted-none s other call.Sync v e = e
-accepted-none s other (call.TransferStart size) v e = e
-accepted-none s other (call.TransferData id counter bytes) v e = e
-accepted-none s other (call.TransferExit id) v e = e
-accepted-none s other (call.DeleteTransfer id) v e = e
 accepted-none s other (call.ProcessSwPackage id tag) v e = led-mine (call.ProcessSwPackage id tag) (begin_processing s (suc other) id tag) ∙ go s.session e
   where
     zero-not : (suc other == 0) ≡ false
@@ -168,6 +151,7 @@ accepted-none s other call.Finish v e = led-mine call.Finish s ∙ e
 accepted-none s other call.Rollback v e = led-mine call.Rollback s ∙ e
 accepted-none s other call.RevertProcessedSwPackages v e = led-mine call.RevertProcessedSwPackages s ∙ e
 accepted-none s other (call.Cancel id) v e = led-mine (call.Cancel id) (stop_processing s id) ∙ (mine-changed (λ x. record x { processing = None }) (λ x. refl) (λ x. refl) s.session ∙ e)
+accepted-none s other _ v e = e
 
 pub foreign_none : (read : Reading) (s : NodeState) (f : ForeignCall) → mine_in s ≡ None → mine_in (foreign_in read s f) ≡ None
 foreign_none read s f e =

@@ -110,10 +110,10 @@ module _ (N : NodeRules) (laws : NodeLaws N) (packages : Packages) (numbers : Li
       not_yet : (c : Current) → Some (begun k named) ≡ Some c → c.decision ≡ Some Commit → ⊥
       not_yet c current commit =
           let q : (begun k named).decision ≡ Some Commit = ap (λ y. y.decision) (some-inj (begun k named) c current) ∙ commit in
-          let z : ⊥ = cc q in z
+          cc q
 
   decide : (w : World N) (d : Decision) (o : Option Current) → w.fold.current ≡ o → in_current o (Decide d) ≡ None → ((c : Current) → o ≡ Some c → d ≡ Commit → (n : ℕ) → IsReadyToCommit N laws packages n c (w.node n)) → WorldNew w → Parts (record { fold = record { epoch = w.fold.epoch; earlier = w.fold.earlier; current = changed_in o (Decide d) }; node = w.node })
-  decide w d None e h ready new = absurd (let g : ⊥ = cc h in g)
+  decide w d None e h ready new = absurd (cc h)
   decide w d (Some c) e h ready new =
       record {
         names = λ c' current n low high steps.
@@ -125,8 +125,8 @@ module _ (N : NodeRules) (laws : NodeLaws N) (packages : Packages) (numbers : Li
   ended : (w : World N) (nd : NodeId) (o : Outcome) (p : Option Current) → w.fold.current ≡ p → WorldNew w → Parts (record { fold = record { epoch = w.fold.epoch; earlier = w.fold.earlier; current = changed_in p (EndedAt nd o) }; node = w.node })
   ended w nd o None e new =
       record {
-        names = λ c current. absurd (let g : ⊥ = cc current in g);
-        each = λ n. record { calm = λ c current. absurd (let g : ⊥ = cc current in g); committed = λ c current. absurd (let g : ⊥ = cc current in g); entered = (new.each n).entered };
+        names = λ c current. absurd (cc current);
+        each = λ n. record { calm = λ c current. absurd (cc current); committed = λ c current. absurd (cc current); entered = (new.each n).entered };
       }
   ended w nd o (Some c) e new =
       record {
@@ -144,10 +144,10 @@ module _ (N : NodeRules) (laws : NodeLaws N) (packages : Packages) (numbers : Li
       }
 
   enter : (w : World N) (r : CampaignResult) (p : Option Current) → w.fold.current ≡ p → in_current p (Enter r) ≡ None → WorldNew w → Parts (record { fold = record { epoch = w.fold.epoch; earlier = entered w.fold.earlier p r; current = None }; node = w.node })
-  enter w r None e h new = absurd (let g : ⊥ = cc h in g)
+  enter w r None e h new = absurd (cc h)
   enter w r (Some c) e h new =
       record {
-        names = λ c' current. absurd (let g : ⊥ = cc current in g);
+        names = λ c' current. absurd (cc current);
         each = λ n.
             let m = and-both (all_ended c) (is_result_of c.decision r) (unless-true (meets c (Enter r)) h) in
             committed-enter N laws packages n w.fold (w.node n) c r e (new.names c e n) m.0 m.1 (new.kept.each n) (new.each n);
@@ -162,14 +162,13 @@ module _ (N : NodeRules) (laws : NodeLaws N) (packages : Packages) (numbers : Li
     where
       none-of : (p : Option Current) → is_none p ≡ true → p ≡ None
       none-of None q = refl
-      none-of (Some x) q = absurd (let g : ⊥ = cc q in g)
-  of-record early w (PhaseTo p) h evidence new ready = plain w (PhaseTo p) (λ n c. same-refl n c (changed c (PhaseTo p)) refl refl refl refl) new
+      none-of (Some x) q = absurd (cc q)
   of-record early w (VoteOf n v) h evidence new ready = plain w (VoteOf n v) (λ k c. same-refl k c (changed c (VoteOf n v)) refl refl refl refl) new
-  of-record early w CancelAsked h evidence new ready = plain w CancelAsked (λ n c. same-refl n c (changed c CancelAsked) refl refl refl refl) new
   of-record early w (Decide d) h evidence new ready =
       decide w d w.fold.current refl h (λ c e q n. ready c e (subst (λ y. refusal_of w.fold (Decide y) ≡ None) q h) n) new
   of-record early w (EndedAt n o) h evidence new ready = ended w n o w.fold.current refl new
   of-record early w (Enter r) h evidence new ready = enter w r w.fold.current refl h new
+  of-record early w x h evidence new ready = plain w x (λ n c. same-refl n c (changed c x) refl refl refl refl) new
 
   of-event : (early : Early) (w : World N) (e : Event N) → Allowed N packages numbers w e → WorldNew w → early.Holds w → Parts (happens N w e)
   of-event early w (Deliver n which told) allowed new holds =
@@ -201,8 +200,8 @@ module _ (N : NodeRules) (laws : NodeLaws N) (packages : Packages) (numbers : Li
   new-opened openings =
       record {
         kept = kept-opened N laws packages numbers openings;
-        names = λ c current. absurd (let g : ⊥ = cc current in g);
-        each = λ n. record { calm = λ c current. absurd (let g : ⊥ = cc current in g); committed = λ c current. absurd (let g : ⊥ = cc current in g); entered = λ k h. absurd h };
+        names = λ c current. absurd (cc current);
+        each = λ n. record { calm = λ c current. absurd (cc current); committed = λ c current. absurd (cc current); entered = λ k h. absurd h };
       }
 
   -- with Enter Successful every named node is new, over every list of events

@@ -29,10 +29,10 @@ module _ (N : NodeRules) (laws : NodeLaws N) where
       k.outcome ∙ old tag at_s status_s
 
   pub rolled-none : (s : N.State) → N.mine s ≡ None → IsRolledBack N s
-  rolled-none s none tag mine = absurd (let f : ⊥ = cc (none, mine) in f)
+  rolled-none s none tag mine = absurd (cc (none, mine))
 
   pub ends_old-none : (s : N.State) → N.mine s ≡ None → EndsOld N s
-  ends_old-none s none tag mine status = absurd (let f : ⊥ = cc (none, mine) in f)
+  ends_old-none s none tag mine status = absurd (cc (none, mine))
 
   -- a foreign call
   pub rolled-foreign : (s : N.State) (call : N.ForeignCall) → IsRolledBack N s → IsRolledBack N (N.foreign s call)
@@ -77,8 +77,6 @@ module _ (N : NodeRules) (laws : NodeLaws N) where
       other to no_clean e tag mine status = absurd (no_clean (sym e ∙ status))
 
       at_status : (tag : ℕ) → N.mine s ≡ Some tag → (x : Status) → N.status s ≡ x → EndsOld N (N.unit s passed)
-      at_status tag e Idle i = rw (still s passed Idle i refl) old
-      at_status tag e Ready i = rw (still s passed Ready i refl) old
       at_status tag e Processing i =
           let p = laws.unit_processing s passed tag (laws.processing_id s tag e i).0 e i (laws.processing_id s tag e i).1 in
           elim p.2 [ inl h ↦ other Processing (λ q. cc) h.0 | inr h ↦ other Ready (λ q. cc) h.0 ]
@@ -88,10 +86,9 @@ module _ (N : NodeRules) (laws : NodeLaws N) where
             | inl h ↦ other Verifying (λ q. cc) h
             | inr h ↦ elim h [ inl a ↦ other Activated (λ q. cc) a | inr b ↦ other RollingBack (λ q. cc) b ]
           ]
-      at_status tag e Activated i = rw (still s passed Activated i refl) old
       at_status tag e RollingBack i = other RolledBack (λ q. cc) (laws.unit_rolling s passed tag e i).1
-      at_status tag e RolledBack i = rw (still s passed RolledBack i refl) old
       at_status tag e CleaningUp i = ends_old-none (N.unit s passed) (cleaned s passed tag e i)
+      at_status tag e x i = rw (still s passed x i refl) old
 
       go : (o : Option ℕ) → N.mine s ≡ o → EndsOld N (N.unit s passed)
       go None e = ends_old-none (N.unit s passed) (laws.unit_none s passed e).0
@@ -116,14 +113,14 @@ module _ (N : NodeRules) (laws : NodeLaws N) where
   none-judge s (DeleteTransfer id) not e = (laws.delete_session s id).mine ∙ e
   none-judge s (ProcessSwPackage id tag) not e = absurd (not id tag refl)
   none-judge s Activate not e =
-      refused-or s Activate (λ t. N.mine t ≡ None) e (laws.six_replies s Activate (inl refl)) (λ d. absurd (let f : ⊥ = cc ((laws.activate_mine s d).1, e) in f))
+      refused-or s Activate (λ t. N.mine t ≡ None) e (laws.six_replies s Activate (inl refl)) (λ d. absurd (cc ((laws.activate_mine s d).1, e)))
   none-judge s Finish not e =
-      refused-or s Finish (λ t. N.mine t ≡ None) e (laws.six_replies s Finish (inr (inl refl))) (λ d. absurd (let f : ⊥ = cc ((laws.finish_mine s d).1, e) in f))
+      refused-or s Finish (λ t. N.mine t ≡ None) e (laws.six_replies s Finish (inr (inl refl))) (λ d. absurd (cc ((laws.finish_mine s d).1, e)))
   none-judge s Rollback not e =
-      refused-or s Rollback (λ t. N.mine t ≡ None) e (laws.six_replies s Rollback (inr (inr (inl refl)))) (λ d. absurd (let f : ⊥ = cc ((laws.rollback_mine s d).1, e) in f))
+      refused-or s Rollback (λ t. N.mine t ≡ None) e (laws.six_replies s Rollback (inr (inr (inl refl)))) (λ d. absurd (cc ((laws.rollback_mine s d).1, e)))
   none-judge s Revert not e =
-      refused-or s Revert (λ t. N.mine t ≡ None) e (laws.six_replies s Revert (inr (inr (inr refl)))) (λ d. absurd (let f : ⊥ = cc ((laws.revert_mine s d).1, e) in f))
-  none-judge s (Cancel id) not e = cancelled s id (λ t. N.mine t ≡ None) e (λ tag m st n o. absurd (let f : ⊥ = cc (m, e) in f))
+      refused-or s Revert (λ t. N.mine t ≡ None) e (laws.six_replies s Revert (inr (inr (inr refl)))) (λ d. absurd (cc ((laws.revert_mine s d).1, e)))
+  none-judge s (Cancel id) not e = cancelled s id (λ t. N.mine t ≡ None) e (λ tag m st n o. absurd (cc (m, e)))
 
   -- no call takes client 0's session away or changes its tag
   pub some-judge : (s : N.State) (call : Call) (tag : ℕ) → N.mine s ≡ Some tag → N.mine (N.judge s call).0 ≡ Some tag
@@ -157,26 +154,26 @@ module _ (N : NodeRules) (laws : NodeLaws N) where
   rolled-judge s Activate not r =
       refused-or s Activate (λ t. IsRolledBack N t) r (laws.six_replies s Activate (inl refl)) (λ d.
       let m = laws.activate_mine s d in
-      absurd (elim (r m.0 m.1) [ inl a ↦ (let f : ⊥ = cc (a, m.2) in f) | inr b ↦ (let f : ⊥ = cc (b, m.2) in f) ]))
+      absurd (elim (r m.0 m.1) [ inl a ↦ (cc (a, m.2)) | inr b ↦ (cc (b, m.2)) ]))
   rolled-judge s Finish not r =
       refused-or s Finish (λ t. IsRolledBack N t) r (laws.six_replies s Finish (inr (inl refl))) (λ d tag mine.
       let m = laws.finish_mine s d in
       elim m.2 [
-        | inl a ↦ absurd (elim (r m.0 m.1) [ inl x ↦ (let f : ⊥ = cc (a, x) in f) | inr y ↦ (let f : ⊥ = cc (a, y) in f) ])
+        | inl a ↦ absurd (elim (r m.0 m.1) [ inl x ↦ (cc (a, x)) | inr y ↦ (cc (a, y)) ])
         | inr b ↦ inr (laws.finish_old.only s m.0 m.1 d b).1
       ])
   rolled-judge s Rollback not r =
       refused-or s Rollback (λ t. IsRolledBack N t) r (laws.six_replies s Rollback (inr (inr (inl refl)))) (λ d.
       let m = laws.rollback_mine s d in
       absurd (elim (r m.0 m.1) [
-        | inl x ↦ elim m.2 [ inl a ↦ (let f : ⊥ = cc (a, x) in f) | inr b ↦ (let f : ⊥ = cc (b, x) in f) ]
-        | inr y ↦ elim m.2 [ inl a ↦ (let f : ⊥ = cc (a, y) in f) | inr b ↦ (let f : ⊥ = cc (b, y) in f) ]
+        | inl x ↦ elim m.2 [ inl a ↦ (cc (a, x)) | inr b ↦ (cc (b, x)) ]
+        | inr y ↦ elim m.2 [ inl a ↦ (cc (a, y)) | inr b ↦ (cc (b, y)) ]
       ]))
   rolled-judge s Revert not r =
       refused-or s Revert (λ t. IsRolledBack N t) r (laws.six_replies s Revert (inr (inr (inr refl)))) (λ d.
       let m = laws.revert_mine s d in
-      absurd (elim (r m.0 m.1) [ inl a ↦ (let f : ⊥ = cc (a, m.2) in f) | inr b ↦ (let f : ⊥ = cc (b, m.2) in f) ]))
-  rolled-judge s (Cancel id) not r = cancelled s id (λ t. IsRolledBack N t) r (λ tag m st n o. absurd (elim (r tag m) [ inl a ↦ (let f : ⊥ = cc (a, st) in f) | inr b ↦ (let f : ⊥ = cc (b, st) in f) ]))
+      absurd (elim (r m.0 m.1) [ inl a ↦ (cc (a, m.2)) | inr b ↦ (cc (b, m.2)) ]))
+  rolled-judge s (Cancel id) not r = cancelled s id (λ t. IsRolledBack N t) r (λ tag m st n o. absurd (elim (r tag m) [ inl a ↦ (cc (a, st)) | inr b ↦ (cc (b, st)) ]))
 
   -- a session ends as New only by a Finish that doesn't meet RolledBack
   pub ends_old-to : (t : N.State) (to : Status) → to ≢ CleaningUp → N.status t ≡ to → EndsOld N t
@@ -201,7 +198,7 @@ module _ (N : NodeRules) (laws : NodeLaws N) where
       refused-or s Finish (λ t. EndsOld N t) o (laws.six_replies s Finish (inr (inl refl))) (λ d tag mine status.
       let m = laws.finish_mine s d in
       elim m.2 [
-        | inl a ↦ absurd (elim (fin refl m.0 m.1) [ inl x ↦ (let f : ⊥ = cc (a, x) in f) | inr y ↦ (let f : ⊥ = cc (a, y) in f) ])
+        | inl a ↦ absurd (elim (fin refl m.0 m.1) [ inl x ↦ (cc (a, x)) | inr y ↦ (cc (a, y)) ])
         | inr b ↦ (laws.finish_old.only s m.0 m.1 d b).3
       ])
   ends_old-judge s Rollback fin o =
@@ -221,9 +218,8 @@ module _ (N : NodeRules) (laws : NodeLaws N) where
   delivered-cases s at call P here there = go (no_lt at (N.last s)) (no_eq at (N.last s)) there
     where
       go : (a b : Bool) → (a ≡ false → b ≡ false → P (N.keep (N.judge s call).0 at call (N.judge s call).1)) → P (if a then s else (if b then s else N.keep (N.judge s call).0 at call (N.judge s call).1))
-      go true b f = here
-      go false true f = here
       go false false f = f refl refl
+      go _ _ f = here
 
   pub rolled-delivered : (s : N.State) (at : CallNo) (call : Call) → ((id tag : ℕ) → call ≢ ProcessSwPackage id tag) → IsRolledBack N s → IsRolledBack N (delivered N s at call)
   rolled-delivered s at call not r =
@@ -251,10 +247,10 @@ module _ (N : NodeRules) (laws : NodeLaws N) where
 
   pub shown-none : (owner : ℕ) (status : Status) (mine : Option ℕ) → is_masters (shown_of owner status mine) ≡ false → mine ≡ None
   shown-none owner status None f = refl
-  shown-none owner status (Some tag) f = absurd (let g : ⊥ = cc f in g)
+  shown-none owner status (Some tag) f = absurd (cc f)
 
   pub shown-status : (owner tag : ℕ) (status : Status) (mine : Option ℕ) → mine ≡ Some tag → session_status (shown_of owner status mine) ≡ status
-  shown-status owner tag status None e = absurd (let g : ⊥ = cc e in g)
+  shown-status owner tag status None e = absurd (cc e)
   shown-status owner tag status (Some t) e = refl
 
   -- what a kept Sync says: of a call just judged, after a foreign call and after a unit

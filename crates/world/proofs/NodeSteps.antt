@@ -38,9 +38,8 @@ module _ (read : Reading) (o : NodeState) (es : List Entry) where
       done = executed now client at c (verdict_for read now client c)
 
       order : (kept : Kept) (x : Ordering) → state_after read o (entered es client at c (by_order now done kept x).1) ≡ (by_order now done kept x).0
-      order kept Less = refl
-      order kept Equal = refl
       order kept Greater = after-append read o es _
+      order kept _ = refl
 
       by : (x : Option Kept) → state_after read o (entered es client at c (by_last now done at x).1) ≡ (by_last now done at x).0
       by None = after-append read o es _
@@ -51,9 +50,8 @@ module _ (read : Reading) (o : NodeState) (es : List Entry) where
   or-false false = refl
 
   and-false : (a b : Bool) → (a && (b && false)) ≡ false
-  and-false true true = refl
   and-false true false = refl
-  and-false false b = refl
+  and-false _ _ = refl
 
   abbrev same : Spans → Bool → Spans
   same x b = record { is_open = x.is_open || b; ended = x.ended }
@@ -64,16 +62,14 @@ module _ (read : Reading) (o : NodeState) (es : List Entry) where
   -- the spans after a call of client 0
   pub entered-spans : (k : ℕ) (at : CallNo) (c : Call) (r : Reached) → spans read k o (entered es 0 at c r) ≡ same (spans read k o es) (has_tag k c && (is_status now.status Idle && is_fresh_done r))
   entered-spans k at c (Executed reply) = spans-append read k o es _ _
-  entered-spans k at c (Again reply) = sym (ap (same (spans read k o es)) (and-false (has_tag k c) (is_status now.status Idle)) ∙ unchanged (spans read k o es))
-  entered-spans k at c (Stale last) = sym (ap (same (spans read k o es)) (and-false (has_tag k c) (is_status now.status Idle)) ∙ unchanged (spans read k o es))
+  entered-spans k at c _ = sym (ap (same (spans read k o es)) (and-false (has_tag k c) (is_status now.status Idle)) ∙ unchanged (spans read k o es))
 
   -- another client's calls begin and end none
   pub foreign-spans : (k other : ℕ) (at : CallNo) (c : Call) (r : Reached) → spans read k o (entered es (suc other) at c r) ≡ spans read k o es
   foreign-spans k other at c (Executed reply) =
       let none : nat_eq (suc other) 0 ≡ false = grind (arith, nat_tests) in
       spans-append read k o es _ _ ∙ (ap (λ b. same (spans read k o es) (b && (has_tag k c && (is_status now.status Idle && is_done reply)))) none ∙ unchanged (spans read k o es))
-  foreign-spans k other at c (Again reply) = refl
-  foreign-spans k other at c (Stale last) = refl
+  foreign-spans k other at c _ = refl
 
   abbrev entry : NodeState → NodeState
   entry t = with_entry (UnitLine t.status) t
@@ -98,24 +94,14 @@ module _ (read : Reading) (o : NodeState) (es : List Entry) where
   cleans passed v e = go now.status refl
     where
       go : (st : Status) → now.status ≡ st → is_status st CleaningUp ≡ false
-      go Idle q = refl
-      go Ready q = refl
-      go Processing q = refl
-      go Activating q = refl
-      go Verifying q = refl
-      go Activated q = refl
-      go RollingBack q = refl
-      go RolledBack q = refl
       go CleaningUp q =
-          let x = session-there now v (λ i. let f : ⊥ = cc (q, i) in f) in
+          let x = session-there now v (λ i. cc (q, i)) in
           let some : unit now passed ≡ Some (clean_up_unit now x.0) = ap (λ y. option_and_then (λ z. unit_of now z passed now.status) y) x.1 ∙ ap (unit_of now x.0 passed) q in
-          absurd (let f : ⊥ = cc (some, e) in f)
+          absurd (cc (some, e))
+      go _ q = refl
 
   joined : (b c : Bool) (a x y : Spans) → x ≡ y → (if c && b then a else x) ≡ (if b && c then a else y)
-  joined true true a x y e = refl
-  joined true false a x y e = e
-  joined false true a x y e = e
-  joined false false a x y e = e
+  joined b c a x y e = grind arith
 
   and-no : (b : Bool) → (b && false) ≡ false
   and-no true = refl

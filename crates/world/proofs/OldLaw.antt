@@ -35,13 +35,13 @@ use Rattle.world.proofs.Sends.{event-send}
 use Rattle.world.proofs.Records.{SameAt, SameFold, some-inj, and-both, below-in, forget, event-same, event-begin, event-decide, event-ended, event-enter}
 
 pub nth-in : (ms : List Message) (k : ℕ) (m : Message) → nth_sent ms k ≡ Some m → InSent m ms
-nth-in [] k m e = absurd (let g : ⊥ = cc e in g)
+nth-in [] k m e = absurd (cc e)
 nth-in (x ∷ xs) zero m e = let q : x ≡ m = cc e in inl (sym q)
 nth-in (x ∷ xs) (suc k) m e = inr (nth-in xs k m e)
 
 pub unless-true : (b : Bool) → unless b ≡ None → b ≡ true
 unless-true true e = refl
-unless-true false e = absurd (let g : ⊥ = cc e in g)
+unless-true false e = absurd (cc e)
 
 -- what a record changes in the current campaign, where it changes no part that a node sees
 pub same-refl : (n : ℕ) (c d : Current) → d.campaign ≡ c.campaign → d.named ≡ c.named → d.ended ≡ c.ended → d.decision ≡ c.decision → SameAt n c d
@@ -59,11 +59,11 @@ pub same-fold : (n : ℕ) (f : Fold) (epoch : ℕ) (e : MasterEvent) → f.epoch
 same-fold n f epoch e le same = record { epoch = le; earlier = refl; back = λ d h. back f.current d h; forth = λ c h. forth f.current c h }
   where
     back : (o : Option Current) (d : Current) → changed_in o e ≡ Some d → (c : Current) × (o ≡ Some c) × SameAt n c d
-    back None d h = absurd (let g : ⊥ = cc h in g)
+    back None d h = absurd (cc h)
     back (Some c) d h = (c, refl, subst (λ y. SameAt n c y) (some-inj (changed c e) d h) (same c))
 
     forth : (o : Option Current) (c : Current) → o ≡ Some c → (d : Current) × (changed_in o e ≡ Some d) × SameAt n c d
-    forth None c h = absurd (let g : ⊥ = cc h in g)
+    forth None c h = absurd (cc h)
     forth (Some c') c h = (changed c' e, refl, subst (λ y. SameAt n y (changed c' e)) (some-inj c' c h) (same c'))
 
 fold-same : (f g : Fold) → ((n : ℕ) → SameFold n f g) → KeptFold f → KeptFold g
@@ -91,14 +91,14 @@ module _ (N : NodeRules) (laws : NodeLaws N) (packages : Packages) (numbers : Li
   reply-facts s m r h = go (no_lt m.at (N.last s)) (no_eq m.at (N.last s)) refl refl h
     where
       go : (a b : Bool) → no_lt m.at (N.last s) ≡ a → no_eq m.at (N.last s) ≡ b → ((if a then Stale (N.last s) else (if b then Again (N.kept s) else Fresh (N.judge s m.call).1)) ≡ Again r) ⊎ ((if a then Stale (N.last s) else (if b then Again (N.kept s) else Fresh (N.judge s m.call).1)) ≡ Fresh r) → (N.kept (if a then s else (if b then s else N.keep (N.judge s m.call).0 m.at m.call (N.judge s m.call).1)) ≡ r) × (IsBelow (N.last (if a then s else (if b then s else N.keep (N.judge s m.call).0 m.at m.call (N.judge s m.call).1))) m.at → ⊥)
-      go true b p q h' = absurd (elim h' [ inl e ↦ (let g : ⊥ = cc e in g) | inr e ↦ (let g : ⊥ = cc e in g) ])
+      go true b p q h' = absurd (elim h' [ inl e ↦ (cc e) | inr e ↦ (cc e) ])
       go false true p q h' =
           let same = eq-tests m.at.epoch m.at.number (N.last s).epoch (N.last s).number p q in (
-            elim h' [ inl e ↦ (let g : N.kept s ≡ r = cc e in g) | inr e ↦ absurd (let g : ⊥ = cc e in g) ],
-            λ exec. elim exec [ inl z ↦ (let g : ⊥ = omega (arith, same.0) in g) | inr z ↦ (let g : ⊥ = omega (arith, same.1) in g) ],
+            elim h' [ inl e ↦ (let g : N.kept s ≡ r = cc e in g) | inr e ↦ absurd (cc e) ],
+            λ exec. elim exec [ inl z ↦ (omega (arith, same.0)) | inr z ↦ (omega (arith, same.1)) ],
           )
       go false false p q h' = (
-        elim h' [ inl e ↦ absurd (let g : ⊥ = cc e in g) | inr e ↦ (let g : (N.judge s m.call).1 ≡ r = cc e in laws.keep_kept (N.judge s m.call).0 m.at m.call (N.judge s m.call).1 ∙ g) ],
+        elim h' [ inl e ↦ absurd (cc e) | inr e ↦ (let g : (N.judge s m.call).1 ≡ r = cc e in laws.keep_kept (N.judge s m.call).0 m.at m.call (N.judge s m.call).1 ∙ g) ],
         λ exec. below-irrefl m.at (subst (λ l. IsBelow l m.at) (laws.keep_last (N.judge s m.call).0 m.at m.call (N.judge s m.call).1) exec),
       )
 
@@ -124,7 +124,7 @@ module _ (N : NodeRules) (laws : NodeLaws N) (packages : Packages) (numbers : Li
 
   -- the records
   pub meets-in : (o : Option Current) (e : MasterEvent) → in_current o e ≡ None → (c : Current) × (o ≡ Some c) × (meets c e ≡ true)
-  meets-in None e h = absurd (let g : ⊥ = cc h in g)
+  meets-in None e h = absurd (cc h)
   meets-in (Some c) e h = (c, refl, unless-true (meets c e) h)
 
   kept-start : (w : World N) (epoch : ℕ) → epoch ≡ w.fold.epoch + 1 → WorldKept w → WorldKept (emptied N w (after_event w.fold (Start epoch)))
@@ -156,18 +156,18 @@ module _ (N : NodeRules) (laws : NodeLaws N) (packages : Packages) (numbers : Li
               above = λ c current j r h e.
                   let lt : j < k = below-in k w.fold.earlier j r below h in
                   let same : k ≡ c.campaign = ap (λ y. y.campaign) (some-inj (begun k named) c current) in
-                  (let g : ⊥ = omega arith in g);
+                  (omega arith);
             };
         each = λ n. event-begin N laws n w.fold (w.node n) k named none below (kept.each n);
       }
 
   kept-decide : (w : World N) (d : Decision) (o : Option Current) → w.fold.current ≡ o → in_current o (Decide d) ≡ None → WorldKept w → WorldKept (record { fold = record { epoch = w.fold.epoch; earlier = w.fold.earlier; current = changed_in o (Decide d) }; node = w.node })
-  kept-decide w d None e h kept = absurd (let g : ⊥ = cc h in g)
+  kept-decide w d None e h kept = absurd (cc h)
   kept-decide w d (Some c) e h kept =
       record {
         fold =
             record {
-              undecided = λ c' current q n. absurd (let z : Some d ≡ None = ap (λ y. y.decision) (some-inj (record c { decision = Some d }) c' current) ∙ q in let g : ⊥ = cc z in g);
+              undecided = λ c' current q n. absurd (let z : Some d ≡ None = ap (λ y. y.decision) (some-inj (record c { decision = Some d }) c' current) ∙ q in cc z);
               above = λ c' current j r in_earlier q. kept.fold.above c e j r in_earlier (q ∙ sym (ap (λ y. y.campaign) (some-inj (record c { decision = Some d }) c' current)));
             };
         each = λ n. event-decide N laws n w.fold (w.node n) c d e (undecided d (unless-true (may_decide c d) h)) (kept.each n);
@@ -175,7 +175,7 @@ module _ (N : NodeRules) (laws : NodeLaws N) (packages : Packages) (numbers : Li
     where
       none-of : (p : Option Decision) → is_none p ≡ true → p ≡ None
       none-of None q = refl
-      none-of (Some x) q = absurd (let g : ⊥ = cc q in g)
+      none-of (Some x) q = absurd (cc q)
 
       undecided : (d' : Decision) → may_decide c d' ≡ true → c.decision ≡ None
       undecided Commit q = none-of c.decision (and-both (is_undecided c) (all_yes c && not (is_marked c)) q).0
@@ -215,10 +215,10 @@ module _ (N : NodeRules) (laws : NodeLaws N) (packages : Packages) (numbers : Li
           same = record { campaign = refl; named = refl; ended = part-other c.ended nd n (Some o) q; decision = refl }
 
   kept-enter : (w : World N) (r : CampaignResult) (p : Option Current) → w.fold.current ≡ p → in_current p (Enter r) ≡ None → WorldKept w → WorldKept (record { fold = record { epoch = w.fold.epoch; earlier = entered w.fold.earlier p r; current = None }; node = w.node })
-  kept-enter w r None e h kept = absurd (let g : ⊥ = cc h in g)
+  kept-enter w r None e h kept = absurd (cc h)
   kept-enter w r (Some c) e h kept =
       record {
-        fold = record { undecided = λ c' current q n. absurd (let g : ⊥ = cc current in g); above = λ c' current j x y z. (let g : ⊥ = cc current in g) };
+        fold = record { undecided = λ c' current q n. absurd (cc current); above = λ c' current j x y z. (cc current) };
         each = λ n. event-enter N laws n w.fold (w.node n) c r e (and-both (all_ended c) (is_result_of c.decision r) (unless-true (meets c (Enter r)) h)).0 (and-both (all_ended c) (is_result_of c.decision r) (unless-true (meets c (Enter r)) h)).1 (kept.each n);
       }
 
@@ -233,13 +233,12 @@ module _ (N : NodeRules) (laws : NodeLaws N) (packages : Packages) (numbers : Li
     where
       none-of : (p : Option Current) → is_none p ≡ true → p ≡ None
       none-of None q = refl
-      none-of (Some x) q = absurd (let g : ⊥ = cc q in g)
-  kept-record w (PhaseTo p) h evidence kept = kept-plain w (PhaseTo p) (λ n c. same-refl n c (changed c (PhaseTo p)) refl refl refl refl) kept
+      none-of (Some x) q = absurd (cc q)
   kept-record w (VoteOf n v) h evidence kept = kept-plain w (VoteOf n v) (λ k c. same-refl k c (changed c (VoteOf n v)) refl refl refl refl) kept
-  kept-record w CancelAsked h evidence kept = kept-plain w CancelAsked (λ n c. same-refl n c (changed c CancelAsked) refl refl refl refl) kept
   kept-record w (Decide d) h evidence kept = kept-decide w d w.fold.current refl h kept
   kept-record w (EndedAt n o) h evidence kept = kept-ended w n o w.fold.current refl h evidence kept
   kept-record w (Enter r) h evidence kept = kept-enter w r w.fold.current refl h kept
+  kept-record w x h evidence kept = kept-plain w x (λ n c. same-refl n c (changed c x) refl refl refl refl) kept
 
   pub kept-event : (w : World N) (e : Event N) → Allowed N packages numbers w e → WorldKept w → WorldKept (happens N w e)
   kept-event w (Deliver n which told) allowed kept =
@@ -253,7 +252,7 @@ module _ (N : NodeRules) (laws : NodeLaws N) (packages : Packages) (numbers : Li
   pub kept-formatted : WorldKept (formatted_world N)
   kept-formatted =
       record {
-        fold = record { undecided = λ c current d n. absurd (let g : ⊥ = cc current in g); above = λ c current k r h. absurd h };
+        fold = record { undecided = λ c current d n. absurd (cc current); above = λ c current k r h. absurd h };
         each = λ n.
             record {
               falling = tt;
@@ -266,13 +265,13 @@ module _ (N : NodeRules) (laws : NodeLaws N) (packages : Packages) (numbers : Li
               present = λ m h. absurd h;
               told_sent = λ m r h. absurd h;
               told_none = λ m y h. absurd h;
-              told_rolled = λ c current e. absurd (let g : ⊥ = cc current in g);
+              told_rolled = λ c current e. absurd (cc current);
               kept_holds = record { none = λ x k f. laws.formatted_mine; rolled = λ x k f. rolled-none N laws N.formatted laws.formatted_mine };
-              finish = λ c cause current. absurd (let g : ⊥ = cc current in g);
-              ends_old = λ c current. absurd (let g : ⊥ = cc current in g);
-              session = λ tag e. absurd (let g : ⊥ = cc (laws.formatted_mine, e) in g);
-              open_span = λ k e. absurd (let g : ⊥ = cc e in g);
-              old_so_far = λ c current. absurd (let g : ⊥ = cc current in g);
+              finish = λ c cause current. absurd (cc current);
+              ends_old = λ c current. absurd (cc current);
+              session = λ tag e. absurd (cc (laws.formatted_mine, e));
+              open_span = λ k e. absurd (cc e);
+              old_so_far = λ c current. absurd (cc current);
               fresh = λ k h. refl;
               entered = λ k r h. absurd h;
             };

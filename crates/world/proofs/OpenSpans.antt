@@ -18,24 +18,12 @@ use Rattle.world.proofs.Events.{is-cleaning, unit-back}
 
 module _ (N : NodeRules) (laws : NodeLaws N) where
   none-begins : (s : N.State) (at : CallNo) (call : Call) (k : ℕ) → N.mine s ≡ None → N.mine (delivered N s at call) ≡ Some k → (has_tag k call && (is_status (N.status s) Idle && is_fresh_done (reached N s at call))) ≡ true
-  none-begins s at Sync k none e = absurd (let g : ⊥ = cc (none-delivered N laws s at Sync (λ i t z. cc) none, e) in g)
-  none-begins s at (TransferStart size) k none e = absurd (let g : ⊥ = cc (none-delivered N laws s at (TransferStart size) (λ i t z. cc) none, e) in g)
-  none-begins s at (TransferData id counter bytes) k none e = absurd (let g : ⊥ = cc (none-delivered N laws s at (TransferData id counter bytes) (λ i t z. cc) none, e) in g)
-  none-begins s at (TransferExit id) k none e = absurd (let g : ⊥ = cc (none-delivered N laws s at (TransferExit id) (λ i t z. cc) none, e) in g)
-  none-begins s at (DeleteTransfer id) k none e = absurd (let g : ⊥ = cc (none-delivered N laws s at (DeleteTransfer id) (λ i t z. cc) none, e) in g)
-  none-begins s at Activate k none e = absurd (let g : ⊥ = cc (none-delivered N laws s at Activate (λ i t z. cc) none, e) in g)
-  none-begins s at Finish k none e = absurd (let g : ⊥ = cc (none-delivered N laws s at Finish (λ i t z. cc) none, e) in g)
-  none-begins s at Rollback k none e = absurd (let g : ⊥ = cc (none-delivered N laws s at Rollback (λ i t z. cc) none, e) in g)
-  none-begins s at Revert k none e = absurd (let g : ⊥ = cc (none-delivered N laws s at Revert (λ i t z. cc) none, e) in g)
-  none-begins s at (Cancel id) k none e = absurd (let g : ⊥ = cc (none-delivered N laws s at (Cancel id) (λ i t z. cc) none, e) in g)
   none-begins s at (ProcessSwPackage id tag) k none e = go (no_lt at (N.last s)) (no_eq at (N.last s)) e
     where
       all-true : (a b c : Bool) → a ≡ true → b ≡ true → c ≡ true → (a && (b && c)) ≡ true
       all-true a b c p q r = subst (λ x. (x && (b && c)) ≡ true) (sym p) (subst (λ x. (x && c) ≡ true) (sym q) r)
 
       go : (a b : Bool) → N.mine (if a then s else (if b then s else N.keep (N.judge s (ProcessSwPackage id tag)).0 at (ProcessSwPackage id tag) (N.judge s (ProcessSwPackage id tag)).1)) ≡ Some k → (nat_eq tag k && (is_status (N.status s) Idle && is_fresh_done (if a then Stale (N.last s) else (if b then Again (N.kept s) else Fresh (N.judge s (ProcessSwPackage id tag)).1)))) ≡ true
-      go true b e' = absurd (let g : ⊥ = cc (none, e') in g)
-      go false true e' = absurd (let g : ⊥ = cc (none, e') in g)
       go false false e' =
           let judged : N.mine (N.judge s (ProcessSwPackage id tag)).0 ≡ Some k = sym (laws.keep_session (N.judge s (ProcessSwPackage id tag)).0 at (ProcessSwPackage id tag) (N.judge s (ProcessSwPackage id tag)).1).mine ∙ e' in
           elim (laws.process_replies s id tag) [
@@ -43,8 +31,10 @@ module _ (N : NodeRules) (laws : NodeLaws N) where
                 (let u = laws.process_idle s id tag none d in
                 let tag_is : tag ≡ k = (let q : Some tag ≡ Some k = sym u.1 ∙ judged in cc q) in
                 all-true (nat_eq tag k) (is_status (N.status s) Idle) (is_done (N.judge s (ProcessSwPackage id tag)).1) (eq-eqb tag k tag_is) (ap (λ x. is_status x Idle) u.0) (ap is_done d))
-            | inr r ↦ absurd (let g : ⊥ = cc (ap N.mine (laws.refused s (ProcessSwPackage id tag) r.0 r.1), none, judged) in g)
+            | inr r ↦ absurd (cc (ap N.mine (laws.refused s (ProcessSwPackage id tag) r.0 r.1), none, judged))
           ]
+      go _ _ e' = absurd (cc (none, e'))
+  none-begins s at x k none e = absurd (cc (none-delivered N laws s at x (λ i t z. cc) none, e))
 
   or-right : (a b : Bool) → b ≡ true → (a || b) ≡ true
   or-right true b e = refl
@@ -52,7 +42,7 @@ module _ (N : NodeRules) (laws : NodeLaws N) where
 
   or-left : (a b : Bool) → a ≡ true → (a || b) ≡ true
   or-left true b e = refl
-  or-left false b e = absurd (let g : ⊥ = cc e in g)
+  or-left false b e = absurd (cc e)
 
   stays-open : (y : Spans N) (b : Bool) (z : List (Span N)) → y.is_open ≡ true → (b ≡ true → ⊥) → (if (y.is_open && b) then record { is_open = false; ended = z } else y).is_open ≡ true
   stays-open y b z open_ shut = go b y.is_open open_ shut
@@ -60,10 +50,10 @@ module _ (N : NodeRules) (laws : NodeLaws N) where
       go : (c o : Bool) → o ≡ true → (c ≡ true → ⊥) → (if (o && c) then record { is_open = false; ended = z } else y).is_open ≡ true
       go true o e f = absurd (f refl)
       go false true e f = open_
-      go false false e f = absurd (let g : ⊥ = cc e in g)
+      go false false e f = absurd (cc e)
 
   pub open-mine : (moves : List (Move N)) (k : ℕ) → N.mine (after N moves) ≡ Some k → (spans N k moves).is_open ≡ true
-  open-mine [] k e = absurd (let g : ⊥ = cc (laws.formatted_mine, e) in g)
+  open-mine [] k e = absurd (cc (laws.formatted_mine, e))
   open-mine (Delivered m ∷ ms) k e = go (N.mine (after N ms)) refl (open-mine ms k)
     where
       go : (o : Option ℕ) → N.mine (after N ms) ≡ o → (N.mine (after N ms) ≡ Some k → (spans N k ms).is_open ≡ true) → ((spans N k ms).is_open || begins_span N k (after N ms) m) ≡ true
@@ -74,9 +64,9 @@ module _ (N : NodeRules) (laws : NodeLaws N) where
   open-mine (Foreign call ∷ ms) k e = go (N.mine (after N ms)) refl (open-mine ms k)
     where
       go : (o : Option ℕ) → N.mine (after N ms) ≡ o → (N.mine (after N ms) ≡ Some k → (spans N k ms).is_open ≡ true) → (spans N k ms).is_open ≡ true
-      go None q rec = absurd (let g : ⊥ = cc (laws.foreign_none (after N ms) call q, e) in g)
+      go None q rec = absurd (cc (laws.foreign_none (after N ms) call q, e))
       go (Some t) q rec = rec (sym (laws.foreign_session (after N ms) call t q).mine ∙ e)
   open-mine (Unit_done passed ∷ ms) k e =
       let mine = unit-back N laws nothing_yet 0 (after N ms) passed k e in
       stays-open (spans N k ms) (is_status (N.status (after N ms)) CleaningUp) _ (open-mine ms k mine) (λ c.
-      let g : ⊥ = cc (cleaned N laws (after N ms) passed k mine (is-cleaning N laws nothing_yet 0 (N.status (after N ms)) c), e) in g)
+      cc (cleaned N laws (after N ms) passed k mine (is-cleaning N laws nothing_yet 0 (N.status (after N ms)) c), e))

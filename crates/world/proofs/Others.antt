@@ -126,7 +126,7 @@ ids-kept p (t ∷ ts) h = go (p t) (t.header.client == 0) refl refl (ids-kept p 
     go : (a b : Bool) → p t ≡ a → (t.header.client == 0) ≡ b → filter (λ (y : Transfer). y.header.client == 0) (filter p ts) ≡ filter (λ (y : Transfer). y.header.client == 0) ts → filter (λ (y : Transfer). y.header.client == 0) (cond a (t ∷ filter p ts) (filter p ts)) ≡ cond b (t ∷ filter (λ (y : Transfer). y.header.client == 0) ts) (filter (λ (y : Transfer). y.header.client == 0) ts)
     go true true q r rec = ap (λ z. cond z (t ∷ filter (λ (y : Transfer). y.header.client == 0) (filter p ts)) (filter (λ (y : Transfer). y.header.client == 0) (filter p ts))) r ∙ ap (λ (l : List Transfer). t ∷ l) rec
     go true false q r rec = ap (λ z. cond z (t ∷ filter (λ (y : Transfer). y.header.client == 0) (filter p ts)) (filter (λ (y : Transfer). y.header.client == 0) (filter p ts))) r ∙ rec
-    go false true q r rec = absurd (let z = h.0 r in let f : ⊥ = cc (z, q) in f)
+    go false true q r rec = absurd (let z = h.0 r in cc (z, q))
     go false false q r rec = rec
 
 found-kept : (j : ℕ) (p : Transfer → Bool) (ts : List Transfer) → AllByRecursion (λ (t : Transfer). (t.header.client == 0) ≡ true → p t ≡ true) ts → find (λ (t : Transfer). is_of 0 j t.header) (filter p ts) ≡ find (λ (t : Transfer). is_of 0 j t.header) ts
@@ -135,7 +135,7 @@ found-kept j p (t ∷ ts) h = go (p t) (is_of 0 j t.header) refl refl (found-kep
   where
     go : (a b : Bool) → p t ≡ a → is_of 0 j t.header ≡ b → find (λ (y : Transfer). is_of 0 j y.header) (filter p ts) ≡ find (λ (y : Transfer). is_of 0 j y.header) ts → find (λ (y : Transfer). is_of 0 j y.header) (cond a (t ∷ filter p ts) (filter p ts)) ≡ cond b (Some t) (find (λ (y : Transfer). is_of 0 j y.header) ts)
     go true b q r rec = ap (λ z. cond z (Some t) (find (λ (y : Transfer). is_of 0 j y.header) (filter p ts))) r ∙ ap (λ o. cond b (Some t) o) rec
-    go false true q r rec = absurd (let z = h.0 (and-true (t.header.id == j) (t.header.client == 0) r).1 in let f : ⊥ = cc (z, q) in f)
+    go false true q r rec = absurd (let z = h.0 (and-true (t.header.id == j) (t.header.client == 0) r).1 in cc (z, q))
     go false false q r rec = rec
 
 module _ (read : Reading) (clusters : List (Cluster Bytes)) where
@@ -166,7 +166,7 @@ module _ (read : Reading) (clusters : List (Cluster Bytes)) where
     where
       no-id : (o : Option ℕ) → is_some o ≡ false → (i : ℕ) → some_passes (λ (n : ℕ). n == i) o ≡ false
       no-id None q i = refl
-      no-id (Some n) q i = absurd (let f : ⊥ = cc q in f)
+      no-id (Some n) q i = absurd (cc q)
 
       none : is_some (id_in_processing s) ≡ false
       none = v.processing.status ∙ ap (λ (y : Status). status_code y == 2) st
@@ -178,13 +178,12 @@ module _ (read : Reading) (clusters : List (Cluster Bytes)) where
           not-being = being ∙ no-id (id_in_processing s) none t.header.id
 
           go : (phase : Phase) → t.header.phase ≡ phase → IsPlannedWhole x t phase → not (is_in BeingProcessed t.header || is_in Processed t.header) ≡ true
-          go Transferring q w = ap (λ (y : Phase). not (is_in BeingProcessed (record t.header { phase = y }) || is_in Processed (record t.header { phase = y }))) q
-          go Transferred q w = ap (λ (y : Phase). not (is_in BeingProcessed (record t.header { phase = y }) || is_in Processed (record t.header { phase = y }))) q
-          go BeingProcessed q w = absurd (let z : is_in BeingProcessed t.header ≡ true = ap (λ (y : Phase). is_in BeingProcessed (record t.header { phase = y })) q in let f : ⊥ = cc (z, not-being) in f)
+          go BeingProcessed q w = absurd (let z : is_in BeingProcessed t.header ≡ true = ap (λ (y : Phase). is_in BeingProcessed (record t.header { phase = y })) q in cc (z, not-being))
           go Processed q w =
               let same : t.header.client ≡ x.owner = w.0 in
               let z : (x.owner == 0) ≡ true = ap (λ (n : ℕ). n == 0) (sym same) ∙ own in
-              absurd (let f : ⊥ = cc (z, owner) in f)
+              absurd (cc (z, owner))
+          go _ q w = ap (λ (y : Phase). not (is_in BeingProcessed (record t.header { phase = y }) || is_in Processed (record t.header { phase = y }))) q
 
   -- a unit without a session of client 0
   abbrev Nothing0 : NodeState → NodeState → Type 0
@@ -200,7 +199,7 @@ module _ (read : Reading) (clusters : List (Cluster Bytes)) where
       not-mine x e = own (x.owner == 0) refl
         where
           own : (b : Bool) → (x.owner == 0) ≡ b → (x.owner == 0) ≡ false
-          own true q = absurd (let z : Some x.tag ≡ None = sym (ap (λ b. tag_if b x.tag) q) ∙ (sym (ap (λ o. option_and_then (λ (y : Session). tag_if (y.owner == 0) y.tag) o) e) ∙ none) in let f : ⊥ = cc z in f)
+          own true q = absurd (let z : Some x.tag ≡ None = sym (ap (λ b. tag_if b x.tag) q) ∙ (sym (ap (λ o. option_and_then (λ (y : Session). tag_if (y.owner == 0) y.tag) o) e) ∙ none) in cc z)
           own false q = q
 
       over : (a t : NodeState) → Some a ≡ Some t → Nothing0 s a → Nothing0 s (with_entry (UnitAfter t.status) t)
@@ -221,7 +220,7 @@ module _ (read : Reading) (clusters : List (Cluster Bytes)) where
           )
 
       in-process : (x : Session) → s.session ≡ Some x → (o : Option ℕ) (t : NodeState) → option_and_then (λ id. Some (process_unit s x id)) o ≡ Some t → Nothing0 s (with_entry (UnitAfter t.status) t)
-      in-process x e None t q = absurd (let f : ⊥ = cc q in f)
+      in-process x e None t q = absurd (cc q)
       in-process x e (Some id) t q = over (process_unit s x id) t q (process x id e)
 
       verified : (x : Session) → s.session ≡ Some x → (b : Bool) → Nothing0 s (verify_unit s x b)
@@ -231,7 +230,7 @@ module _ (read : Reading) (clusters : List (Cluster Bytes)) where
       cleaned : (x : Session) → s.session ≡ Some x → s.status ≡ CleaningUp → Nothing0 s (clean_up_unit s x)
       cleaned x e st = (
         refl,
-        get_or-set_other s.ended x.owner 0 (end_mark x) None (λ q. let z : (x.owner == 0) ≡ true = ap (λ (n : ℕ). n == 0) (sym q) in let w = not-mine x e in let f : ⊥ = cc (z, w) in f),
+        get_or-set_other s.ended x.owner 0 (end_mark x) None (λ q. let z : (x.owner == 0) ≡ true = ap (λ (n : ℕ). n == 0) (sym q) in let w = not-mine x e in cc (z, w)),
         clean-others s x v e (not-mine x e) st,
       )
 
@@ -239,15 +238,12 @@ module _ (read : Reading) (clusters : List (Cluster Bytes)) where
       go x e st p t q = at st p (sym (ap (λ y. unit_of s x passed y) p) ∙ q)
         where
           at : (y : Status) → s.status ≡ y → unit_of s x passed y ≡ Some t → Nothing0 s (with_entry (UnitAfter t.status) t)
-          at Idle r h = absurd (let f : ⊥ = cc h in f)
-          at Ready r h = absurd (let f : ⊥ = cc h in f)
           at Processing r h = in-process x e x.processing t h
           at Activating r h = over (activate_unit s x) t h (ap (λ b. tag_if b x.tag) (not-mine x e), refl, keeps-all read clusters s (activate_unit s x) refl)
           at Verifying r h = over (verify_unit s x passed) t h (verified x e passed)
-          at Activated r h = absurd (let f : ⊥ = cc h in f)
           at RollingBack r h = over (roll_back_unit s x) t h (none, refl, keeps-all read clusters s (roll_back_unit s x) refl)
-          at RolledBack r h = absurd (let f : ⊥ = cc h in f)
           at CleaningUp r h = over (clean_up_unit s x) t h (cleaned x e r)
+          at _ r h = absurd (cc h)
 
   -- a call of another client
   phase-keeps : (phase : Phase) → KeepsNames (λ t. record t { header = in_phase phase t.header })
@@ -267,7 +263,7 @@ module _ (read : Reading) (clusters : List (Cluster Bytes)) where
   others s a id v f = go (transfer_of s (suc a) id) refl f
     where
       go : (o : Option Transfer) → transfer_of s (suc a) id ≡ o → is_none (option_map (λ (t : Transfer). t.header) o) ≡ false → AllByRecursion (λ (y : Transfer). (y.header.id == id) ≡ true → (y.header.client == suc a) ≡ true) s.transfers
-      go None e q = absurd (let g : ⊥ = cc q in g)
+      go None e q = absurd (cc q)
       go (Some t) e q = unique (suc a) id s.transfers t v.transfers.rise e
 
   not-own : (a : ℕ) (t : Transfer) → (t.header.client == 0) ≡ true → (t.header.client == suc a) ≡ true → ⊥
@@ -345,13 +341,10 @@ module _ (read : Reading) (clusters : List (Cluster Bytes)) where
   judged-others s a (call.ProcessSwPackage id tag) w v =
       judged-by s (suc a) (call.ProcessSwPackage id tag) w (λ t. KeepsTransfers (real read clusters) s t) (keeps-all read clusters s s refl)
       (then-led s (begin_processing s (suc a) id tag) (call.ProcessSwPackage id tag) (keeps-changed read clusters s (begin_processing s (suc a) id tag) id (λ t. record t { header = in_phase BeingProcessed t.header }) (phase-keeps BeingProcessed) (λ t. refl) refl))
-  judged-others s a call.Activate w v = judged-by s (suc a) call.Activate w (λ t. KeepsTransfers (real read clusters) s t) (keeps-all read clusters s s refl) (then-led s s call.Activate (keeps-all read clusters s s refl))
-  judged-others s a call.Finish w v = judged-by s (suc a) call.Finish w (λ t. KeepsTransfers (real read clusters) s t) (keeps-all read clusters s s refl) (then-led s s call.Finish (keeps-all read clusters s s refl))
-  judged-others s a call.Rollback w v = judged-by s (suc a) call.Rollback w (λ t. KeepsTransfers (real read clusters) s t) (keeps-all read clusters s s refl) (then-led s s call.Rollback (keeps-all read clusters s s refl))
-  judged-others s a call.RevertProcessedSwPackages w v = judged-by s (suc a) call.RevertProcessedSwPackages w (λ t. KeepsTransfers (real read clusters) s t) (keeps-all read clusters s s refl) (then-led s s call.RevertProcessedSwPackages (keeps-all read clusters s s refl))
   judged-others s a (call.Cancel id) w v =
       judged-by s (suc a) (call.Cancel id) w (λ t. KeepsTransfers (real read clusters) s t) (keeps-all read clusters s s refl)
       (then-led s (stop_processing s id) (call.Cancel id) (keeps-changed read clusters s (stop_processing s id) id (λ t. record t { header = in_phase Transferred t.header }) (phase-keeps Transferred) (λ t. refl) refl))
+  judged-others s a x w v = judged-by s (suc a) x w (λ t. KeepsTransfers (real read clusters) s t) (keeps-all read clusters s s refl) (then-led s s x (keeps-all read clusters s s refl))
 
   pub foreign_transfers : (s : NodeState) (f : ForeignCall) → IsConsistent s → KeepsTransfers (real read clusters) s (foreign_in read s f)
   foreign_transfers s f v =

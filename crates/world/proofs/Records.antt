@@ -45,7 +45,7 @@ none-some o c e h = cc (e, h)
 
 pub and-both : (a b : Bool) → (a && b) ≡ true → (a ≡ true) × (b ≡ true)
 and-both true b e = (refl, e)
-and-both false b e = absurd (let g : ⊥ = cc e in g)
+and-both false b e = absurd (cc e)
 
 pub in-append : (e : ℕ × CampaignResult) (xs : List (ℕ × CampaignResult)) (y : ℕ × CampaignResult) → InEarlier e (xs ++ y ∷ []) → InEarlier e xs ⊎ (e ≡ y)
 in-append e [] y h = elim h [ inl q ↦ inr q | inr q ↦ absurd q ]
@@ -63,8 +63,7 @@ not-commit o r h q e = go r (subst (λ d. is_result_of d r ≡ true) e h) q
   where
     go : (r' : CampaignResult) → is_result_of (Some Commit) r' ≡ true → r' ≢ Successful → ⊥
     go Successful h' q' = q' refl
-    go Failed h' q' = cc h'
-    go Cancelled h' q' = cc h'
+    go _ h' q' = cc h'
 
 pub below-in : (k : ℕ) (xs : List (ℕ × CampaignResult)) (j : ℕ) (r : CampaignResult) → all_below k xs ≡ true → InEarlier (j, r) xs → j < k
 below-in k [] j r a h = absurd h
@@ -86,7 +85,7 @@ module _ (N : NodeRules) (laws : NodeLaws N) (n : ℕ) where
         present = kept.present;
         told_sent = λ m r told. absurd told;
         told_none = λ m y told d c current campaign free. absurd told;
-        told_rolled = λ c current e. absurd (let g : ⊥ = cc e in g);
+        told_rolled = λ c current e. absurd (cc e);
         kept_holds = kept.kept_holds;
         finish = kept.finish;
         ends_old = kept.ends_old;
@@ -127,7 +126,7 @@ module _ (N : NodeRules) (laws : NodeLaws N) (n : ℕ) where
             let b = same.back c current in
             elim quiet [
               | inl q ↦ kept.told_rolled b.0 b.1 (subst (λ k. last_status k f.epoch x.told ≡ Some RolledBack) b.2.campaign (subst (λ k. last_status c.campaign k x.told ≡ Some RolledBack) q e))
-              | inr q ↦ absurd (let e' : last_status c.campaign g.epoch [] ≡ Some RolledBack = subst (λ t. last_status c.campaign g.epoch t ≡ Some RolledBack) q e in let z : ⊥ = cc e' in z)
+              | inr q ↦ absurd (let e' : last_status c.campaign g.epoch [] ≡ Some RolledBack = subst (λ t. last_status c.campaign g.epoch t ≡ Some RolledBack) q e in cc e')
             ];
         kept_holds = kept.kept_holds;
         finish = λ c cause current abort. let b = same.back c current in kept.finish b.0 cause b.1 (sym b.2.decision ∙ abort);
@@ -155,7 +154,7 @@ module _ (N : NodeRules) (laws : NodeLaws N) (n : ℕ) where
         present = λ m h exec. absurd (quiet m h exec);
         told_sent = λ m r told. absurd told;
         told_none = λ m y told d c current campaign free. absurd told;
-        told_rolled = λ c current e. absurd (let g : ⊥ = cc e in g);
+        told_rolled = λ c current e. absurd (cc e);
         kept_holds = kept.kept_holds;
         finish = λ c cause current abort m h call exec. absurd (quiet m h exec);
         ends_old = λ c current d tag mine status. absurd (free tag mine);
@@ -192,7 +191,7 @@ module _ (N : NodeRules) (laws : NodeLaws N) (n : ℕ) where
         decided = λ m h q c' current' same e.
             let s : record c { decision = Some d } ≡ c' = some-inj (record c { decision = Some d }) c' current' in
             let e' : Some d ≡ None = ap (λ y. y.decision) s ∙ e in
-            let z : ⊥ = cc e' in z;
+            cc e';
         ordered = kept.ordered;
         begun = λ m h k fresh. kept.begun m h k (back k fresh);
         present = λ m h exec. forth (λ k. m.campaign ≡ k) (kept.present m h exec);
@@ -213,7 +212,7 @@ module _ (N : NodeRules) (laws : NodeLaws N) (n : ℕ) where
       campaign_is c' e = sym (ap (λ y. y.campaign) (some-inj (record c { decision = Some d }) c' e))
 
       not_commit : NotCommit c.decision
-      not_commit q = let z : ⊥ = cc (q, undecided) in z
+      not_commit q = cc (q, undecided)
 
       back : (k : ℕ) → IsFresh (record { epoch = f.epoch; earlier = f.earlier; current = Some (record c { decision = Some d }) }) k → IsFresh f k
       back k h = record { above = h.above; other = λ c' current' q. h.other (record c { decision = Some d }) refl (ap (λ y. y.campaign) (some-inj c c' (sym current ∙ current')) ∙ q) }
@@ -252,7 +251,7 @@ module _ (N : NodeRules) (laws : NodeLaws N) (n : ℕ) where
         kept_holds = kept.kept_holds;
         finish = λ c' cause current' abort m h call exec. absurd (none_left m h exec);
         ends_old = λ c' current' q. kept.ends_old c current (λ z. q (decision_is c' current' ∙ z));
-        session = λ tag e. absurd (let z : ⊥ = cc (free, e) in z);
+        session = λ tag e. absurd (cc (free, e));
         open_span = kept.open_span;
         old_so_far = λ c' current' q. subst (λ k. EachEnded N (λ y. N.Leaves y.before y.left) (spans N k x.moves).ended) (sym (campaign_is c' current')) (kept.old_so_far c current (λ z. q (decision_is c' current' ∙ z)));
         fresh = λ k h. kept.fresh k (back k h);
@@ -297,19 +296,19 @@ module _ (N : NodeRules) (laws : NodeLaws N) (n : ℕ) where
         epochs = kept.epochs;
         tags = kept.tags;
         early = kept.early;
-        decided = λ m h q c' current' same e. (let z : ⊥ = cc current' in z);
+        decided = λ m h q c' current' same e. (cc current');
         ordered = kept.ordered;
         begun = λ m h k fresh. kept.begun m h k (back k fresh.above);
         present = λ m h exec. absurd (out (λ k. m.campaign ≡ k) (kept.present m h exec));
         told_sent = kept.told_sent;
-        told_none = λ m y told q c' current' same free. absurd (let z : ⊥ = cc current' in z);
-        told_rolled = λ c' current' e. absurd (let z : ⊥ = cc current' in z);
+        told_none = λ m y told q c' current' same free. absurd (cc current');
+        told_rolled = λ c' current' e. absurd (cc current');
         kept_holds = kept.kept_holds;
-        finish = λ c' cause current' abort m h call exec. absurd (let z : ⊥ = cc current' in z);
-        ends_old = λ c' current' q. absurd (let z : ⊥ = cc current' in z);
+        finish = λ c' cause current' abort m h call exec. absurd (cc current');
+        ends_old = λ c' current' q. absurd (cc current');
         session = λ tag e. absurd (out (λ k. tag ≡ k) (kept.session tag e));
         open_span = kept.open_span;
-        old_so_far = λ c' current' q. absurd (let z : ⊥ = cc current' in z);
+        old_so_far = λ c' current' q. absurd (cc current');
         fresh = λ k h. kept.fresh k (back k h.above);
         entered = λ k res h q.
             elim (in-append (k, res) f.earlier (c.campaign, r) h) [
@@ -335,5 +334,5 @@ module _ (N : NodeRules) (laws : NodeLaws N) (n : ℕ) where
                 let s : c ≡ c' = some-inj c c' (sym current ∙ current') in
                 let lt : c.campaign < k = q.1 in
                 let same : c.campaign ≡ k = ap (λ y. y.campaign) s ∙ e in
-                (let z : ⊥ = omega arith in z);
+                (omega arith);
           }

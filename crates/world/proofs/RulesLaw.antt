@@ -26,9 +26,8 @@ pub record Spans (N : NodeRules) : Type 0 where
   pub ended : List (Span N)
 
 abbrev pub is_fresh_done : Reached → Bool
-is_fresh_done (Stale _) = false
-is_fresh_done (Again _) = false
 is_fresh_done (Fresh r) = is_done r
+is_fresh_done _ = false
 
 -- an accepted ProcessSwPackage of client 0 with this tag in Idle
 abbrev pub begins_span : (N : NodeRules) → ℕ → N.State → Message → Bool
@@ -64,8 +63,7 @@ pub record IsOld (N : NodeRules) (k : ℕ) (moves : List (Move N)) : Type 0 wher
 
 abbrev pub IsLeft : (N : NodeRules) → CampaignResult → ℕ → List N.Change → List (Move N) → Type 0
 IsLeft N Successful k changes moves = IsNew N k changes moves
-IsLeft N Failed k changes moves = IsOld N k moves
-IsLeft N Cancelled k changes moves = IsOld N k moves
+IsLeft N _ k changes moves = IsOld N k moves
 
 -- an entry of the earlier campaigns
 abbrev pub InEarlier : ℕ × CampaignResult → List (ℕ × CampaignResult) → Type 0

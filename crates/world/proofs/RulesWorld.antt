@@ -50,23 +50,17 @@ pub data Event (N : NodeRules) : Type 0 where
   Restart : Event N
 
 abbrev pub Evidence : (N : NodeRules) → Packages → List ℕ → World N → MasterEvent → Type 0
-Evidence N packages numbers w (Start _) = Unit {0}
 Evidence N packages numbers w (Begin k named) = Contains numbers k × NamesOf packages k named
-Evidence N packages numbers w (PhaseTo _) = Unit {0}
 Evidence N packages numbers w (VoteOf n v) = VoteEvidence v (w.node n).told
-Evidence N packages numbers w CancelAsked = Unit {0}
-Evidence N packages numbers w (Decide _) = Unit {0}
 Evidence N packages numbers w (EndedAt n o) = InCurrent w.fold.current (λ c. EndEvidence w.fold.epoch c (w.node n).told (w.node n).sent)
-Evidence N packages numbers w (Enter _) = Unit {0}
+Evidence N packages numbers w _ = Unit {0}
 
 -- one event may happen
 abbrev pub Allowed : (N : NodeRules) → Packages → List ℕ → World N → Event N → Type 0
 Allowed N packages numbers w (Deliver n which told) = which < length (w.node n).sent
-Allowed N packages numbers w (Foreign_calls n call) = Unit {0}
-Allowed N packages numbers w (Unit_comes n passed told) = Unit {0}
 Allowed N packages numbers w (Send n call) = InCurrent w.fold.current (λ c. MaySend packages w.fold.epoch n c (w.node n).told (w.node n).sent call)
 Allowed N packages numbers w (Record e) = (refusal_of w.fold e ≡ None) × Evidence N packages numbers w e
-Allowed N packages numbers w Restart = Unit {0}
+Allowed N packages numbers w _ = Unit {0}
 
 -- a world in which node n is x
 abbrev pub with_node : (N : NodeRules) → World N → ℕ → NodeWorld N → World N

@@ -27,17 +27,14 @@ IsRoundCall k call = (call ≢ Finish) × ((id tag : ℕ) → call ≡ ProcessSw
 
 pub round-calls : (k : ℕ) (stage : Stage) (call : Call) → call_at k stage ≡ Some call → IsRoundCall k call
 round-calls k At_sync call e = let q : Sync ≡ call = cc e in (λ z. cc, λ i t z. cc)
-round-calls k (At_start ids []) call e = absurd (let g : ⊥ = cc e in g)
 round-calls k (At_start ids (p ∷ ps)) call e = let q : TransferStart (length p) ≡ call = cc e in (λ z. cc, λ i t z. cc)
 round-calls k (At_data ids id counter [] left) call e = let q : TransferExit id ≡ call = cc e in (λ z. cc, λ i t z. cc)
 round-calls k (At_data ids id counter (b ∷ bs) left) call e = let q : TransferData id counter (take 4096 (b ∷ bs)) ≡ call = cc e in (λ z. cc, λ i t z. cc)
-round-calls k (At_process [] taken) call e = absurd (let g : ⊥ = cc e in g)
 round-calls k (At_process (id ∷ ids) taken) call e =
     let q : ProcessSwPackage id k ≡ call = cc e in
     (λ z. cc, λ i t z. (let z' : ProcessSwPackage id k ≡ ProcessSwPackage i t = q ∙ z in let g : k ≡ t = cc z' in sym g))
 round-calls k At_activate call e = let q : Activate ≡ call = cc e in (λ z. cc, λ i t z. cc)
-round-calls k Over call e = absurd (let g : ⊥ = cc e in g)
-round-calls k Refused_once call e = absurd (let g : ⊥ = cc e in g)
+round-calls k _ call e = absurd (cc e)
 
 -- the next number is above all that were sent
 pub next-above : (epoch : ℕ) (sent : List Message) → Falling sent → ((m : Message) → InSent m sent → m.at.epoch ≤ epoch) → (older : Message) → InSent older sent → IsBelow older.at (next_number epoch sent)
@@ -52,7 +49,7 @@ next-above epoch (m ∷ ms) falling epochs older h =
         go true q = let e = eqb-true m.at.epoch epoch q in inr (e, omega arith)
         go false q =
             let le : m.at.epoch ≤ epoch = epochs m (inl refl) in
-            elim (eqb_tells m.at.epoch epoch) [ inl h2 ↦ absurd (let g : ⊥ = cc (h2.0, q) in g) | inr h2 ↦ inl (let ne : m.at.epoch ≢ epoch = h2.1 in omega arith) ]
+            elim (eqb_tells m.at.epoch epoch) [ inl h2 ↦ absurd (cc (h2.0, q)) | inr h2 ↦ inl (let ne : m.at.epoch ≢ epoch = h2.1 in omega arith) ]
 
 pub next-epoch : (epoch : ℕ) (sent : List Message) → (next_number epoch sent).epoch ≡ epoch
 next-epoch epoch [] = refl
@@ -60,31 +57,24 @@ next-epoch epoch (m ∷ ms) = refl
 
 none-of : (o : Option Decision) → is_some o ≡ false → o ≡ None
 none-of None e = refl
-none-of (Some d) e = absurd (let g : ⊥ = cc e in g)
+none-of (Some d) e = absurd (cc e)
 
 -- what may be sent after the decision
 late-process : (d : Decision) (o : Option Status) (shown : Option _) (id tag : ℕ) → (is_sync (ProcessSwPackage id tag) || (end_call_at d o (ProcessSwPackage id tag) || delete_at shown (ProcessSwPackage id tag))) ≡ true → ⊥
-late-process d None shown id tag e = cc e
-late-process Commit (Some s) shown id tag e = cc e
 late-process (Abort cause) (Some s) shown id tag e = cc e
+late-process _ None shown id tag e = cc e
+late-process Commit (Some s) shown id tag e = cc e
 
 is-rolled : (x : Status) → is_status x RolledBack ≡ true → x ≡ RolledBack
-is-rolled Idle e = absurd (let g : ⊥ = cc e in g)
-is-rolled Ready e = absurd (let g : ⊥ = cc e in g)
-is-rolled Processing e = absurd (let g : ⊥ = cc e in g)
-is-rolled Activating e = absurd (let g : ⊥ = cc e in g)
-is-rolled Verifying e = absurd (let g : ⊥ = cc e in g)
-is-rolled Activated e = absurd (let g : ⊥ = cc e in g)
-is-rolled RollingBack e = absurd (let g : ⊥ = cc e in g)
 is-rolled RolledBack e = refl
-is-rolled CleaningUp e = absurd (let g : ⊥ = cc e in g)
+is-rolled _ e = absurd (cc e)
 
 or-false : (b : Bool) → (b || false) ≡ true → b ≡ true
 or-false true e = refl
 or-false false e = e
 
 late-finish : (cause : Cause) (o : Option Status) (shown : Option _) → (is_sync Finish || (end_call_at (Abort cause) o Finish || delete_at shown Finish)) ≡ true → o ≡ Some RolledBack
-late-finish cause None shown e = absurd (let g : ⊥ = cc e in g)
+late-finish cause None shown e = absurd (cc e)
 late-finish cause (Some s) shown e = ap Some (is-rolled s (or-false (is_status s RolledBack) e))
 
 module _ (N : NodeRules) (laws : NodeLaws N) (packages : Packages) (f : Fold) (n : ℕ) where
@@ -99,7 +89,7 @@ module _ (N : NodeRules) (laws : NodeLaws N) (packages : Packages) (f : Fold) (n
         ordered = λ m older h g same d undecided.
             elim h [
               | inl e ↦ elim g [
-                | inl e' ↦ absurd (let z : ⊥ = cc (e, e', d, undecided) in z)
+                | inl e' ↦ absurd (cc (e, e', d, undecided))
                 | inr g' ↦ rw e (above older g')
               ]
               | inr h' ↦ elim g [
@@ -163,7 +153,7 @@ module _ (N : NodeRules) (laws : NodeLaws N) (packages : Packages) (f : Fold) (n
       new_decided : (m : Message) → m ≡ record { at = next_number f.epoch x.sent; call = call; campaign = c.campaign; decided = is_some c.decision } → m.decided ≡ true → (c' : Current) → f.current ≡ Some c' → c'.decision ≢ None
       new_decided m e d c' current' q =
           let w : c.decision ≡ None = sym (ap (λ y. y.decision) (same_current c' current')) ∙ q in
-          let g : ⊥ = cc (ap (λ y. y.decided) e, d, ap is_some w) in g
+          cc (ap (λ y. y.decided) e, d, ap is_some w)
 
       not_ended : end_of c n ≡ None
       not_ended = go c.decision refl
@@ -182,6 +172,6 @@ module _ (N : NodeRules) (laws : NodeLaws N) (packages : Packages) (f : Fold) (n
       none_early : (c' : Current) (cause : Cause) → f.current ≡ Some c' → c'.decision ≡ Some (Abort cause) → NoneEarly N (state_of N x) x.sent → NoneEarly N (state_of N x) (record { at = next_number f.epoch x.sent; call = call; campaign = c.campaign; decided = is_some c.decision } ∷ x.sent)
       none_early c' cause current' abort old m h d exec =
           elim h [
-            | inl e ↦ (let w = undecided_of m e d in let q = same_current c' current' in let g : ⊥ = cc (ap (λ y. y.decision) q, w, abort) in g)
+            | inl e ↦ (let w = undecided_of m e d in let q = same_current c' current' in cc (ap (λ y. y.decision) q, w, abort))
             | inr h' ↦ old m h' d exec
           ]

@@ -35,10 +35,10 @@ mine-some s tag e = go s.session refl e
   where
     owned : (x : Session) (b : Bool) → (x.owner == 0) ≡ b → tag_if b x.tag ≡ Some tag → ((x.owner == 0) ≡ true) × (x.tag ≡ tag)
     owned x true p q = (p, let z : x.tag ≡ tag = cc q in z)
-    owned x false p q = absurd (let f : ⊥ = cc q in f)
+    owned x false p q = absurd (cc q)
 
     go : (o : Option Session) → s.session ≡ o → option_and_then (λ (x : Session). tag_if (x.owner == 0) x.tag) o ≡ Some tag → (x : Session) × (s.session ≡ Some x) × ((x.owner == 0) ≡ true) × (x.tag ≡ tag)
-    go None p q = absurd (let f : ⊥ = cc q in f)
+    go None p q = absurd (cc q)
     go (Some x) p q = let r = owned x (x.owner == 0) refl q in (x, p, r.0, r.1)
 
 pub session-there : (s : NodeState) → IsConsistent s → s.status ≢ Idle → (x : Session) × (s.session ≡ Some x)
@@ -47,14 +47,7 @@ session-there s v n = go s.session s.status refl refl v.session
     go : (o : Option Session) (st : Status) → s.session ≡ o → s.status ≡ st → SessionIsDue st o → (x : Session) × (s.session ≡ Some x)
     go (Some x) st p q h = (x, p)
     go None Idle p q h = absurd (n q)
-    go None Ready p q h = absurd h
-    go None Processing p q h = absurd h
-    go None Activating p q h = absurd h
-    go None Verifying p q h = absurd h
-    go None Activated p q h = absurd h
-    go None RollingBack p q h = absurd h
-    go None RolledBack p q h = absurd h
-    go None CleaningUp p q h = absurd h
+    go None _ p q h = absurd h
 
 pub session_status : (s : NodeState) (tag : ℕ) → IsConsistent s → mine_in s ≡ Some tag → s.status ≢ Idle
 session_status s tag v e q = let m = mine-some s tag e in go s.session s.status v.session q m.1
@@ -64,7 +57,7 @@ session_status s tag v e q = let m = mine-some s tag e in go s.session s.status 
 
 not-false : (b : Bool) → not b ≡ false → b ≡ true
 not-false true e = refl
-not-false false e = absurd (let f : ⊥ = cc e in f)
+not-false false e = absurd (cc e)
 
 -- not another's
 pub not-busy : (s : NodeState) (x : Session) → s.session ≡ Some x → some_passes (λ (y : Session). not (y.owner == 0)) s.session ≡ false → mine_in s ≡ Some x.tag
@@ -86,7 +79,7 @@ no-outcome s x v e n = go x.outcome (outcome-due s x v e ∙ n)
   where
     go : (o : Option Outcome) → is_some o ≡ false → o ≡ None
     go None q = refl
-    go (Some y) q = absurd (let f : ⊥ = cc q in f)
+    go (Some y) q = absurd (cc q)
 
 -- a call that the table leads to a status
 pub to-status : (s : NodeState) (c : Call) (from to : Status) → s.status ≡ from → status_table from c ≡ Some (To to) → led_by c s ≡ record s { status = to }
@@ -114,15 +107,8 @@ module _ (read : Reading) (clusters : List (Cluster Bytes)) where
       (m.0, m.1, st)
     where
       where-from : (st : Status) → is_none (status_table st call.Activate) ≡ false → st ≡ Ready
-      where-from Idle q = absurd (let f : ⊥ = cc q in f)
       where-from Ready q = refl
-      where-from Processing q = absurd (let f : ⊥ = cc q in f)
-      where-from Activating q = absurd (let f : ⊥ = cc q in f)
-      where-from Verifying q = absurd (let f : ⊥ = cc q in f)
-      where-from Activated q = absurd (let f : ⊥ = cc q in f)
-      where-from RollingBack q = absurd (let f : ⊥ = cc q in f)
-      where-from RolledBack q = absurd (let f : ⊥ = cc q in f)
-      where-from CleaningUp q = absurd (let f : ⊥ = cc q in f)
+      where-from _ q = absurd (cc q)
 
   pub finish_mine : (s : NodeState) → IsConsistent s → (judged_in read s Finish).1 ≡ Done → (tag : ℕ) × (mine_in s ≡ Some tag) × ((s.status ≡ Activated) ⊎ (s.status ≡ RolledBack))
   finish_mine s v d =
@@ -132,15 +118,9 @@ module _ (read : Reading) (clusters : List (Cluster Bytes)) where
       (m.0, m.1, st)
     where
       where-from : (st : Status) → is_none (status_table st call.Finish) ≡ false → (st ≡ Activated) ⊎ (st ≡ RolledBack)
-      where-from Idle q = absurd (let f : ⊥ = cc q in f)
-      where-from Ready q = absurd (let f : ⊥ = cc q in f)
-      where-from Processing q = absurd (let f : ⊥ = cc q in f)
-      where-from Activating q = absurd (let f : ⊥ = cc q in f)
-      where-from Verifying q = absurd (let f : ⊥ = cc q in f)
       where-from Activated q = inl refl
-      where-from RollingBack q = absurd (let f : ⊥ = cc q in f)
       where-from RolledBack q = inr refl
-      where-from CleaningUp q = absurd (let f : ⊥ = cc q in f)
+      where-from _ q = absurd (cc q)
 
   pub rollback_mine : (s : NodeState) → IsConsistent s → (judged_in read s Rollback).1 ≡ Done → (tag : ℕ) × (mine_in s ≡ Some tag) × ((s.status ≡ Verifying) ⊎ (s.status ≡ Activated))
   rollback_mine s v d =
@@ -150,15 +130,9 @@ module _ (read : Reading) (clusters : List (Cluster Bytes)) where
       (m.0, m.1, st)
     where
       where-from : (st : Status) → is_none (status_table st call.Rollback) ≡ false → (st ≡ Verifying) ⊎ (st ≡ Activated)
-      where-from Idle q = absurd (let f : ⊥ = cc q in f)
-      where-from Ready q = absurd (let f : ⊥ = cc q in f)
-      where-from Processing q = absurd (let f : ⊥ = cc q in f)
-      where-from Activating q = absurd (let f : ⊥ = cc q in f)
       where-from Verifying q = inl refl
       where-from Activated q = inr refl
-      where-from RollingBack q = absurd (let f : ⊥ = cc q in f)
-      where-from RolledBack q = absurd (let f : ⊥ = cc q in f)
-      where-from CleaningUp q = absurd (let f : ⊥ = cc q in f)
+      where-from _ q = absurd (cc q)
 
   pub revert_mine : (s : NodeState) → IsConsistent s → (judged_in read s Revert).1 ≡ Done → (tag : ℕ) × (mine_in s ≡ Some tag) × (s.status ≡ Ready)
   revert_mine s v d =
@@ -168,15 +142,8 @@ module _ (read : Reading) (clusters : List (Cluster Bytes)) where
       (m.0, m.1, st)
     where
       where-from : (st : Status) → is_none (status_table st call.RevertProcessedSwPackages) ≡ false → st ≡ Ready
-      where-from Idle q = absurd (let f : ⊥ = cc q in f)
       where-from Ready q = refl
-      where-from Processing q = absurd (let f : ⊥ = cc q in f)
-      where-from Activating q = absurd (let f : ⊥ = cc q in f)
-      where-from Verifying q = absurd (let f : ⊥ = cc q in f)
-      where-from Activated q = absurd (let f : ⊥ = cc q in f)
-      where-from RollingBack q = absurd (let f : ⊥ = cc q in f)
-      where-from RolledBack q = absurd (let f : ⊥ = cc q in f)
-      where-from CleaningUp q = absurd (let f : ⊥ = cc q in f)
+      where-from _ q = absurd (cc q)
 
   -- what a call that is done makes of client 0's session
   abbrev pub MovesTo : NodeState → NodeState → ℕ → Status → Option Outcome → Type 0
@@ -250,7 +217,7 @@ module _ (read : Reading) (clusters : List (Cluster Bytes)) where
           let a = or-none (first_refusal (session_refusals s 0 (call.Cancel id))) (first_refusal (cancel_refusals (header_of (transfer_of s 0 id)))) (done-none reply.Done (refusal s 0 (call.Cancel id) (verdict_for read s 0 (call.Cancel id))) d) in
           let l = let-through s (call.Cancel id) a.0 in
           let st = cancel-from s.status id l.1 in
-          let x = session-there s v (λ q. let f : ⊥ = cc (st, q) in f) in
+          let x = session-there s v (λ q. cc (st, q)) in
           let mine = not-busy s x.0 x.1 l.0 in
           let led = done-accepted s 0 (call.Cancel id) (verdict_for read s 0 (call.Cancel id)) d ∙ ap (λ y. option_map_or (arrive (stop_processing s id)) (status_table y (call.Cancel id)) (stop_processing s id)) st in
           let same : mine_in (stop_processing s id) ≡ Some x.0.tag = ap (λ o. option_and_then (λ (y : Session). tag_if (y.owner == 0) y.tag) (option_map stop o)) x.1 ∙ (sym (ap (λ o. option_and_then (λ (y : Session). tag_if (y.owner == 0) y.tag) o) x.1) ∙ mine) in
@@ -278,13 +245,7 @@ module _ (read : Reading) (clusters : List (Cluster Bytes)) where
   process-from : (st : Status) (id tag : ℕ) → is_none (status_table st (call.ProcessSwPackage id tag)) ≡ false → (st ≡ Idle) ⊎ (st ≡ Ready)
   process-from Idle id tag q = inl refl
   process-from Ready id tag q = inr refl
-  process-from Processing id tag q = absurd (let f : ⊥ = cc q in f)
-  process-from Activating id tag q = absurd (let f : ⊥ = cc q in f)
-  process-from Verifying id tag q = absurd (let f : ⊥ = cc q in f)
-  process-from Activated id tag q = absurd (let f : ⊥ = cc q in f)
-  process-from RollingBack id tag q = absurd (let f : ⊥ = cc q in f)
-  process-from RolledBack id tag q = absurd (let f : ⊥ = cc q in f)
-  process-from CleaningUp id tag q = absurd (let f : ⊥ = cc q in f)
+  process-from _ id tag q = absurd (cc q)
 
   -- the state after an accepted one
   process-led : (s : NodeState) (id tag : ℕ) → (s.status ≡ Idle) ⊎ (s.status ≡ Ready) → (judged_in read s (ProcessSwPackage id tag)).1 ≡ Done → (judged_in read s (ProcessSwPackage id tag)).0 ≡ record (begin_processing s 0 id tag) { status = Processing }
@@ -305,7 +266,7 @@ module _ (read : Reading) (clusters : List (Cluster Bytes)) where
       let from = process-from s.status id tag l.1 in
       let idle : s.status ≡ Idle = elim from [
         | inl e ↦ e
-        | inr e ↦ absurd (let m = mine-of s v (not-idle s Ready e refl) l.0 in let f : ⊥ = cc (none, m.1) in f)
+        | inr e ↦ absurd (let m = mine-of s v (not-idle s Ready e refl) l.0 in cc (none, m.1))
       ] in
       let e = process-led s id tag from d in
       let o = none-there s v idle in
@@ -341,5 +302,5 @@ module _ (read : Reading) (clusters : List (Cluster Bytes)) where
       )
     where
       right-false : (a b : Bool) → (a || b) ≡ false → b ≡ false
-      right-false true b q = absurd (let f : ⊥ = cc q in f)
+      right-false true b q = absurd (cc q)
       right-false false b q = q

@@ -56,9 +56,8 @@ module _ (read : Reading) (keeps : KeepsNode read []) where
       after = kept_after (judged_in read x.state c).0 at c (judged_in read x.state c).1
 
       go : (a b : Bool) → (if a then x else (if b then x else rules.NodeRules.keep N (rules.NodeRules.judge N x c).0 at c (rules.NodeRules.judge N x c).1)).state ≡ (if a then x.state else (if b then x.state else after))
-      go true b = refl
-      go false true = refl
       go false false = ap (λ s. kept_after s at c (judged_in read x.state c).1) (state-is read [] keeps x c)
+      go _ _ = refl
 
   delivered-reached : (x : FitState read) (at : CallNo) (c : Call) → 0 < at.epoch → rules.reached (fit read [] keeps) x at c ≡ reached read x.state 0 at c
   delivered-reached x at c low = (delivered-is read [] x.state at c low).1

@@ -65,5 +65,4 @@ campaign-law read reading packages numbers clusters installed events w made k re
   where
     go : (keeps : KeepsNode read []) (y : engine.NodeWorld (fit read [] keeps)) → SameNode read keeps (w.node n) y → (r : CampaignResult) → law.IsLeft (fit read [] keeps) r k (parts_in read (packages k n)) y.moves → IsLeft read r k (packages k n) (w.node n)
     go keeps y same Successful h = left-new read keeps k (packages k n) (w.node n) y same h
-    go keeps y same Failed h = left-old read keeps k (packages k n) (w.node n) y same h
-    go keeps y same Cancelled h = left-old read keeps k (packages k n) (w.node n) y same h
+    go keeps y same _ h = left-old read keeps k (packages k n) (w.node n) y same h

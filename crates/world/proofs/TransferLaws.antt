@@ -88,7 +88,7 @@ found-changed c j id f k (t ∷ ts) =
 
 -- what is found passes
 pub find-passes : (p : Transfer → Bool) (ts : List Transfer) (t : Transfer) → find p ts ≡ Some t → p t ≡ true
-find-passes p [] t e = absurd (let f : ⊥ = cc e in f)
+find-passes p [] t e = absurd (cc e)
 find-passes p (y ∷ ys) t e = go (p y) refl e (λ q. find-passes p ys t q)
   where
     go : (b : Bool) → p y ≡ b → cond b (Some y) (find p ys) ≡ Some t → (find p ys ≡ Some t → p t ≡ true) → p t ≡ true
@@ -96,7 +96,7 @@ find-passes p (y ∷ ys) t e = go (p y) refl e (λ q. find-passes p ys t q)
     go false q h rec = rec h
 
 pub find-all : (P : Transfer → Type 0) (p : Transfer → Bool) (ts : List Transfer) (t : Transfer) → AllByRecursion P ts → find p ts ≡ Some t → P t
-find-all P p [] t a e = absurd (let f : ⊥ = cc e in f)
+find-all P p [] t a e = absurd (cc e)
 find-all P p (y ∷ ys) t a e = go (p y) e (λ q. find-all P p ys t a.1 q)
   where
     go : (b : Bool) → cond b (Some y) (find p ys) ≡ Some t → (find p ys ≡ Some t → P t) → P t
@@ -105,7 +105,7 @@ find-all P p (y ∷ ys) t a e = go (p y) e (λ q. find-all P p ys t a.1 q)
 
 pub and-true : (a b : Bool) → (a && b) ≡ true → (a ≡ true) × (b ≡ true)
 and-true true b e = (refl, e)
-and-true false b e = absurd (let f : ⊥ = cc e in f)
+and-true false b e = absurd (cc e)
 
 abbrev pub data-rest : Option Header → ℕ → ℕ → List (Bool × Refusal)
 data-rest found counter size =
@@ -169,10 +169,8 @@ module _ (read : Reading) (clusters : List (Cluster Bytes)) where
       resume (x ∷ xs) = refl
 
       go : (o : Option Goal) → (option_map_or (arrive s) o s).transfers ≡ s.transfers
-      go None = refl
-      go (Some (To status)) = refl
-      go (Some (CleanUp outcome)) = refl
       go (Some Resume) = resume (changes_in s)
+      go _ = refl
 
   pub process_received : (s : NodeState) (id tag : ℕ) → KeepsTransfers (real read clusters) s (judged_in read s (ProcessSwPackage id tag)).0
   process_received s id tag =
@@ -198,7 +196,7 @@ module _ (read : Reading) (clusters : List (Cluster Bytes)) where
       )
     where
       grows : (o : Option Transfer) → transfer_of s 0 id ≡ o → is_none (option_map (λ (t : Transfer). t.header) o) ≡ false → option_map_or (λ (y : Transfer). y.bytes) (option_map (changed id (λ t. record t { header = grown (length bytes) t.header; bytes = t.bytes ++ bytes })) o) [] ≡ option_map_or (λ (y : Transfer). y.bytes) o [] ++ bytes
-      grows None q f = absurd (let g : ⊥ = cc f in g)
+      grows None q f = absurd (cc f)
       grows (Some t) q f =
           let is : (t.header.id == id) ≡ true = (and-true (t.header.id == id) (t.header.client == 0) (find-passes (λ (y : Transfer). is_of 0 id y.header) s.transfers t q)).0 in
           ap (λ (b : Bool). (if b then record t { header = grown (length bytes) t.header; bytes = t.bytes ++ bytes } else t).bytes) is
@@ -209,7 +207,7 @@ module _ (read : Reading) (clusters : List (Cluster Bytes)) where
     where
       go : (o : Option Refusal) → (refused_or (reply.Started s.next_id) o) ≡ Started id → (after_reply s 0 (call.TransferStart size) (verdict_for read s 0 (call.TransferStart size)) (refused_or (reply.Started s.next_id) o) ≡ started s 0 size) × (id ≡ s.next_id)
       go None q = (refl, let z : s.next_id ≡ id = cc q in sym z)
-      go (Some why) q = absurd (let f : ⊥ = cc q in f)
+      go (Some why) q = absurd (cc q)
 
   ids-below : (next : ℕ) (ts : List Transfer) → AllByRecursion (IsSound next) ts → AllByRecursion (λ (n : ℕ). n < next) (map (λ (t : Transfer). t.header.id) (filter (λ (t : Transfer). t.header.client == 0) ts))
   ids-below next [] a = tt
@@ -292,7 +290,7 @@ module _ (read : Reading) (clusters : List (Cluster Bytes)) where
       over a t q k = let e = some-is a t q in subst (λ y. KeepsTransfers (real read clusters) s (with_entry (UnitAfter y.status) y)) e (record { transfers = k.transfers; received = k.received })
 
       in-process : (x : Session) (o : Option ℕ) (t : NodeState) → option_and_then (λ id. Some (process_unit s x id)) o ≡ Some t → KeepsTransfers (real read clusters) s (with_entry (UnitAfter t.status) t)
-      in-process x None t q = absurd (let f : ⊥ = cc q in f)
+      in-process x None t q = absurd (cc q)
       in-process x (Some id) t q = over (process_unit s x id) t q (process-transfers s x id)
 
       verified : (x : Session) (b : Bool) → KeepsTransfers (real read clusters) s (verify_unit s x b)
@@ -300,15 +298,12 @@ module _ (read : Reading) (clusters : List (Cluster Bytes)) where
       verified x false = keeps-all s (verify_unit s x false) refl
 
       go : (st : Status) (x : Session) (t : NodeState) → s.status ≡ st → unit_of s x passed st ≡ Some t → KeepsTransfers (real read clusters) s (with_entry (UnitAfter t.status) t)
-      go Idle x t e q = absurd (let f : ⊥ = cc q in f)
-      go Ready x t e q = absurd (let f : ⊥ = cc q in f)
       go Processing x t e q = in-process x x.processing t q
       go Activating x t e q = over (activate_unit s x) t q (keeps-all s (activate_unit s x) refl)
       go Verifying x t e q = over (verify_unit s x passed) t q (verified x passed)
-      go Activated x t e q = absurd (let f : ⊥ = cc q in f)
       go RollingBack x t e q = over (roll_back_unit s x) t q (keeps-all s (roll_back_unit s x) refl)
-      go RolledBack x t e q = absurd (let f : ⊥ = cc q in f)
       go CleaningUp x t e q = absurd (n e)
+      go _ x t e q = absurd (cc q)
 
   -- a package in processing
   parts-back : (id : ℕ) (parts : List (Part Bytes)) → map (λ (change : Change Bytes). change.part) (changes_of id parts) ≡ parts
@@ -328,10 +323,8 @@ module _ (read : Reading) (clusters : List (Cluster Bytes)) where
       in_process = ap (λ o. option_and_then (λ (y : Session). y.processing) o) e ∙ p
 
       of-phase : (t : Transfer) (phase : Phase) → t.header.phase ≡ phase → is_in BeingProcessed t.header ≡ true → IsRead read t phase → t.parts ≡ parts_read (read t.bytes)
-      of-phase t Transferring q i r = absurd (let z : is_in BeingProcessed (record t.header { phase = Transferring }) ≡ true = subst (λ (y : Phase). is_in BeingProcessed (record t.header { phase = y }) ≡ true) q i in let f : ⊥ = cc z in f)
-      of-phase t Transferred q i r = r
-      of-phase t BeingProcessed q i r = r
-      of-phase t Processed q i r = r
+      of-phase t Transferring q i r = absurd (let z : is_in BeingProcessed (record t.header { phase = Transferring }) ≡ true = subst (λ (y : Phase). is_in BeingProcessed (record t.header { phase = y }) ≡ true) q i in cc z)
+      of-phase t _ q i r = r
 
       go : (o : Option Transfer) → transfer_of s 0 id ≡ o → IsSomeAnd o (λ t. x.units_done < all_units t.parts) → parts_of (transfer_of s 0 id) ≡ parts_read (read (received_in s id))
       go None q h = absurd h

@@ -46,7 +46,7 @@ unit-is s passed x t e q =
 
 -- what no unit touches
 process-last : (s : NodeState) (x : Session) (o : Option ℕ) (t : NodeState) → option_and_then (λ id. Some (process_unit s x id)) o ≡ Some t → t.last ≡ s.last
-process-last s x None t e = absurd (let f : ⊥ = cc e in f)
+process-last s x None t e = absurd (cc e)
 process-last s x (Some id) t e = sym (ap (λ y. y.last) (some-is (process_unit s x id) t e)) ∙ go (nat_lt (x.units_done + 1) (all_units (parts_of_id s x id)))
   where
     some-is : (a b : NodeState) → Some a ≡ Some b → a ≡ b
@@ -57,8 +57,6 @@ process-last s x (Some id) t e = sym (ap (λ y. y.last) (some-is (process_unit s
     go false = refl
 
 unit-last : (s : NodeState) (x : Session) (passed : Bool) (st : Status) (t : NodeState) → unit_of s x passed st ≡ Some t → t.last ≡ s.last
-unit-last s x passed Idle t e = absurd (let f : ⊥ = cc e in f)
-unit-last s x passed Ready t e = absurd (let f : ⊥ = cc e in f)
 unit-last s x passed Processing t e = process-last s x x.processing t e
 unit-last s x passed Activating t e = sym (ap (λ y. y.last) (some-is (activate_unit s x) t e))
   where
@@ -72,16 +70,15 @@ unit-last s x passed Verifying t e = sym (ap (λ y. y.last) (some-is (verify_uni
     go : (b : Bool) → (verify_unit s x b).last ≡ s.last
     go true = refl
     go false = refl
-unit-last s x passed Activated t e = absurd (let f : ⊥ = cc e in f)
 unit-last s x passed RollingBack t e = sym (ap (λ y. y.last) (some-is (roll_back_unit s x) t e))
   where
     some-is : (a b : NodeState) → Some a ≡ Some b → a ≡ b
     some-is a b q = cc q
-unit-last s x passed RolledBack t e = absurd (let f : ⊥ = cc e in f)
 unit-last s x passed CleaningUp t e = sym (ap (λ y. y.last) (some-is (clean_up_unit s x) t e))
   where
     some-is : (a b : NodeState) → Some a ≡ Some b → a ≡ b
     some-is a b q = cc q
+unit-last s x passed _ t e = absurd (cc e)
 
 pub unit_last : (s : NodeState) (passed : Bool) → (last_in (unit_in s passed) ≡ last_in s) × (kept_in (unit_in s passed) ≡ kept_in s)
 unit_last s passed =
@@ -94,13 +91,9 @@ unit_still s passed w = unit-cases s passed (λ t. t ≡ s) refl (λ x e t q. ab
     no-unit : (st : Status) (x : Session) (t : NodeState) → is_working st ≡ false → unit_of s x passed st ≡ Some t → ⊥
     no-unit Idle x t w' q = cc q
     no-unit Ready x t w' q = cc q
-    no-unit Processing x t w' q = cc w'
-    no-unit Activating x t w' q = cc w'
-    no-unit Verifying x t w' q = cc w'
     no-unit Activated x t w' q = cc q
-    no-unit RollingBack x t w' q = cc w'
     no-unit RolledBack x t w' q = cc q
-    no-unit CleaningUp x t w' q = cc w'
+    no-unit _ x t w' q = cc w'
 
 -- client 0's session under a unit
 abbrev pub GoesTo : NodeState → NodeState → ℕ → (Status → Type 0) → Type 0
@@ -166,7 +159,7 @@ unit_cleaning s passed tag o v mine st out =
     end-is x tag' o' p q = go x.outcome p
       where
         go : (y : Option Outcome) → y ≡ Some o' → ◌≡◌ {A = Option EndMark} (elim y as (λ _. Option EndMark) [ None ↦ None | Some outcome ↦ Some (record { tag = x.tag; outcome = outcome }) ]) (Some (record { tag = tag'; outcome = o' }))
-        go None r = absurd (let f : ⊥ = cc r in f)
+        go None r = absurd (cc r)
         go (Some z) r = let w : z ≡ o' = cc r in ap (λ (n : ℕ). Some (record { tag = n; outcome = z })) q ∙ ap (λ (u : Outcome). Some (record { tag = tag'; outcome = u })) w
 
 -- what it leaves
@@ -202,7 +195,7 @@ pub processing_id : (s : NodeState) (tag : ℕ) → IsConsistent s → s.status 
 processing_id s tag v st = go (id_in_processing s) refl (v.processing.status ∙ ap (λ y. status_code y == 2) st)
   where
     go : (o : Option ℕ) → id_in_processing s ≡ o → is_some o ≡ true → (id : ℕ) × (id_in_processing s ≡ Some id)
-    go None e q = absurd (let f : ⊥ = cc q in f)
+    go None e q = absurd (cc q)
     go (Some id) e q = (id, e)
 
 pub cleaning_outcome : (s : NodeState) (tag : ℕ) → IsConsistent s → mine_in s ≡ Some tag → s.status ≡ CleaningUp → (o : Outcome) × (outcome_in s ≡ Some o)
@@ -211,5 +204,5 @@ cleaning_outcome s tag v mine st =
     go m.0.outcome (ap (λ y. option_and_then (λ (z : Session). z.outcome) y) m.1) (outcome-due s m.0 v m.1 ∙ ap (λ y. status_code y == 8) st)
   where
     go : (o : Option Outcome) → outcome_in s ≡ o → is_some o ≡ true → (o' : Outcome) × (outcome_in s ≡ Some o')
-    go None e q = absurd (let f : ⊥ = cc q in f)
+    go None e q = absurd (cc q)
     go (Some o) e q = (o, e)

@@ -31,30 +31,25 @@ eq-swap : (a b : List ℕ) → bytes_eq a b ≡ bytes_eq b a
 eq-swap a b = go (bytes_eq a b) (bytes_eq b a) refl refl
   where
     go : (x y : Bool) → bytes_eq a b ≡ x → bytes_eq b a ≡ y → x ≡ y
-    go true true p q = refl
-    go true false p q = absurd (let z = same-names b a (sym (eq-names a b p)) in let f : ⊥ = cc (z, q) in f)
-    go false true p q = absurd (let z = same-names a b (sym (eq-names b a q)) in let f : ⊥ = cc (z, p) in f)
-    go false false p q = refl
+    go true false p q = absurd (let z = same-names b a (sym (eq-names a b p)) in cc (z, q))
+    go false true p q = absurd (let z = same-names a b (sym (eq-names b a q)) in cc (z, p))
+    go _ _ p q = refl
 
 lt-not_eq : (a b : List ℕ) → bytes_eq a b ≡ true → name_lt a b ≡ false
 lt-not_eq a b e = go (slice_cmp nat_cmp a b) (sym (texts_ties a b) ∙ e)
   where
     go : (o : Ordering) → is_eq o ≡ true → is_lt o ≡ false
-    go Less q = absurd (let f : ⊥ = cc q in f)
-    go Equal q = refl
-    go Greater q = refl
+    go Less q = absurd (cc q)
+    go _ q = refl
 
 lt-other : (a b : List ℕ) → bytes_eq a b ≡ false → name_lt b a ≡ not (name_lt a b)
 lt-other a b e = go (slice_cmp nat_cmp a b) (slice_cmp nat_cmp b a) (sym (texts_ties a b) ∙ e) (nat_list_cmp_total.antisymm a b)
   where
     go : (o p : Ordering) → is_eq o ≡ false → o ≡ ordering_reverse p → is_lt p ≡ not (is_lt o)
-    go Less Less q r = absurd (let f : ⊥ = cc r in f)
-    go Less Equal q r = absurd (let f : ⊥ = cc r in f)
     go Less Greater q r = refl
-    go Equal p q r = absurd (let f : ⊥ = cc q in f)
+    go Equal p q r = absurd (cc q)
     go Greater Less q r = refl
-    go Greater Equal q r = absurd (let f : ⊥ = cc r in f)
-    go Greater Greater q r = absurd (let f : ⊥ = cc r in f)
+    go _ _ q r = absurd (cc r)
 
 -- a filter by name keeps what is found, or leaves nothing
 found-by_name : (q : List ℕ → Bool) (name : List ℕ) (cs : List (Cluster Bytes)) → find (λ (c : Cluster Bytes). bytes_eq c.name name) (filter (λ (d : Cluster Bytes). q d.name) cs) ≡ cond (q name) (find (λ (c : Cluster Bytes). bytes_eq c.name name) cs) None
@@ -87,7 +82,7 @@ with-at c cs name =
     or-none (Some x) = refl
 
     go : (e : Bool) → bytes_eq c.name name ≡ e → (l : Bool) → name_lt name c.name ≡ l → option_or (cond l (cluster_at cs name) None) (cond e (Some c) (cond (name_lt c.name name) (cluster_at cs name) None)) ≡ cond e (Some c) (cluster_at cs name)
-    go true p true q = absurd (let z = lt-not_eq name c.name (eq-swap name c.name ∙ p) in let f : ⊥ = cc (z, q) in f)
+    go true p true q = absurd (let z = lt-not_eq name c.name (eq-swap name c.name ∙ p) in cc (z, q))
     go true p false q = refl
     go false p true q =
         let z : name_lt c.name name ≡ false = lt-other name c.name (eq-swap name c.name ∙ p) ∙ ap not q in
@@ -107,9 +102,8 @@ changed-at : (p : Part Bytes) (cs : List (Cluster Bytes)) (name : List ℕ) → 
 changed-at p cs name = go p.manifest.action
   where
     go : (a : Action) → cluster_at (changed_as a (brought p) cs) name ≡ cond (bytes_eq (cluster_of p) name) (left_by a (brought p)) (cluster_at cs name)
-    go Install = with-at (brought p) cs name
-    go Update = with-at (brought p) cs name
     go Remove = without-at (cluster_of p) cs name
+    go _ = with-at (brought p) cs name
 
 -- the clusters after the parts, each in turn
 abbrev pub run_parts : List (Part Bytes) → List (Cluster Bytes) → List (Cluster Bytes)
@@ -121,7 +115,7 @@ planned-run [] cs = refl
 planned-run (c ∷ changes) cs = planned-run changes (changed_by c.part cs)
 
 or-false : (a b : Bool) → (a || b) ≡ false → (a ≡ false) × (b ≡ false)
-or-false true b e = absurd (let f : ⊥ = cc e in f)
+or-false true b e = absurd (cc e)
 or-false false b e = (refl, e)
 
 -- a name that no part has
@@ -133,10 +127,10 @@ run-others (p ∷ ps) cs name h =
 
 and-both : (a b : Bool) → (a && b) ≡ true → (a ≡ true) × (b ≡ true)
 and-both true b e = (refl, e)
-and-both false b e = absurd (let f : ⊥ = cc e in f)
+and-both false b e = absurd (cc e)
 
 not-true : (b : Bool) → not b ≡ true → b ≡ false
-not-true true e = absurd (let f : ⊥ = cc e in f)
+not-true true e = absurd (cc e)
 not-true false e = refl
 
 run-named : (ps : List (Part Bytes)) (cs : List (Cluster Bytes)) (p : Part Bytes) → all_differ (map cluster_of ps) ≡ true → InParts p ps → cluster_at (run_parts ps cs) (cluster_of p) ≡ left_by p.manifest.action (brought p)

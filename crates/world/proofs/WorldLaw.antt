@@ -15,5 +15,4 @@ world-law N laws packages numbers openings events w made k result entered n low 
   where
     go : (r : CampaignResult) → InEarlier (k, r) w.fold.earlier → IsLeft N r k (flat_map N.changes_of (packages k n)) (w.node n).moves
     go Successful h = new-law N laws packages numbers (early N laws packages numbers) openings events w made k h n low high steps
-    go Failed h = old-law N laws packages numbers openings events w made k Failed h (λ e. let f : ⊥ = cc e in f) n
-    go Cancelled h = old-law N laws packages numbers openings events w made k Cancelled h (λ e. let f : ⊥ = cc e in f) n
+    go x h = old-law N laws packages numbers openings events w made k x h (λ e. cc e) n

@@ -46,12 +46,8 @@ started-after f (Begin k named) r h = λ c q. by (may_begin f k named) refl r
     by : (b : Bool) → may_begin f k named ≡ b → unless b ≡ None → 0 < f.epoch
     by true p j = let z = leb-true 1 f.epoch (and_parts (nat_le 1 f.epoch) _ p).0 in omega (arith, z)
     by false p j = absurd (cc)
-started-after f (PhaseTo p) r h = kept-current f (PhaseTo p) h
-started-after f (VoteOf n v) r h = kept-current f (VoteOf n v) h
-started-after f CancelAsked r h = kept-current f CancelAsked h
-started-after f (Decide d) r h = kept-current f (Decide d) h
-started-after f (EndedAt n o) r h = kept-current f (EndedAt n o) h
 started-after f (Enter x) r h = λ c q. absurd (cc)
+started-after f x r h = kept-current f x h
 
 nth-has : (P : Message → Type 0) (ms : List Message) (i : ℕ) (m : Message) → AllByRecursion P ms → nth_sent ms i ≡ Some m → P m
 nth-has P [] i m h e = absurd (cc)
@@ -122,17 +118,13 @@ module _ (read : Reading) (keeps : KeepsNode read []) (packages : Packages) (num
       positive (Some c) e m = h.started c e
 
   evidence : (w : World) (v : engine.World (fit read [] keeps)) (e : MasterEvent) → SameWorld read keeps w v → HasEvidence packages numbers w e → engine.Evidence (fit read [] keeps) packages numbers v e
-  evidence w v (Start epoch) h has = tt
   evidence w v (Begin k named) h has = has
-  evidence w v (PhaseTo p) h has = tt
   evidence w v (VoteOf n vote) h has = subst (VoteEvidence vote) (sym (h.node n).told) has
-  evidence w v CancelAsked h has = tt
-  evidence w v (Decide d) h has = tt
   evidence w v (EndedAt n o) h has =
       subst (λ (f : Fold). InCurrent f.current (λ c. EndEvidence f.epoch c (v.node n).told (v.node n).sent)) (sym h.fold)
       (subst (λ ts. InCurrent (fold_of w).current (λ c. EndEvidence (fold_of w).epoch c ts (v.node n).sent)) (sym (h.node n).told)
       (subst (λ ms. InCurrent (fold_of w).current (λ c. EndEvidence (fold_of w).epoch c (w.node n).told ms)) (sym (h.node n).sent) has))
-  evidence w v (Enter r) h has = tt
+  evidence w v _ h has = tt
 
   same-recorded : (w : World) (v : engine.World (fit read [] keeps)) (e : MasterEvent) → SameWorld read keeps w v → HasStarted (after_event v.fold e) → SameWorld read keeps (recorded w e) (engine.recorded (fit read [] keeps) v e)
   same-recorded w v e h started = go (empties e)
