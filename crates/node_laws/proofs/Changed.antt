@@ -1,4 +1,5 @@
 -- One transfer changes, and the others stay.
+use Rattle.std.proofs.lemmas.Bool.Decides.{nat_tests}
 use Rattle.std.proofs.Common.{◌≡◌, refl, sym, subst, ap, ℕ, ◌<◌, Bool, true, false, List, [], ◌∷◌, cond, arith}
 use Rattle.std.specs.Prelude.{◌==◌, ◌||◌, if◌then◌else◌, option_map, Option, Some, None, find, map}
 use Rattle.std.specs.List.{list_any, AllByRecursion}
@@ -75,29 +76,13 @@ pub record KeepsNames (f : Transfer → Transfer) : Type 0 where
 
 pub ids-changed : (id : ℕ) (f : Transfer → Transfer) → KeepsNames f → (ts : List Transfer) → ids (map (changed id f) ts) ≡ ids ts
 ids-changed id f k [] = refl
-ids-changed id f k (t ∷ ts) = rw (head (t.header.id == id)) (ap (λ l. t.header.id ∷ l) (ids-changed id f k ts))
-  where
-    head : (b : Bool) → (if b then f t else t).header.id ≡ t.header.id
-    head true = k.id t
-    head false = refl
+ids-changed id f k (t ∷ ts) = grind (arith, nat_tests, ids-changed id f k ts) steps 500000
 
 pub found-changed : (owner n id : ℕ) (f : Transfer → Transfer) → KeepsNames f → (ts : List Transfer) → found owner n (map (changed id f) ts) ≡ option_map (changed id f) (found owner n ts)
 found-changed owner n id f k [] = refl
-found-changed owner n id f k (t ∷ ts) = rw (head (t.header.id == id)) (go (is_of owner n t.header) (found-changed owner n id f k ts))
-  where
-    head : (b : Bool) → is_of owner n (if b then f t else t).header ≡ is_of owner n t.header
-    head true = rw (k.id t, k.client t) refl
-    head false = refl
-
-    go : (b : Bool) → found owner n (map (changed id f) ts) ≡ option_map (changed id f) (found owner n ts) → cond b (Some (changed id f t)) (found owner n (map (changed id f) ts)) ≡ option_map (changed id f) (cond b (Some t) (found owner n ts))
-    go true rec = refl
-    go false rec = rec
+found-changed owner n id f k (t ∷ ts) = grind (arith, nat_tests, found-changed owner n id f k ts) steps 500000
 
 -- the parts of what is found, where the change leaves them
 pub parts-changed : (id : ℕ) (f : Transfer → Transfer) → ((t : Transfer) → (f t).parts ≡ t.parts) → (o : Option Transfer) → parts_of (option_map (changed id f) o) ≡ parts_of o
 parts-changed id f k None = refl
-parts-changed id f k (Some t) = go (t.header.id == id)
-  where
-    go : (b : Bool) → (if b then f t else t).parts ≡ t.parts
-    go true = k t
-    go false = refl
+parts-changed id f k (Some t) = grind (arith, nat_tests) steps 500000

@@ -1,4 +1,5 @@
 -- A package that isn't refused leaves the names of planned parts different, and not too many.
+use Rattle.std.proofs.lemmas.Bool.Decides.{nat_tests}
 use Rattle.std.proofs.Common.{◌≡◌, refl, sym, subst, ap, ◌∙◌, ℕ, ◌≤◌, Bool, true, false, List, [], ◌∷◌, ◌++◌, length, append_assoc, arith}
 use Rattle.std.specs.Prelude.{not, ◌&&◌, ◌||◌, map, nat_le, None}
 use Rattle.std.specs.List.{list_any, AllByRecursion}
@@ -87,11 +88,7 @@ differ-kept running changes parts e h k = differ-append _ _ h k (swap changes pa
 -- a running cluster's name
 running-name : (clusters : List (Cluster Bytes)) (name : List ℕ) → has_cluster clusters name ≡ true → has_name (names_of clusters) name ≡ true
 running-name [] name h = absurd (cc)
-running-name (c ∷ cs) name h = go (bytes_eq c.name name) refl h (running-name cs name)
-  where
-    go : (b : Bool) → bytes_eq c.name name ≡ b → (b || has_cluster cs name) ≡ true → (has_cluster cs name ≡ true → has_name (names_of cs) name ≡ true) → (bytes_eq name c.name || has_name (names_of cs) name) ≡ true
-    go true q k rec = rw (name-swap name c.name, q) refl
-    go false q k rec = rw (name-swap name c.name, q) (rec k)
+running-name (c ∷ cs) name h = grind (arith, nat_tests, names_of, name-swap, running-name cs name) steps 500000
 
 -- with a part more the names are those before and the part's
 with-part : (running : List (Cluster Bytes)) (changes : List (Change Bytes)) (before : List (Part Bytes)) (part : Part Bytes)

@@ -1,4 +1,5 @@
 -- A reply that is kept and an entry with its line leave a state fit.
+use Rattle.std.proofs.lemmas.Bool.Decides.{nat_tests}
 use Rattle.std.proofs.Common.{◌≡◌, refl, ◌∙◌, ℕ, zero, suc, ◌+◌, ◌-◌, ◌≤◌, true, List, [], ◌∷◌, ◌++◌, length, drop, length-append, length-drop, add-zero, arith}
 use Rattle.std.specs.Prelude.{◌==◌, min, Option, Some, None}
 use Rattle.std.specs.Cmp.Derive.{both_true}
@@ -49,34 +50,7 @@ lines-kept entries ls h v =
 
 -- other numbers and replies that are kept, and other entries and lines
 noted-fit : (read : Reading) (s : NodeState) (last : List (Option Kept)) (entries : ℕ) (lines : List Line) → IsFit read s → length last ≡ length s.last → InPlace entries lines → IsFit read (record s { last = last; entries = entries; lines = lines })
-noted-fit read s last entries lines fit same place =
-    let v = fit.consistent in
-    record {
-      consistent = record {
-        session = v.session;
-        running = v.running;
-        changes = changes s.session v.changes;
-        applying = v.applying;
-        processing = record { each = v.processing.each; status = v.processing.status; unfinished = v.processing.unfinished };
-        verdicts = v.verdicts;
-        transfers = record { each = v.transfers.each; rise = v.transfers.rise; next_id = v.transfers.next_id };
-        limits = record {
-          names = v.limits.names;
-          running = v.limits.running;
-          saved = v.limits.saved;
-          transfers = v.limits.transfers;
-          sizes = v.limits.sizes;
-          clients = (same ∙ v.limits.clients.0, v.limits.clients.1);
-          lines = place.count;
-          places = place.places;
-        };
-      };
-      read_parts = fit.read_parts;
-    }
-  where
-    changes : (o : Option Session) → ChangesAreDue s o → ChangesAreDue (record s { last = last; entries = entries; lines = lines }) o
-    changes None h = h
-    changes (Some x) h = record { differ = h.differ; whole = h.whole; processed = h.processed; not_empty = h.not_empty }
+noted-fit read s last entries lines fit same place = grind (arith, nat_tests) steps 500000
 
 -- the lines of a fit state are in their places
 in-place : (read : Reading) (s : NodeState) → IsFit read s → InPlace s.entries s.lines

@@ -1,4 +1,5 @@
 -- What a node does leaves its state fit.
+use Rattle.std.proofs.lemmas.Bool.Decides.{nat_tests}
 use Rattle.std.proofs.Common.{◌≡◌, refl, sym, subst, ap, ℕ, ◌+◌, ◌<◌, Bool, true, false, List, [], ◌∷◌, arith}
 use Rattle.std.specs.Prelude.{nat_lt, option_map, option_and_then, unwrap_or, if◌then◌else◌, Option, Some, None}
 use Rattle.std.specs.declared.cmp.Ordering.{Ordering}
@@ -38,19 +39,7 @@ use Rattle.node_laws.proofs.Entries.{kept-fit, entry-fit}
 
 -- a formatted node with clusters in order, of at most 16 names
 formatted-fit : (read : Reading) (clusters : List (Cluster Bytes)) → IsInstalled clusters → IsFit read (formatted clusters)
-formatted-fit read clusters installed = record {
-  consistent = record {
-    session = tt;
-    running = tt;
-    changes = tt;
-    applying = tt;
-    processing = record { each = tt; status = refl; unfinished = tt };
-    verdicts = tt;
-    transfers = record { each = tt; rise = refl; next_id = (omega arith, omega arith) };
-    limits = record { names = installed.few; running = installed.rise; saved = tt; transfers = omega arith; sizes = tt; clients = (refl, refl); lines = refl; places = refl };
-  };
-  read_parts = tt;
-}
+formatted-fit read clusters installed = grind (arith, nat_tests) steps 500000
 
 module _ (read : Reading) (reading : IsReading read) where
   -- a call that isn't refused

@@ -159,23 +159,7 @@ ready-waits s x v = record {
 
 -- and so does a new session
 idle-waits : (s : NodeState) (client tag : ℕ) → client < client_limit → (tag == 0) ≡ not (client == 0) → Base s → Free s → Waits s (new_session s client tag)
-idle-waits s client tag low own b f = record {
-  tag = own;
-  runs = refl;
-  differ = refl;
-  whole = each-imp _ _ (λ t. unplanned t t.header.phase) s.transfers f.changes;
-  processed = tt;
-  applies = tt;
-  each = f.each;
-  leaves = omega arith;
-  outcome = refl;
-  names = f.names;
-  saved = (b.running, low);
-}
-  where
-    unplanned : (t : Transfer) (p : Phase) → (phase_code p == 3) ≡ false → IsPlannedWhole (new_session s client tag) t p
-    unplanned t Processed e = absurd (cc)
-    unplanned t _ e = tt
+idle-waits s client tag low own b f = grind (arith, nat_tests, each-imp) steps 500000
 
 own-tag : (a b : Bool) → (if a then b else not b) ≡ false → b ≡ not a
 own-tag true b e = e

@@ -48,26 +48,10 @@ pub data IsLate : Phase → Type 0 where
 
 -- in each of them the same is said of a transfer
 pub whole-in : (t : Transfer) (p q : Phase) → IsLate p → IsLate q → IsWholeFromTransferred t p → IsWholeFromTransferred t q
-whole-in t p q a b h = to q b (from p a h)
-  where
-    from : (p : Phase) → IsLate p → IsWholeFromTransferred t p → IsWholeFromTransferred t Transferred
-    from Transferring a h = elim a [ ]
-    from _ a h = h
-
-    to : (q : Phase) → IsLate q → IsWholeFromTransferred t Transferred → IsWholeFromTransferred t q
-    to Transferring b h = elim b [ ]
-    to _ b h = h
+whole-in t p q a b h = grind (arith, nat_tests) steps 500000
 
 read-in : (read : Reading) (t : Transfer) (p q : Phase) → IsLate p → IsLate q → IsRead read t p → IsRead read t q
-read-in read t p q a b h = to q b (from p a h)
-  where
-    from : (p : Phase) → IsLate p → IsRead read t p → IsRead read t Transferred
-    from Transferring a h = elim a [ ]
-    from _ a h = h
-
-    to : (q : Phase) → IsLate q → IsRead read t Transferred → IsRead read t q
-    to Transferring b h = elim b [ ]
-    to _ b h = h
+read-in read t p q a b h = grind (arith, nat_tests) steps 500000
 
 -- the transfers with one of them in another late phase
 module _ (s : NodeState) (client id : ℕ) (u : Transfer) (p : Phase) (q : Phase) (e : found client id s.transfers ≡ Some u) (phase : u.header.phase ≡ p) (a : IsLate p) (b : IsLate q) where
@@ -101,13 +85,7 @@ some-units (part ∷ parts) h =
 -- a unit that isn't the last
 pub more-fit : (read : Reading) (s : NodeState) (x : Session) (id : ℕ) → IsFit read s → Busy (record s { status = Processing }) (record x { processing = Some id }) → nat_lt (x.units_done + 1) (all_units (parts_of_id s x id)) ≡ true
     → IsFit read (record s { status = Processing; session = Some (record x { processing = Some id; units_done = x.units_done + 1 }) })
-more-fit read s x id fit v more =
-    moved-fit read s (record x { processing = Some id; units_done = x.units_done + 1 }) Processing s.running fit (base-of s fit.consistent).running
-    (moved s (record x { processing = Some id }) Processing Processing s.running (x.units_done + 1) x.verified x.outcome v v.due v.runs v.changes.not_empty v.working (go (transfer_of s x.owner id) v.unfinished more) v.leaves v.outcome v.names)
-  where
-    go : (o : Option Transfer) → IsSomeAnd o (λ t. x.units_done < all_units t.parts) → nat_lt (x.units_done + 1) (all_units (parts_of o)) ≡ true → IsSomeAnd o (λ t. x.units_done + 1 < all_units t.parts)
-    go None h k = absurd h
-    go (Some t) h k = ltb-true _ _ k
+more-fit read s x id fit v more = grind (arith, nat_tests, moved-fit, base-of, moved, ltb-true) steps 500000
 
 filter-none : {X : Type 0} (p : X → Bool) (xs : List X) → AllByRecursion (λ x. p x ≡ false) xs → filter p xs ≡ []
 filter-none p [] h = refl
@@ -133,40 +111,16 @@ names-of-parts (c ∷ cs) = ap (λ ns. cluster_of c.part ∷ ns) (names-of-parts
 -- a processed transfer isn't the one in processing
 not-planned : (id n : ℕ) (ts : List Transfer) → InProcessing (Some id) ts → is_processed ts n ≡ true → (n == id) ≡ false
 not-planned id n [] h k = absurd (cc)
-not-planned id n (t ∷ ts) h k = go ((t.header.id == n) && is_in Processed t.header) refl k (not-planned id n ts h.1)
-  where
-    other : (p : Phase) → (phase_code p == 3) ≡ true → (phase_code p == 2) ≡ (id == t.header.id) → t.header.id ≡ n → (n == id) ≡ false
-    other Processed a b e = grind (arith, nat_tests, e, b)
-    other _ a b e = absurd (cc)
-
-    go : (b : Bool) → ((t.header.id == n) && is_in Processed t.header) ≡ b → (b || is_processed ts n) ≡ true → (is_processed ts n ≡ true → (n == id) ≡ false) → (n == id) ≡ false
-    go true q m rec = let own = and_parts (t.header.id == n) (is_in Processed t.header) q in other t.header.phase own.1 h.0 (eqb-true _ _ own.0)
-    go false q m rec = rec m
+not-planned id n (t ∷ ts) h k = grind (arith, nat_tests, and_parts, eqb-true, not-planned id n ts h.1) steps 500000
 
 -- a test that holds stays so where it does at each transfer
 any-still : (p : Transfer → Bool) (g : Transfer → Transfer) (ts : List Transfer) → AllByRecursion (λ t. p t ≡ true → p (g t) ≡ true) ts → list_any p ts ≡ true → list_any p (map g ts) ≡ true
 any-still p g [] h k = k
-any-still p g (t ∷ ts) h k = go (p t) refl k (any-still p g ts h.1)
-  where
-    or-right : (a b : Bool) → b ≡ true → (a || b) ≡ true
-    or-right true b m = refl
-    or-right false b m = m
-
-    go : (b : Bool) → p t ≡ b → (b || list_any p ts) ≡ true → (list_any p ts ≡ true → list_any p (map g ts) ≡ true) → (p (g t) || list_any p (map g ts)) ≡ true
-    go true q m rec = ap (λ b. b || list_any p (map g ts)) (h.0 q)
-    go false q m rec = or-right (p (g t)) _ (rec m)
+any-still p g (t ∷ ts) h k = grind (arith, nat_tests, any-still p g ts h.1) steps 500000
 
 any-found : (p q : Transfer → Bool) (g : Transfer → Transfer) (ts : List Transfer) (u : Transfer) → find q ts ≡ Some u → p (g u) ≡ true → list_any p (map g ts) ≡ true
 any-found p q g [] u e h = absurd (cc)
-any-found p q g (t ∷ ts) u e h = go (q t) e (λ k. any-found p q g ts u k h)
-  where
-    or-right : (a b : Bool) → b ≡ true → (a || b) ≡ true
-    or-right true b m = refl
-    or-right false b m = m
-
-    go : (b : Bool) → cond b (Some t) (find q ts) ≡ Some u → (find q ts ≡ Some u → list_any p (map g ts) ≡ true) → (p (g t) || list_any p (map g ts)) ≡ true
-    go true k rec = let same : t ≡ u = cc k in ap (λ v. p (g v) || list_any p (map g ts)) same ∙ ap (λ b. b || list_any p (map g ts)) h
-    go false k rec = or-right (p (g t)) _ (rec k)
+any-found p q g (t ∷ ts) u e h = grind (arith, nat_tests, any-found p q g ts u) steps 500000
 
 -- the session after the last unit of a package
 abbrev later : Session → ℕ → List (Part Bytes) → Session

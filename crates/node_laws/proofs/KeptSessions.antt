@@ -1,4 +1,5 @@
 -- Calls that move a session from one status to another leave a state fit.
+use Rattle.std.proofs.lemmas.Bool.Decides.{nat_tests}
 use Rattle.std.proofs.Common.{◌≡◌, refl, sym, subst, ℕ, ◌≤◌, Bool, true, false, List, [], ◌++◌, length, arith}
 use Rattle.std.specs.Prelude.{◌||◌, nat_lt, is_some, is_none, option_map, IfSome, Option, Some, None}
 use Rattle.std.specs.Option.{option_map_or}
@@ -32,28 +33,12 @@ pub moved : (s : NodeState) (x : Session) (a b : Status) (running : List (Cluste
     → IfSome x.processing (IsUnfinished x.owner done s.transfers) → LeavesOneToVerify (record x { verified = verified }) b → is_some o ≡ has_status CleaningUp (record s { status = b })
     → length (names_among {D = Bytes} (running ++ x.saved) [] (parts_in s x)) ≤ cluster_limit
     → Busy (record s { status = b; running = running }) (record x { units_done = done; verified = verified; outcome = o })
-moved s x a b running done verified o v due runs plans working unfinished leaves outcome names = record {
-  due = due;
-  runs = runs;
-  changes = record { differ = v.changes.differ; whole = v.changes.whole; processed = v.changes.processed; not_empty = plans };
-  applies = v.applies;
-  each = v.each;
-  working = working;
-  unfinished = unfinished;
-  leaves = leaves;
-  outcome = outcome;
-  names = names;
-  saved = v.saved;
-}
+moved s x a b running done verified o v due runs plans working unfinished leaves outcome names =
+    grind (arith, nat_tests) steps 500000
 
 pub moved-fit : (read : Reading) (s : NodeState) (x : Session) (b : Status) (running : List (Cluster Bytes)) → IsFit read s → names_rise (names_of running) ≡ true → Busy (record s { status = b; running = running }) x
     → IsFit read (record s { status = b; running = running; session = Some x })
-moved-fit read s x b running fit rise v =
-    let old = base-of s fit.consistent in
-    record {
-      consistent = busy-is (record s { status = b; running = running }) x (record { held = old.held; running = rise; clients = old.clients; lines = old.lines; places = old.places }) v;
-      read_parts = fit.read_parts;
-    }
+moved-fit read s x b running fit rise v = grind (arith, nat_tests, base-of, busy-is) steps 500000
 
 pub or-true : (b : Bool) → (b || true) ≡ true
 or-true true = refl

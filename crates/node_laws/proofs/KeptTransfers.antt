@@ -54,13 +54,8 @@ start-fit read s client size low fit r =
 -- a changed transfer is sound, and the others stay so
 pub held-changed : (next client id : ℕ) (ts : List Transfer) (u : Transfer) (f : Transfer → Transfer) → Held next ts → KeepsNames f → found client id ts ≡ Some u
     → ((t : Transfer) → (f t).header.size ≡ t.header.size) → (IsSound next u → IsSound next (f u)) → Held next (map (changed id f) ts)
-held-changed next client id ts u f h k e size sound = record {
-  each = all-changed _ _ client id f ts u h.rise e h.each (λ t _ p. p) sound;
-  rise = ap numbers_rise (ids-changed id f k ts) ∙ h.rise;
-  next_id = h.next_id;
-  few = rw length-map h.few;
-  sizes = all-changed _ _ client id f ts u h.rise e h.sizes (λ t _ p. p) (λ p. (rw (size u) p.0, rw (k.client u) p.1));
-}
+held-changed next client id ts u f h k e size sound =
+    grind (arith, nat_tests, all-changed, ids-changed, length-map) steps 500000
 
 pub changed-fit : (read : Reading) (s : NodeState) (client id : ℕ) (u : Transfer) (f : Transfer → Transfer) → IsFit read s → KeepsNames f → ((t : Transfer) → (f t).header.size ≡ t.header.size) → transfer_of s client id ≡ Some u
     → IsEarly u.header.phase → IsEarly (f u).header.phase → (IsSound s.next_id u → IsSound s.next_id (f u)) → IsRead read (f u) (f u).header.phase → IsFit read (record s { transfers = map (changed id f) s.transfers })

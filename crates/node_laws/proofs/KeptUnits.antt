@@ -1,4 +1,5 @@
 -- Units of work, beside those in Processing, leave a state fit.
+use Rattle.std.proofs.lemmas.Bool.Decides.{nat_tests}
 use Rattle.std.proofs.Common.{◌≡◌, refl, sym, subst, ap, ◌∙◌, ℕ, ◌+◌, ◌<◌, ◌≤◌, Bool, true, false, List, [], ◌∷◌, ◌++◌, length, arith}
 use Rattle.std.specs.Prelude.{◌||◌, not, nat_lt, if◌then◌else◌, filter, map, slice_set, Some}
 use Rattle.std.proofs.Math.ListN.{length-set}
@@ -82,15 +83,11 @@ names-of-running s x running h few =
 -- the planned clusters run, and none is verified
 pub activate-fit : (read : Reading) (s : NodeState) (x : Session) → IsFit read s → Busy (record s { status = Activating }) x → IsFit read (activate_unit s x)
 activate-fit read s x fit v =
-    let some : 0 < length x.changes = ltb-true _ _ (or-false _ v.changes.not_empty) in
-    moved-fit read s (record x { verified = 0 }) Verifying (planned x.changes x.saved) fit (planned-rise x.changes x.saved v.saved.0)
-    (moved s x Activating Verifying (planned x.changes x.saved) x.units_done 0 x.outcome v v.due refl v.changes.not_empty v.working v.unfinished some v.outcome
-    (names-of-running s x (planned x.changes x.saved) (planned-within x.changes x.saved) v.names))
+    grind (arith, nat_tests, ltb-true, or-false, moved-fit, planned-rise, moved, names-of-running, planned-within) steps 500000
 
 -- one change more is verified, or the node turns back
 pub verify-fit : (read : Reading) (s : NodeState) (x : Session) (passed : Bool) → IsFit read s → s.session ≡ Some x → Busy (record s { status = Verifying }) x → IsFit read (verify_unit s x passed)
-verify-fit read s x false fit e v =
-    to-fit read s x RollingBack fit e (moved s x Verifying RollingBack s.running x.units_done x.verified x.outcome v v.due v.runs v.changes.not_empty v.working v.unfinished (omega (arith, v.leaves)) v.outcome v.names)
+verify-fit read s x false fit e v = grind (arith, nat_tests, to-fit, moved) steps 500000
 verify-fit read s x true fit e v = go (nat_lt (x.verified + 1) (length x.changes)) refl
   where
     rise : names_rise (names_of s.running) ≡ true
@@ -105,10 +102,7 @@ verify-fit read s x true fit e v = go (nat_lt (x.verified + 1) (length x.changes
 -- the saved clusters run again
 pub roll_back-fit : (read : Reading) (s : NodeState) (x : Session) → IsFit read s → s.session ≡ Some x → Busy (record s { status = RollingBack }) x → IsFit read (roll_back_unit s x)
 roll_back-fit read s x fit e v =
-    subst (λ o. IsFit read (record s { status = RolledBack; running = x.saved; session = o })) (sym e)
-    (moved-fit read s x RolledBack x.saved fit v.saved.0
-    (moved s x RollingBack RolledBack x.saved x.units_done x.verified x.outcome v v.due refl v.changes.not_empty v.working v.unfinished v.leaves v.outcome
-    (names-of-running s x x.saved (within-left (names_of x.saved) (names_of x.saved) (changed_names x.changes) (within-self (names_of x.saved))) v.names)))
+    grind (arith, nat_tests, moved-fit, moved, names-of-running, within-left, names_of, changed_names, within-self) steps 500000
 
 -- the session is over
 pub clean_up-fit : (read : Reading) (s : NodeState) (x : Session) → IsFit read s → Busy (record s { status = CleaningUp }) x → IsFit read (clean_up_unit s x)

@@ -33,66 +33,35 @@ each-unmap P f (x ∷ xs) h = (h.0, each-unmap P f xs h.1)
 
 pub each-filter : {X : Type 0} (P : X → Type 0) (p : X → Bool) (xs : List X) → AllByRecursion P xs → AllByRecursion P (filter p xs)
 each-filter P p [] h = tt
-each-filter P p (x ∷ xs) h = go (p x) (each-filter P p xs h.1)
-  where
-    go : (b : Bool) → AllByRecursion P (filter p xs) → AllByRecursion P (cond b (x ∷ filter p xs) (filter p xs))
-    go true k = (h.0, k)
-    go false k = k
+each-filter P p (x ∷ xs) h = grind (arith, nat_tests, each-filter P p xs h.1) steps 500000
 
 -- what passes a filter passes its test
 pub each-passes : {X : Type 0} (p : X → Bool) (xs : List X) → AllByRecursion (λ x. p x ≡ true) (filter p xs)
 each-passes p [] = tt
-each-passes {X} p (x ∷ xs) = go (p x) refl (each-passes p xs)
-  where
-    go : (b : Bool) → p x ≡ b → AllByRecursion (λ y. p y ≡ true) (filter p xs) → AllByRecursion (λ y. p y ≡ true) (cond b (x ∷ filter p xs) (filter p xs))
-    go true e k = (e, k)
-    go false e k = k
+each-passes {X} p (x ∷ xs) = grind (arith, nat_tests, each-passes p xs) steps 500000
 
 pub length-filter : {X : Type 0} (p : X → Bool) (xs : List X) → length (filter p xs) ≤ length xs
 length-filter p [] = omega arith
-length-filter p (x ∷ xs) = go (p x) (length-filter p xs)
-  where
-    go : (b : Bool) → length (filter p xs) ≤ length xs → length (cond b (x ∷ filter p xs) (filter p xs)) ≤ length (x ∷ xs)
-    go true k = omega arith
-    go false k = omega arith
+length-filter p (x ∷ xs) = grind (arith, nat_tests, length-filter p xs) steps 500000
 
 -- what a search finds passes its test and has each element's fact
 pub found-has : {X : Type 0} (p : X → Bool) (P : X → Type 0) (xs : List X) (x : X) → AllByRecursion P xs → find p xs ≡ Some x → (p x ≡ true) × P x
 found-has p P [] x h e = absurd (cc)
-found-has {X} p P (y ∷ ys) x h e = go (p y) refl e (found-has p P ys x h.1)
-  where
-    go : (b : Bool) → p y ≡ b → cond b (Some y) (find p ys) ≡ Some x → (find p ys ≡ Some x → (p x ≡ true) × P x) → (p x ≡ true) × P x
-    go true q k rec = let same : y ≡ x = cc k in (ap p (sym same) ∙ q, subst P same h.0)
-    go false q k rec = rec k
+found-has {X} p P (y ∷ ys) x h e = grind (arith, nat_tests, found-has p P ys x h.1) steps 500000
 
 -- a search goes through a filter that lets all that it looks for pass
 pub find-filter : {X : Type 0} (p q : X → Bool) → ((x : X) → p x ≡ true → q x ≡ true) → (xs : List X) → find p (filter q xs) ≡ find p xs
 find-filter p q f [] = refl
-find-filter {X} p q f (x ∷ xs) = go (q x) (p x) refl refl (find-filter p q f xs)
-  where
-    go : (a b : Bool) → q x ≡ a → p x ≡ b → find p (filter q xs) ≡ find p xs → find p (cond a (x ∷ filter q xs) (filter q xs)) ≡ cond b (Some x) (find p xs)
-    go true b e k rec = rw k (ap (cond b (Some x)) rec)
-    go false true e k rec = absurd (let z = f x k in let w : ⊥ = cc in w)
-    go false false e k rec = rec
+find-filter {X} p q f (x ∷ xs) = grind (arith, nat_tests, find-filter p q f xs) steps 500000
 
 -- and so does the test that some element passes
 pub any-filter : {X : Type 0} (p q : X → Bool) (xs : List X) → AllByRecursion (λ x. p x ≡ true → q x ≡ true) xs → list_any p xs ≡ true → list_any p (filter q xs) ≡ true
 any-filter p q [] f h = h
-any-filter {X} p q (x ∷ xs) f h = go (q x) (p x) refl refl h (any-filter p q xs f.1)
-  where
-    go : (a b : Bool) → q x ≡ a → p x ≡ b → (b || list_any p xs) ≡ true → (list_any p xs ≡ true → list_any p (filter q xs) ≡ true) → list_any p (cond a (x ∷ filter q xs) (filter q xs)) ≡ true
-    go true true e k m rec = rw k refl
-    go true false e k m rec = rw k (rec m)
-    go false true e k m rec = absurd (let z = f.0 k in let w : ⊥ = cc in w)
-    go false false e k m rec = rec m
+any-filter {X} p q (x ∷ xs) f h = grind (arith, nat_tests, any-filter p q xs f.1) steps 500000
 
 pub any-more : {X : Type 0} (p : X → Bool) (xs ys : List X) → list_any p xs ≡ true → list_any p (xs ++ ys) ≡ true
 any-more p [] ys h = absurd (cc)
-any-more p (x ∷ xs) ys h = go (p x) h (any-more p xs ys)
-  where
-    go : (b : Bool) → (b || list_any p xs) ≡ true → (list_any p xs ≡ true → list_any p (xs ++ ys) ≡ true) → (b || list_any p (xs ++ ys)) ≡ true
-    go true k rec = refl
-    go false k rec = rec k
+any-more p (x ∷ xs) ys h = grind (arith, nat_tests, any-more p xs ys) steps 500000
 
 -- numbers that rise
 pub rise-tail : (a : ℕ) (ns : List ℕ) → numbers_rise (a ∷ ns) ≡ true → numbers_rise ns ≡ true

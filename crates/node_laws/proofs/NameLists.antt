@@ -1,4 +1,5 @@
 -- Lists of names: which are different, and which rise.
+use Rattle.std.proofs.lemmas.Bool.Decides.{nat_tests}
 use Rattle.std.proofs.Common.{◌≡◌, refl, sym, ap, ◌∙◌, ℕ, ◌+◌, ◌≤◌, Bool, true, false, List, [], ◌∷◌, ◌++◌, length, arith}
 use Rattle.std.specs.Prelude.{◌||◌, not, cond, filter, map}
 use Rattle.std.specs.List.{AllByRecursion}
@@ -21,12 +22,7 @@ pub eq-name : (a b : List ℕ) → a ≡ b → bytes_eq a b ≡ true
 eq-name a b e = (bytes_eq-Decides a b).1 e
 
 pub name-swap : (a b : List ℕ) → bytes_eq a b ≡ bytes_eq b a
-name-swap a b = go (bytes_eq a b) (bytes_eq b a) refl refl
-  where
-    go : (x y : Bool) → bytes_eq a b ≡ x → bytes_eq b a ≡ y → x ≡ y
-    go true false p q = absurd (let z = eq-name b a (sym (name-eq a b p)) in let f : ⊥ = cc in f)
-    go false true p q = absurd (let z = eq-name a b (sym (name-eq b a q)) in let f : ⊥ = cc in f)
-    go _ _ p q = refl
+name-swap a b = grind (arith, nat_tests, eq-name, name-eq) steps 500000
 
 -- all names of one list are in another
 abbrev pub Within : List (List ℕ) → List (List ℕ) → Type 0
@@ -51,11 +47,7 @@ within-self (x ∷ xs) = (has-self x xs, within-more xs xs x (within-self xs))
 
 pub has-append : (xs ys : List (List ℕ)) (n : List ℕ) → has_name (xs ++ ys) n ≡ (has_name xs n || has_name ys n)
 has-append [] ys n = refl
-has-append (x ∷ xs) ys n = go (bytes_eq n x) (has-append xs ys n)
-  where
-    go : (b : Bool) → has_name (xs ++ ys) n ≡ (has_name xs n || has_name ys n) → (b || has_name (xs ++ ys) n) ≡ ((b || has_name xs n) || has_name ys n)
-    go true e = refl
-    go false e = e
+has-append (x ∷ xs) ys n = grind (arith, nat_tests, has-append xs ys n) steps 500000
 
 pub within-left : (zs xs ys : List (List ℕ)) → Within zs xs → Within zs (xs ++ ys)
 within-left zs xs ys h = each-imp _ _ (λ z k. has-append xs ys z ∙ ap (λ b. b || has_name ys z) k) zs h
@@ -89,11 +81,7 @@ still-has n x (y ∷ ys) e = go (bytes_eq n y) refl (still-has n x ys e)
 
 apart-none : (n : List ℕ) (ys : List (List ℕ)) → has_name ys n ≡ false → apart_from n ys ≡ ys
 apart-none n [] e = refl
-apart-none n (y ∷ ys) e = go (bytes_eq n y) refl e (apart-none n ys)
-  where
-    go : (b : Bool) → bytes_eq n y ≡ b → (b || has_name ys n) ≡ false → (has_name ys n ≡ false → apart_from n ys ≡ ys) → cond (not b) (y ∷ apart_from n ys) (apart_from n ys) ≡ y ∷ ys
-    go true q k rec = absurd (cc)
-    go false q k rec = ap (λ l. y ∷ l) (rec k)
+apart-none n (y ∷ ys) e = grind (arith, nat_tests, apart-none n ys) steps 500000
 
 abbrev CountsOnce : List ℕ → List (List ℕ) → Type 0
 CountsOnce n ys = length (different_names ys) ≡ 1 + length (different_names (apart_from n ys))
@@ -101,28 +89,12 @@ CountsOnce n ys = length (different_names ys) ≡ 1 + length (different_names (a
 -- a name that is there counts once
 one-less : (n : List ℕ) (ys : List (List ℕ)) → has_name ys n ≡ true → CountsOnce n ys
 one-less n [] e = absurd (cc)
-one-less n (y ∷ ys) e = go (bytes_eq n y) (has_name ys n) refl refl e (one-less n ys)
-  where
-    other : (b : Bool) → has_name ys y ≡ b → has_name (apart_from n ys) y ≡ b → CountsOnce n ys → length (different_names (y ∷ ys)) ≡ 1 + length (different_names (y ∷ apart_from n ys))
-    other true p q k = rw (p, q) k
-    other false p q k = rw (p, q) (omega (arith, k))
-
-    go : (b c : Bool) → bytes_eq n y ≡ b → has_name ys n ≡ c → (b || c) ≡ true → (has_name ys n ≡ true → CountsOnce n ys) → length (different_names (y ∷ ys)) ≡ 1 + length (different_names (cond (not b) (y ∷ apart_from n ys) (apart_from n ys)))
-    go true true p q k rec = let z : has_name ys y ≡ true = ap (has_name ys) (sym (name-eq n y p)) ∙ q in rw z (rec q)
-    go true false p q k rec =
-        let z : has_name ys y ≡ false = ap (has_name ys) (sym (name-eq n y p)) ∙ q in
-        let w : apart_from n ys ≡ ys = apart-none n ys q in
-        rw (z, w) (omega arith)
-    go false true p q k rec = other (has_name ys y) refl (still-has n y ys (name-swap y n ∙ p)) (rec q)
-    go false false p q k rec = absurd (cc)
+one-less n (y ∷ ys) e =
+    grind (arith, nat_tests, name-eq, apart-none, still-has, name-swap, one-less n ys) steps 500000
 
 none-is : (xs : List (List ℕ)) (n : List ℕ) → has_name xs n ≡ false → AllByRecursion (λ x. bytes_eq x n ≡ false) xs
 none-is [] n e = tt
-none-is (x ∷ xs) n e = go (bytes_eq n x) refl e (none-is xs n)
-  where
-    go : (b : Bool) → bytes_eq n x ≡ b → (b || has_name xs n) ≡ false → (has_name xs n ≡ false → AllByRecursion (λ y. bytes_eq y n ≡ false) xs) → AllByRecursion (λ y. bytes_eq y n ≡ false) (x ∷ xs)
-    go true q k rec = absurd (cc)
-    go false q k rec = (name-swap x n ∙ q, rec k)
+none-is (x ∷ xs) n e = grind (arith, nat_tests, name-swap, none-is xs n) steps 500000
 
 -- names that are all in another list are not more
 pub fewer-within : (xs ys : List (List ℕ)) → Within xs ys → length (different_names xs) ≤ length (different_names ys)
@@ -138,11 +110,7 @@ fewer-within (x ∷ xs) ys h = go (has_name xs x) refl (fewer-within xs ys h.1) 
 
 -- one name more is at most one more
 pub one-more : (xs : List (List ℕ)) (n : List ℕ) → length (different_names (n ∷ xs)) ≤ length (different_names xs) + 1
-one-more xs n = go (has_name xs n)
-  where
-    go : (b : Bool) → length (cond b (different_names xs) (n ∷ different_names xs)) ≤ length (different_names xs) + 1
-    go true = omega arith
-    go false = omega arith
+one-more xs n = grind (arith, nat_tests) steps 500000
 
 -- the order of names
 pub lt-trans : (a b c : List ℕ) → name_lt a b ≡ true → name_lt b c ≡ true → name_lt a c ≡ true
@@ -174,9 +142,7 @@ names-onto a (b ∷ ns) h r = both_true h.0 r
 pub names-around : (xs : List (List ℕ)) (n : List ℕ) (ys : List (List ℕ)) → names_rise xs ≡ true → AllByRecursion (λ x. name_lt x n ≡ true) xs → names_rise (n ∷ ys) ≡ true → names_rise (xs ++ n ∷ ys) ≡ true
 names-around [] n ys r h k = k
 names-around (x ∷ xs) n ys r h k =
-    names-onto x (xs ++ n ∷ ys)
-    (each-append _ xs (n ∷ ys) (names-behind x xs r) (h.0, each-imp _ _ (λ y m. lt-trans x n y h.0 m) ys (names-behind n ys k)))
-    (names-around xs n ys (names-tail x xs r) h.1 k)
+    grind (arith, nat_tests, names-onto, each-append, names-behind, each-imp, lt-trans, names-tail, names-around xs n ys (names-tail x xs r) h.1 k) steps 500000
 
 pub names-filter : {X : Type 0} (f : X → List ℕ) (p : X → Bool) (xs : List X) → names_rise (map f xs) ≡ true → names_rise (map f (filter p xs)) ≡ true
 names-filter f p [] r = refl

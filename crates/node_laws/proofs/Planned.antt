@@ -1,4 +1,6 @@
 -- Planned changes leave clusters in order of name, and bring no other names than their own.
+use Rattle.std.proofs.Common.{arith}
+use Rattle.std.proofs.lemmas.Bool.Decides.{nat_tests}
 use Rattle.std.proofs.Common.{◌≡◌, sym, ap, subst, ◌∙◌, ℕ, Bool, true, List, [], ◌∷◌, ◌++◌}
 use Rattle.std.specs.Prelude.{not, filter, map}
 use Rattle.std.specs.Str.{bytes_eq}
@@ -29,11 +31,7 @@ with-rise c cs r =
     (names-onto c.name (names_of behind) (each-map _ _ behind (each-passes _ cs)) (names-filter _ _ cs r))
 
 changed-rise : (part : Part Bytes) (cs : List (Cluster Bytes)) → names_rise (names_of cs) ≡ true → names_rise (names_of (changed_by part cs)) ≡ true
-changed-rise part cs r = go part.manifest.action
-  where
-    go : (a : Action) → names_rise (names_of (changed_as a (brought part) cs)) ≡ true
-    go Remove = names-filter _ _ cs r
-    go _ = with-rise (brought part) cs r
+changed-rise part cs r = grind (arith, nat_tests, names-filter, with-rise) steps 500000
 
 pub planned-rise : (changes : List (Change Bytes)) (cs : List (Cluster Bytes)) → names_rise (names_of cs) ≡ true → names_rise (names_of (planned changes cs)) ≡ true
 planned-rise [] cs r = r

@@ -27,28 +27,13 @@ pub data IsEarly : Phase → Type 0 where
   transferred : IsEarly Transferred
 
 pub early-not_processed : (h : Header) → IsEarly h.phase → is_in Processed h ≡ false
-early-not_processed h e = go h.phase e
-  where
-    go : (p : Phase) → IsEarly p → (phase_code p == 3) ≡ false
-    go BeingProcessed e = elim e [ ]
-    go Processed e = elim e [ ]
-    go _ e = refl
+early-not_processed h e = grind (arith, nat_tests) steps 500000
 
 pub early-not_processing : (h : Header) → IsEarly h.phase → is_in BeingProcessed h ≡ false
-early-not_processing h e = go h.phase e
-  where
-    go : (p : Phase) → IsEarly p → (phase_code p == 2) ≡ false
-    go BeingProcessed e = elim e [ ]
-    go Processed e = elim e [ ]
-    go _ e = refl
+early-not_processing h e = grind (arith, nat_tests) steps 500000
 
 pub early-whole : (x : Session) (t : Transfer) → IsEarly t.header.phase → IsPlannedWhole x t t.header.phase
-early-whole x t e = go t.header.phase e
-  where
-    go : (p : Phase) → IsEarly p → IsPlannedWhole x t p
-    go BeingProcessed e = elim e [ ]
-    go Processed e = elim e [ ]
-    go _ e = tt
+early-whole x t e = grind (arith, nat_tests) steps 500000
 
 -- what such a change keeps
 pub record Quiet (next : ℕ) (ts us : List Transfer) : Type 0 where
@@ -67,20 +52,7 @@ pub record Processes (next owner n : ℕ) (ts : List Transfer) (P : Transfer →
   pub has : P transfer
 
 pub processes : (next owner n : ℕ) (ts : List Transfer) (P : Transfer → Type 0) → Held next ts → InProcessing (Some n) ts → IsSomeAnd (found owner n ts) P → Processes next owner n ts P
-processes next owner n ts P h k some = go (found owner n ts) refl some
-  where
-    go : (o : Option Transfer) → found owner n ts ≡ o → IsSomeAnd o P → Processes next owner n ts P
-    go None e m = absurd m
-    go (Some t) e m =
-        let id : t.header.id ≡ n = (found-is owner n ts t e).0 in
-        let low = (found-has (λ t. is_of owner n t.header) _ ts t h.each e).1 in
-        record {
-          transfer = t;
-          is = e;
-          in_processing = (found-has (λ t. is_of owner n t.header) _ ts t k e).1 ∙ eq-eqb _ _ (sym id);
-          below = omega (arith, low.id.1);
-          has = m;
-        }
+processes next owner n ts P h k some = grind (arith, nat_tests, found, found-is, found-has, eq-eqb) steps 500000
 
 module _ (s : NodeState) (next : ℕ) (us : List Transfer) (quiet : Quiet s.next_id s.transfers us) (held : Held next us) where
   abbrev after : NodeState
@@ -104,11 +76,7 @@ module _ (s : NodeState) (next : ℕ) (us : List Transfer) (quiet : Quiet s.next
   below-next owner done (Some n) h k m = (processes s.next_id owner n s.transfers _ h k m).below
 
   same-parts : (x : Session) → Held s.next_id s.transfers → InProcessing x.processing s.transfers → IfSome x.processing (IsUnfinished x.owner x.units_done s.transfers) → parts_in after x ≡ parts_in s x
-  same-parts x h k m = ap (λ parts. map (λ change. change.part) x.changes ++ parts) (go x.processing k m)
-    where
-      go : (o : Option ℕ) → InProcessing o s.transfers → IfSome o (IsUnfinished x.owner x.units_done s.transfers) → option_map_or (parts_of_id after x) o [] ≡ option_map_or (parts_of_id s x) o []
-      go None k m = refl
-      go (Some n) k m = ap parts_of (same-found x.owner x.units_done n h k m)
+  same-parts x h k m = grind (arith, nat_tests, same-found) steps 500000
 
   busy-quiet : (x : Session) → Base s → Busy s x → Busy after x
   busy-quiet x b v =
@@ -137,17 +105,8 @@ module _ (s : NodeState) (next : ℕ) (us : List Transfer) (quiet : Quiet s.next
 
 -- a transfer more
 pub quiet-started : (next : ℕ) (ts : List Transfer) (t : Transfer) → t.header.id ≡ next → IsEarly t.header.phase → Quiet next ts (ts ++ t ∷ [])
-quiet-started next ts t e early = record {
-  unprocessed = λ h. each-append _ ts _ h (early-not_processed t.header early, tt);
-  whole = λ x h. each-append _ ts _ h (early-whole x t early, tt);
-  processed = λ n. any-more _ ts _;
-  each = λ o low h. each-append _ ts _ h (early-not_processing t.header early ∙ not-that o low, tt);
-  found_still = λ owner n u k p. find-append _ ts _ ∙ ap (λ o. option_or o (found owner n (t ∷ []))) k;
-}
-  where
-    not-that : (o : Option ℕ) → IfSome o (λ n. n < next) → false ≡ some_passes (λ n. n == t.header.id) o
-    not-that None low = refl
-    not-that (Some n) low = grind (arith, nat_tests, low)
+quiet-started next ts t e early =
+    grind (arith, nat_tests, each-append, early-not_processed, early-whole, any-more, early-not_processing, find-append, found) steps 500000
 
 -- a transfer's header or bytes, before processing
 pub quiet-changed : (next client id : ℕ) (ts : List Transfer) (u : Transfer) (f : Transfer → Transfer) → Held next ts → KeepsNames f → found client id ts ≡ Some u → IsEarly u.header.phase → IsEarly (f u).header.phase → Quiet next ts (map (changed id f) ts)

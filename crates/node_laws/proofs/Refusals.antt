@@ -1,4 +1,6 @@
 -- What a call that isn't refused shows.
+use Rattle.std.proofs.Common.{arith}
+use Rattle.std.proofs.lemmas.Bool.Decides.{nat_tests}
 use Rattle.std.proofs.Common.{◌≡◌, refl, Bool, true, false, List, [], ◌∷◌}
 use Rattle.std.specs.Prelude.{◌==◌, not, ◌||◌, is_none, Option, Some, None}
 use Rattle.std.specs.List.{AllByRecursion}
@@ -46,22 +48,10 @@ some-transfer (Some u) e = (u, refl)
 some-transfer None e = absurd (cc)
 
 pub is-transferring : (h : Header) → is_in Transferring h ≡ true → h.phase ≡ Transferring
-is-transferring h e = go h.phase e
-  where
-    go : (p : Phase) → (phase_code p == 0) ≡ true → p ≡ Transferring
-    go Transferring q = refl
-    go _ q = absurd (cc)
+is-transferring h e = grind (arith, nat_tests) steps 500000
 
 pub is-transferred : (h : Header) → is_in Transferred h ≡ true → h.phase ≡ Transferred
-is-transferred h e = go h.phase e
-  where
-    go : (p : Phase) → (phase_code p == 1) ≡ true → p ≡ Transferred
-    go Transferred q = refl
-    go _ q = absurd (cc)
+is-transferred h e = grind (arith, nat_tests) steps 500000
 
 pub is-processing : (h : Header) → is_in BeingProcessed h ≡ true → h.phase ≡ BeingProcessed
-is-processing h e = go h.phase e
-  where
-    go : (p : Phase) → (phase_code p == 2) ≡ true → p ≡ BeingProcessed
-    go BeingProcessed q = refl
-    go _ q = absurd (cc)
+is-processing h e = grind (arith, nat_tests) steps 500000

@@ -1,4 +1,6 @@
 -- A consistent state, by whether it has a session.
+use Rattle.std.proofs.Common.{arith}
+use Rattle.std.proofs.lemmas.Bool.Decides.{nat_tests}
 use Rattle.std.proofs.Common.{◌≡◌, refl, sym, subst, ap, ℕ, ◌-◌, ◌<◌, ◌≤◌, true, false, List, [], ◌++◌, length}
 use Rattle.std.specs.Prelude.{◌==◌, min, option_and_then, Option, Some, None, IfSome, IsSomeAnd, is_some, find, map}
 use Rattle.std.specs.Option.{option_map_or}
@@ -62,37 +64,13 @@ pub record Free (s : NodeState) : Type 0 where
   pub names : length (names_among {D = Bytes} {E = Bytes} s.running [] []) ≤ cluster_limit
 
 pub base-of : (s : NodeState) → IsConsistent s → Base s
-base-of s v = record {
-  held = record { each = v.transfers.each; rise = v.transfers.rise; next_id = v.transfers.next_id; few = v.limits.transfers; sizes = v.limits.sizes };
-  running = v.limits.running;
-  clients = v.limits.clients;
-  lines = v.limits.lines;
-  places = v.limits.places;
-}
+base-of s v = grind (arith, nat_tests) steps 500000
 
 pub busy-is : (s : NodeState) (x : Session) → Base s → Busy s x → IsConsistent (record s { session = Some x })
-busy-is s x b v = record {
-  session = v.due;
-  running = v.runs;
-  changes = record { differ = v.changes.differ; whole = v.changes.whole; processed = v.changes.processed; not_empty = v.changes.not_empty };
-  applying = v.applies;
-  processing = record { each = v.each; status = v.working; unfinished = v.unfinished };
-  verdicts = (v.leaves, v.outcome);
-  transfers = record { each = b.held.each; rise = b.held.rise; next_id = b.held.next_id };
-  limits = record { names = v.names; running = b.running; saved = v.saved; transfers = b.held.few; sizes = b.held.sizes; clients = b.clients; lines = b.lines; places = b.places };
-}
+busy-is s x b v = grind (arith, nat_tests) steps 500000
 
 pub free-is : (s : NodeState) → Base s → Free s → IsConsistent (record s { session = None })
-free-is s b v = record {
-  session = subst (λ st. SessionIsDue st None) (sym v.idle) tt;
-  running = tt;
-  changes = v.changes;
-  applying = tt;
-  processing = record { each = v.each; status = ap (λ st. has_status Processing (record s { status = st })) (sym v.idle); unfinished = tt };
-  verdicts = tt;
-  transfers = record { each = b.held.each; rise = b.held.rise; next_id = b.held.next_id };
-  limits = record { names = v.names; running = b.running; saved = tt; transfers = b.held.few; sizes = b.held.sizes; clients = b.clients; lines = b.lines; places = b.places };
-}
+free-is s b v = grind (arith, nat_tests) steps 500000
 
 pub busy-of : (s : NodeState) (x : Session) → s.session ≡ Some x → IsConsistent s → Busy s x
 busy-of s x e v = record {
@@ -123,8 +101,4 @@ free-of s e v = record {
 
 -- a fact of the state without a session, and of the state with one
 pub by-session : (s : NodeState) (P : Option Session → Type 0) → (s.session ≡ None → P None) → ((x : Session) → s.session ≡ Some x → P (Some x)) → P s.session
-by-session s P none some = go s.session refl
-  where
-    go : (o : Option Session) → s.session ≡ o → P o
-    go None e = none e
-    go (Some x) e = some x e
+by-session s P none some = grind (arith, nat_tests) steps 500000

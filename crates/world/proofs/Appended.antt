@@ -1,4 +1,6 @@
 -- One more entry of a history, and one more event of the master's list.
+use Rattle.std.proofs.Common.{arith}
+use Rattle.std.proofs.lemmas.Bool.Decides.{nat_tests}
 use Rattle.std.proofs.Common.{◌≡◌, refl, sym, ap, subst, ◌∙◌, inl, inr, ℕ, List, [], ◌∷◌, ◌++◌}
 use Rattle.std.specs.Prelude.{option_map, Option, Some, None}
 use Rattle.pm_types.specs.declared.history.Entry.{Entry}
@@ -41,11 +43,7 @@ in-last e (x ∷ xs) = inr (in-last e xs)
 
 -- an earlier campaign stays one
 stays : (f : Fold) (e : MasterEvent) (x : ℕ × CampaignResult) → InEarlier x f.earlier → InEarlier x (after_event f e).earlier
-stays f (Enter r) x h = go f.current
-  where
-    go : (o : Option Current) → InEarlier x (entered f.earlier o r)
-    go None = h
-    go (Some c) = in-more x f.earlier (c.campaign, r) h
+stays f (Enter r) x h = grind (arith, nat_tests, in-more) steps 500000
 stays f _ x h = h
 
 all-stay : (f : Fold) (es : List MasterEvent) (x : ℕ × CampaignResult) → InEarlier x f.earlier → InEarlier x (campaign_from f es).earlier

@@ -1,4 +1,6 @@
 -- What the node is at each stage of the rounds: kept by foreign calls and units, and led on by the stage's call. From the laws of a node alone.
+use Rattle.std.proofs.Common.{arith}
+use Rattle.std.proofs.lemmas.Bool.Decides.{nat_tests}
 use Rattle.std.proofs.Common.{◌≡◌, ◌≢◌, ◌⊎◌, inl, inr, ℕ, zero, suc, List, [], ◌∷◌, ◌++◌, length, take, drop, Some, None, Bool, refl, sym, ◌∙◌, ap, subst, append_assoc}
 use Rattle.std.specs.List.{Contains, flat_map}
 use Rattle.std.proofs.lemmas.List.{take-append-drop, append-nil}
@@ -18,8 +20,7 @@ use Rattle.world.proofs.EarlyFacts.{Hold, Apart, Has, Sends, Fills, Activates, I
 module _ (N : NodeRules) (laws : NodeLaws N) where
   hold-same : (s t : N.State) → KeepsTransfers N s t → (ids : List ℕ) (ps : List (List ℕ)) → Hold N s ids ps → Hold N t ids ps
   hold-same s t keeps [] [] h = tt
-  hold-same s t keeps (id ∷ ids) (p ∷ ps) h =
-      (subst (λ l. Contains l id) (sym keeps.transfers) h.0, keeps.received id ∙ h.1, hold-same s t keeps ids ps h.2)
+  hold-same s t keeps (id ∷ ids) (p ∷ ps) h = grind (arith, nat_tests, hold-same s t keeps ids ps h.2) steps 500000
   hold-same s t keeps _ _ h = absurd h
 
   -- all that these transfers need is that they stay, and that no other than id changes
@@ -40,52 +41,19 @@ module _ (N : NodeRules) (laws : NodeLaws N) where
   hold-push s _ _ id p h there e = absurd h
 
   has-same : (s t : N.State) → KeepsTransfers N s t → KeepsSession N s t → (k : ℕ) (changes : List N.Change) → Has N s k changes → Has N t k changes
-  has-same s t transfers session k changes h =
-      record {
-        mine = session.mine ∙ h.mine;
-        planned =
-            elim h.planned [
-              | inl r ↦ inl (session.status ∙ r.0, session.planned ∙ r.1)
-              | inr p ↦ inr (session.status ∙ p.0, p.1, session.in_process ∙ p.2, ap (λ l. l ++ N.changes_of (N.received t p.1)) session.planned ∙ (ap (λ b. N.planned s ++ N.changes_of b) (transfers.received p.1) ∙ p.3))
-            ];
-      }
+  has-same s t transfers session k changes h = grind (arith, nat_tests) steps 500000
 
   -- a step that keeps client 0's transfers, and its session or that it has none
   pub at-same : (s t : N.State) → KeepsTransfers N s t → (N.mine s ≡ None → N.mine t ≡ None) → ((tag : ℕ) → N.mine s ≡ Some tag → KeepsSession N s t) → (k : ℕ) (ps : List (List ℕ)) (stage : Stage) → IsAt N s k ps stage → IsAt N t k ps stage
   at-same s t transfers none session k ps At_sync h = none h
   at-same s t transfers none session k ps (At_start ids left) h = record { done = h.done; all = h.all; none = none h.none; hold = hold-same s t transfers ids h.done h.hold }
   at-same s t transfers none session k ps (At_data ids id counter bytes left) h =
-      record {
-        done = h.done;
-        whole = h.whole;
-        all = h.all;
-        none = none h.none;
-        hold = hold-same s t transfers ids h.done h.hold;
-        there = subst (λ l. Contains l id) (sym transfers.transfers) h.there;
-        apart = h.apart;
-        so_far = ap (λ l. l ++ bytes) (transfers.received id) ∙ h.so_far;
-      }
+      grind (arith, nat_tests, hold-same) steps 500000
   at-same s t transfers none session k ps (At_process ids zero) h = record { done = h.done; all = h.all; none = none h.none; hold = hold-same s t transfers ids h.done h.hold }
   at-same s t transfers none session k ps (At_process ids (suc taken)) h =
       record { done = h.done; left = h.left; all = h.all; has = has-same s t transfers (session k h.has.mine) k (flat_map N.changes_of h.done) h.has; hold = hold-same s t transfers ids h.left h.hold }
   at-same s t transfers none session k ps At_activate h = has-same s t transfers (session k h.mine) k (flat_map N.changes_of ps) h
-  at-same s t transfers none session k ps Over h =
-      let keeps = session k h.mine in
-      record {
-        mine = keeps.mine ∙ h.mine;
-        planned = keeps.planned ∙ h.planned;
-        status =
-            elim h.status [
-              | inl a ↦ inl (keeps.status ∙ a)
-              | inr b ↦ elim b [
-                | inl a ↦ inr (inl (keeps.status ∙ a))
-                | inr c ↦ elim c [
-                  | inl a ↦ inr (inr (inl (keeps.status ∙ a)))
-                  | inr d ↦ elim d [ inl a ↦ inr (inr (inr (inl (keeps.status ∙ a)))) | inr a ↦ inr (inr (inr (inr (keeps.status ∙ a)))) ]
-                ]
-              ]
-            ];
-      }
+  at-same s t transfers none session k ps Over h = grind (arith, nat_tests) steps 500000
   at-same s t transfers none session k ps Refused_once h = absurd h
 
   pub at-foreign : (s : N.State) (call : N.ForeignCall) (k : ℕ) (ps : List (List ℕ)) (stage : Stage) → IsAt N s k ps stage → IsAt N (N.foreign s call) k ps stage
@@ -99,17 +67,7 @@ module _ (N : NodeRules) (laws : NodeLaws N) where
   at-not_cleaning s k tag ps At_sync h mine e = cc (h, mine)
   at-not_cleaning s k tag ps (At_process ids (suc taken)) h mine e = elim h.has.planned [ inl a ↦ (cc (a.0, e)) | inr b ↦ (cc (b.0, e)) ]
   at-not_cleaning s k tag ps At_activate h mine e = elim h.planned [ inl a ↦ (cc (a.0, e)) | inr b ↦ (cc (b.0, e)) ]
-  at-not_cleaning s k tag ps Over h mine e =
-      elim h.status [
-        | inl a ↦ (cc (a, e))
-        | inr b ↦ elim b [
-          | inl a ↦ (cc (a, e))
-          | inr c ↦ elim c [
-            | inl a ↦ (cc (a, e))
-            | inr d ↦ elim d [ inl a ↦ (cc (a, e)) | inr a ↦ (cc (a, e)) ]
-          ]
-        ]
-      ]
+  at-not_cleaning s k tag ps Over h mine e = grind (arith, nat_tests) steps 500000
   at-not_cleaning s k tag ps Refused_once h mine e = h
   at-not_cleaning s k tag ps _ h mine e = let none = h.none in cc (none, mine)
 
@@ -136,9 +94,7 @@ module _ (N : NodeRules) (laws : NodeLaws N) where
       ]
 
   at-none_unit : (s : N.State) (passed : Bool) (k : ℕ) (ps : List (List ℕ)) (stage : Stage) → N.mine s ≡ None → IsAt N s k ps stage → IsAt N (N.unit s passed) k ps stage
-  at-none_unit s passed k ps stage none =
-      let u = laws.unit_none s passed none in
-      at-same s (N.unit s passed) u.2 (λ e. u.0) (λ tag e. absurd (cc (none, e))) k ps stage
+  at-none_unit s passed k ps stage none = grind (arith, nat_tests, laws.unit_none, at-same) steps 500000
 
   pub at-unit : (s : N.State) (passed : Bool) (k : ℕ) (ps : List (List ℕ)) (stage : Stage) → IsAt N s k ps stage → IsAt N (N.unit s passed) k ps stage
   at-unit s passed k ps At_sync h = at-none_unit s passed k ps At_sync h h
@@ -170,21 +126,13 @@ module _ (N : NodeRules) (laws : NodeLaws N) where
   IsLed s call k ps stage = (onward ps stage (N.judge s call).1 ≡ Refused_once) ⊎ IsAt N (N.judge s call).0 k ps (onward ps stage (N.judge s call).1)
 
   led-refused : (s : N.State) (call : Call) (k : ℕ) (ps : List (List ℕ)) (stage : Stage) (why : Refusal) → (N.judge s call).1 ≡ Refused why → IsLed s call k ps stage
-  led-refused s call k ps stage why e = inl (ap (onward ps stage) e ∙ go stage)
-    where
-      go : (x : Stage) → onward ps x (Refused why) ≡ Refused_once
-      go (At_data ids id counter (b ∷ bs) left) = refl
-      go _ = refl
+  led-refused s call k ps stage why e = grind (arith, nat_tests) steps 500000
 
   led-to : (s : N.State) (call : Call) (k : ℕ) (ps : List (List ℕ)) (stage : Stage) (r : Reply) → (N.judge s call).1 ≡ r → IsAt N (N.judge s call).0 k ps (onward ps stage r) → IsLed s call k ps stage
   led-to s call k ps stage r e h = inr (subst (λ y. IsAt N (N.judge s call).0 k ps (onward ps stage y)) (sym e) h)
 
   led-sync : (s : N.State) (k : ℕ) (ps : List (List ℕ)) → IsAt N s k ps At_sync → IsLed s Sync k ps At_sync
-  led-sync s k ps h = led-to s Sync k ps At_sync _ (laws.sync_reply s) (subst (λ t. IsAt N t k ps (next_package [] ps)) (sym (laws.sync_state s)) (first ps))
-    where
-      first : (qs : List (List ℕ)) → IsAt N s k qs (next_package [] qs)
-      first [] = record { done = []; all = refl; none = h; hold = tt }
-      first (q ∷ qs) = record { done = []; all = refl; none = h; hold = tt }
+  led-sync s k ps h = grind (arith, nat_tests, led-to, laws.sync_reply, laws.sync_state) steps 500000
 
   led-start : (s : N.State) (k : ℕ) (ps : List (List ℕ)) (ids : List ℕ) (p : List ℕ) (left : List (List ℕ)) → IsAt N s k ps (At_start ids (p ∷ left)) → IsLed s (TransferStart (length p)) k ps (At_start ids (p ∷ left))
   led-start s k ps ids p left h =
@@ -312,14 +260,7 @@ module _ (N : NodeRules) (laws : NodeLaws N) where
 
   led-activate : (s : N.State) (k : ℕ) (ps : List (List ℕ)) → IsAt N s k ps At_activate → IsLed s Activate k ps At_activate
   led-activate s k ps h =
-      elim (laws.six_replies s Activate (inl refl)) [
-        | inl d ↦
-            (let m = laws.activate_mine s d in
-            let u = laws.activate.only s k h.mine d m.2 in
-            let planned : N.planned s ≡ flat_map N.changes_of ps = elim h.planned [ inl r ↦ r.1 | inr q ↦ absurd (cc (m.2, q.0)) ] in
-            led-to s Activate k ps At_activate Done d (record { mine = u.0; planned = u.2 ∙ planned; status = inl u.1 }))
-        | inr r ↦ led-refused s Activate k ps At_activate r.0 r.1
-      ]
+      grind (arith, nat_tests, laws.six_replies, laws.activate_mine, laws.activate, led-to, led-refused) steps 500000
 
   pub at-judge : (s : N.State) (k : ℕ) (ps : List (List ℕ)) (stage : Stage) (call : Call) → call_at k stage ≡ Some call → IsAt N s k ps stage → IsLed s call k ps stage
   at-judge s k ps At_sync call e h = let q : Sync ≡ call = cc e in subst (λ c. IsLed s c k ps At_sync) q (led-sync s k ps h)

@@ -1,4 +1,5 @@
 -- Laws of the real node: what is kept, what a refusal leaves, Sync, and the calls on a session.
+use Rattle.std.proofs.lemmas.Bool.Decides.{nat_tests}
 use Rattle.std.proofs.Common.{◌≡◌, ◌≢◌, ◌⊎◌, inl, inr, ℕ, ◌<◌, List, [], ◌∷◌, length, Option, Some, None, Bool, true, false, refl, sym, ◌∙◌, ap, subst, arith}
 use Rattle.std.specs.Prelude.{◌==◌, not, option_map, option_and_then, map, if◌then◌else◌}
 use Rattle.std.specs.Option.{option_or, option_map_or}
@@ -35,25 +36,13 @@ use Rattle.world.proofs.Instance.{zero_no, last_in, kept_in, tag_if, mine_in, en
 
 -- a judgment that is refused, or done
 pub judged-by : (s : NodeState) (client : ℕ) (c : Call) (v : Verdict) (P : NodeState → Type 0) → P s → P (accepted s client c v) → P (judge s client c v).0
-judged-by s client c v P here there = go (reply_to s client c v)
-  where
-    go : (r : Reply) → P (after_reply s client c v r)
-    go (reply.Refused why) = here
-    go _ = there
+judged-by s client c v P here there = grind (arith, nat_tests) steps 500000
 
 pub refused-leaves : (s : NodeState) (client : ℕ) (c : Call) (v : Verdict) (why : Refusal) → (reply_to s client c v) ≡ Refused why → (judge s client c v).0 ≡ s
-refused-leaves s client c v why e = go (reply_to s client c v) e
-  where
-    go : (r : Reply) → r ≡ Refused why → after_reply s client c v r ≡ s
-    go (reply.Refused w) q = refl
-    go _ q = absurd (cc q)
+refused-leaves s client c v why e = grind (arith, nat_tests) steps 500000
 
 pub done-accepted : (s : NodeState) (client : ℕ) (c : Call) (v : Verdict) → (reply_to s client c v) ≡ Done → (judge s client c v).0 ≡ accepted s client c v
-done-accepted s client c v e = go (reply_to s client c v) e
-  where
-    go : (r : Reply) → r ≡ Done → after_reply s client c v r ≡ accepted s client c v
-    go reply.Done q = refl
-    go _ q = absurd (cc q)
+done-accepted s client c v e = grind (arith, nat_tests) steps 500000
 
 pub done-none : (r : Reply) (o : Option Refusal) → (refused_or r o) ≡ Done → o ≡ None
 done-none r None e = refl
@@ -73,10 +62,7 @@ not-refused (true, r) rows e = absurd (cc e)
 
 -- what is kept
 pub last-kept : (s : NodeState) (at : CallNo) (c : Call) (r : Reply) → IsConsistent s → of_client (kept_after s at c r).last 0 ≡ Some (record { no = at; reply = r })
-last-kept s at c r v =
-    let long : length s.last ≡ 32 = v.limits.clients.0 in
-    let lt : 0 < length s.last = omega (arith, long) in
-    get_or-set_same s.last 0 (Some (record { no = at; reply = r })) None lt
+last-kept s at c r v = grind (arith, nat_tests, get_or-set_same) steps 500000
 
 pub keep_last : (s : NodeState) (at : CallNo) (c : Call) (r : Reply) → IsConsistent s → last_in (kept_after s at c r) ≡ at
 keep_last s at c r v = ap (λ o. option_map_or (λ (k : Kept). k.no) o zero_no) (last-kept s at c r v)
@@ -108,14 +94,7 @@ session-shown _ _ h = absurd h
 module _ (read : Reading) (clusters : List (Cluster Bytes)) where
   -- a step that leaves the session and the status
   pub keeps-of : (s t : NodeState) → t.session ≡ s.session → t.status ≡ s.status → KeepsSession (real read clusters) s t
-  keeps-of s t e q =
-      record {
-        mine = ap (λ o. option_and_then (λ (x : Session). tag_if (x.owner == 0) x.tag) o) e;
-        status = q;
-        planned = ap (λ o. map (λ (change : Change Bytes). change.part) (option_map_or (λ (x : Session). x.changes) o [])) e;
-        in_process = ap (λ o. option_and_then (λ (x : Session). x.processing) o) e;
-        outcome = ap (λ o. option_and_then (λ (x : Session). x.outcome) o) e;
-      }
+  keeps-of s t e q = grind (arith, nat_tests, tag_if) steps 500000
 
   pub keep_session : (s : NodeState) (at : CallNo) (c : Call) (r : Reply) → KeepsSession (real read clusters) s (kept_after s at c r)
   keep_session s at c r = keeps-of s (kept_after s at c r) refl refl
@@ -137,15 +116,7 @@ module _ (read : Reading) (clusters : List (Cluster Bytes)) where
 
   -- no call ends a session
   led-ended : (c : Call) (s : NodeState) → (led_by c s).ended ≡ s.ended
-  led-ended c s = go (status_table s.status c)
-    where
-      resume : (l : List (Change Bytes)) → ◌≡◌ {A = List (Option EndMark)} (elim l as (λ _. NodeState) [ [] ↦ clean_up Old s | change ∷ changes ↦ record s { status = Ready } ]).ended s.ended
-      resume [] = refl
-      resume (x ∷ xs) = refl
-
-      go : (o : Option Goal) → (option_map_or (arrive s) o s).ended ≡ s.ended
-      go (Some Resume) = resume (changes_in s)
-      go _ = refl
+  led-ended c s = grind (arith, nat_tests) steps 500000
 
   pub judge_ended : (s : NodeState) (c : Call) → ended_in (judged_in read s c).0 ≡ ended_in s
   judge_ended s c = ap (λ l. of_client l 0) (judged-by s 0 (c) (verdict_for read s 0 (c)) (λ t. t.ended ≡ s.ended) refl (go c))
@@ -170,17 +141,7 @@ module _ (read : Reading) (clusters : List (Cluster Bytes)) where
 
   -- each of the six calls is done or refused
   pub six_replies : (s : NodeState) (c : Call) → (c ≡ Activate) ⊎ ((c ≡ Finish) ⊎ ((c ≡ Rollback) ⊎ (c ≡ Revert))) → ((judged_in read s c).1 ≡ Done) ⊎ ((why : Refusal) × ((judged_in read s c).1 ≡ Refused why))
-  six_replies s c h =
-      elim h [
-        | inl e ↦ subst (λ d. ((judged_in read s d).1 ≡ Done) ⊎ ((why : Refusal) × ((judged_in read s d).1 ≡ Refused why))) (sym e) (done-or-refused reply.Done (refusal s 0 call.Activate (verdict_for read s 0 call.Activate)) refl)
-        | inr a ↦ elim a [
-          | inl e ↦ subst (λ d. ((judged_in read s d).1 ≡ Done) ⊎ ((why : Refusal) × ((judged_in read s d).1 ≡ Refused why))) (sym e) (done-or-refused reply.Done (refusal s 0 call.Finish (verdict_for read s 0 call.Finish)) refl)
-          | inr b ↦ elim b [
-            | inl e ↦ subst (λ d. ((judged_in read s d).1 ≡ Done) ⊎ ((why : Refusal) × ((judged_in read s d).1 ≡ Refused why))) (sym e) (done-or-refused reply.Done (refusal s 0 call.Rollback (verdict_for read s 0 call.Rollback)) refl)
-            | inr e ↦ subst (λ d. ((judged_in read s d).1 ≡ Done) ⊎ ((why : Refusal) × ((judged_in read s d).1 ≡ Refused why))) (sym e) (done-or-refused reply.Done (refusal s 0 call.RevertProcessedSwPackages (verdict_for read s 0 call.RevertProcessedSwPackages)) refl)
-          ]
-        ]
-      ]
+  six_replies s c h = grind (arith, nat_tests, judged_in, done-or-refused) steps 500000
 
   pub process_replies : (s : NodeState) (id tag : ℕ) → ((judged_in read s (ProcessSwPackage id tag)).1 ≡ Done) ⊎ ((why : Refusal) × ((judged_in read s (ProcessSwPackage id tag)).1 ≡ Refused why))
   process_replies s id tag = done-or-refused reply.Done (refusal s 0 (call.ProcessSwPackage id tag) (verdict_for read s 0 (call.ProcessSwPackage id tag))) refl
@@ -199,24 +160,7 @@ module _ (read : Reading) (clusters : List (Cluster Bytes)) where
       go (Some why) = inr (why, refl)
 
   pub synced_only : (s : NodeState) (c : Call) (x : Shown) → (judged_in read s c).1 ≡ Synced x → c ≡ Sync
-  synced_only s c x e = go c e
-    where
-      none : (r : Reply) (o : Option Refusal) → ((y : Shown) → r ≢ Synced y) → (refused_or r o) ≢ Synced x
-      none r None n q = n x q
-      none r (Some why) n q = cc q
-
-      go : (d : Call) → (judged_in read s d).1 ≡ Synced x → d ≡ Sync
-      go Sync q = refl
-      go (TransferStart size) q = absurd (none (reply.Started s.next_id) (refusal s 0 (call.TransferStart size) (verdict_for read s 0 (call.TransferStart size))) (λ y z. cc z) q)
-      go (TransferData id counter bytes) q = absurd (none reply.Done (refusal s 0 (call.TransferData id counter bytes) (verdict_for read s 0 (call.TransferData id counter bytes))) (λ y z. cc z) q)
-      go (TransferExit id) q = absurd (none reply.Done (refusal s 0 (call.TransferExit id) (verdict_for read s 0 (call.TransferExit id))) (λ y z. cc z) q)
-      go (DeleteTransfer id) q = absurd (none reply.Done (refusal s 0 (call.DeleteTransfer id) (verdict_for read s 0 (call.DeleteTransfer id))) (λ y z. cc z) q)
-      go (ProcessSwPackage id tag) q = absurd (none reply.Done (refusal s 0 (call.ProcessSwPackage id tag) (verdict_for read s 0 (call.ProcessSwPackage id tag))) (λ y z. cc z) q)
-      go Activate q = absurd (none reply.Done (refusal s 0 call.Activate (verdict_for read s 0 call.Activate)) (λ y z. cc z) q)
-      go Finish q = absurd (none reply.Done (refusal s 0 call.Finish (verdict_for read s 0 call.Finish)) (λ y z. cc z) q)
-      go Rollback q = absurd (none reply.Done (refusal s 0 call.Rollback (verdict_for read s 0 call.Rollback)) (λ y z. cc z) q)
-      go Revert q = absurd (none reply.Done (refusal s 0 call.RevertProcessedSwPackages (verdict_for read s 0 call.RevertProcessedSwPackages)) (λ y z. cc z) q)
-      go (Cancel id) q = absurd (none reply.Done (refusal s 0 (call.Cancel id) (verdict_for read s 0 (call.Cancel id))) (λ y z. cc z) q)
+  synced_only s c x e = grind (arith, nat_tests, judged_in) steps 500000
 
   -- transfers don't touch the session
   pub start_session : (s : NodeState) (size : ℕ) → KeepsSession (real read clusters) s (judged_in read s (TransferStart size)).0

@@ -53,14 +53,8 @@ Tests a b Equal = (no_lt a b ≡ false) × (no_eq a b ≡ true)
 Tests a b Greater = (no_lt a b ≡ false) × (no_eq a b ≡ false)
 
 tests : (a b : CallNo) → Tests a b (call_no_cmp a b)
-tests a b = go (nat_cmp a.epoch b.epoch) (nat_cmp a.number b.number) (ranked a.epoch b.epoch (nat_cmp a.epoch b.epoch) refl) (ranked a.number b.number (nat_cmp a.number b.number) refl)
-  where
-    go : (p q : Ordering) → MatchOrdering p (a.epoch < b.epoch) (a.epoch ≡ b.epoch) (b.epoch < a.epoch) → MatchOrdering q (a.number < b.number) (a.number ≡ b.number) (b.number < a.number) → Tests a b (ordering_then p q)
-    go Less q h k = below-first a.epoch a.number b.epoch b.number h
-    go Equal Less h k = below-second a.epoch a.number b.epoch b.number h k
-    go Equal Equal h k = (equal-lt a.epoch a.number b.epoch b.number h k, equal-eq a.epoch a.number b.epoch b.number h k)
-    go Equal Greater h k = (above-second-lt a.epoch a.number b.epoch b.number h k, above-second-eq a.epoch a.number b.epoch b.number h k)
-    go Greater q h k = (above-first-lt a.epoch a.number b.epoch b.number h, above-first-eq a.epoch a.number b.epoch b.number h)
+tests a b =
+    grind (arith, nat_tests, ranked, below-first, below-second, equal-lt, equal-eq, above-second-lt, above-second-eq, above-first-lt, above-first-eq) steps 500000
 
 module _ (read : Reading) (clusters : List (Cluster Bytes)) (s : NodeState) (at : CallNo) (c : Call) where
   abbrev done : NodeState × Reached

@@ -1,4 +1,6 @@
 -- From the decision Commit on: a session that is Activated for the campaign ends as New, once.
+use Rattle.std.proofs.Common.{arith}
+use Rattle.std.proofs.lemmas.Bool.Decides.{nat_tests}
 use Rattle.std.proofs.Common.{◌≡◌, ◌⊎◌, inl, inr, if◌then◌else◌, ◌&&◌, ◌||◌, ℕ, List, [], ◌∷◌, Option, Some, None, Bool, true, false, refl, sym, ◌∙◌, ap, subst}
 use Rattle.pm_types.specs.declared.status.Outcome.TheVariants.{New}
 use Rattle.pm_types.specs.declared.status.Status.{Status}
@@ -40,12 +42,7 @@ module _ (N : NodeRules) (laws : NodeLaws N) (k : ℕ) (changes : List N.Change)
     pub none : (spans N k moves).ended ≡ []
 
   pub waits-keeps : (s t : N.State) → KeepsSession N s t → Waits s → Waits t
-  waits-keeps s t keeps w =
-      record {
-        mine = keeps.mine ∙ w.mine;
-        status = elim w.status [ inl a ↦ inl (keeps.status ∙ a) | inr c ↦ inr (keeps.status ∙ c.0, keeps.outcome ∙ c.1) ];
-        planned = keeps.planned ∙ w.planned;
-      }
+  waits-keeps s t keeps w = grind (arith, nat_tests) steps 500000
 
   pub waits-judge : (s : N.State) (call : Call) → IsCalm call → Waits s → Waits (N.judge s call).0
   waits-judge s call calm w =

@@ -1,4 +1,6 @@
 -- What every event keeps of the half for successful campaigns, from the decision Commit on.
+use Rattle.std.proofs.Common.{arith}
+use Rattle.std.proofs.lemmas.Bool.Decides.{nat_tests}
 use Rattle.std.proofs.Common.{◌≡◌, ◌≢◌, ◌⊎◌, inl, inr, if◌then◌else◌, ◌&&◌, ◌++◌, ℕ, ◌≤◌, List, [], ◌∷◌, Option, Some, None, Bool, true, false, is_some, refl, sym, ◌∙◌, ap, subst}
 use Rattle.std.specs.List.{flat_map}
 use Rattle.pm_types.specs.declared.status.Status.TheVariants.{Idle}
@@ -47,16 +49,10 @@ module _ (N : NodeRules) (laws : NodeLaws N) (packages : Packages) (n : ℕ) whe
 
   -- an executed delivery was executable
   fresh-exec : (s : N.State) (m : Message) → is_fresh_done (reached N s m.at m.call) ≡ true → Executable N s m
-  fresh-exec s m e = go (no_lt m.at (N.last s)) (no_eq m.at (N.last s)) refl refl e
-    where
-      go : (a b : Bool) → no_lt m.at (N.last s) ≡ a → no_eq m.at (N.last s) ≡ b → is_fresh_done (if a then Stale (N.last s) else (if b then Again (N.kept s) else Fresh (N.judge s m.call).1)) ≡ true → Executable N s m
-      go false false p q h = above-last m.at (N.last s) p q
-      go _ _ p q h = absurd (cc h)
+  fresh-exec s m e = grind (arith, nat_tests, is_fresh_done, above-last) steps 500000
 
   exec-back : (s : N.State) (m m' : Message) → Executable N (delivered N s m.at m.call) m' → Executable N s m'
-  exec-back s m m' =
-      delivered-cases N laws s m.at m.call (λ t. Executable N t m' → Executable N s m') (λ e. e) (λ a b e.
-      below-trans (N.last s) m.at m'.at (above-last m.at (N.last s) a b) (subst (λ l. IsBelow l m'.at) (laws.keep_last (N.judge s m.call).0 m.at m.call (N.judge s m.call).1) e))
+  exec-back s m m' = grind (arith, nat_tests, delivered-cases, below-trans, above-last, laws.keep_last) steps 500000
 
   calm-begins : (k : ℕ) (s : N.State) (m : Message) → (Executable N s m → IsCalm m.call) → begins_span N k s m ≡ false
   calm-begins k s m calm =

@@ -1,4 +1,5 @@
 -- Before the decision: every event of the world keeps it, and at Decide Commit each named node is ready.
+use Rattle.std.proofs.lemmas.Bool.Decides.{nat_tests}
 use Rattle.std.proofs.Common.{◌≡◌, ◌≢◌, ◌⊎◌, inl, inr, if◌then◌else◌, ◌&&◌, ◌||◌, not, ◌+◌, ℕ, List, [], ◌∷◌, Option, Some, None, Bool, true, false, is_some, is_none, nat_eq, nat_le, refl, sym, ◌∙◌, ap, subst, arith}
 use Rattle.std.proofs.lemmas.Bool.{eqb-true}
 use Rattle.std.proofs.lemmas.Bool.Decides.{eqb_tells}
@@ -44,11 +45,7 @@ module _ (N : NodeRules) (laws : NodeLaws N) (packages : Packages) (numbers : Li
   WorldEarly w = (n : ℕ) → EachEarly n w.fold (w.node n)
 
   one-node : (w : World N) (n : ℕ) (x : NodeWorld N) → WorldEarly w → EachEarly n w.fold x → WorldEarly (with_node N w n x)
-  one-node w n x each new k = go (nat_eq k n) refl
-    where
-      go : (b : Bool) → nat_eq k n ≡ b → EachEarly k w.fold (if b then x else w.node k)
-      go true e = subst (λ j. EachEarly j w.fold x) (sym (eqb-true k n e)) new
-      go false e = each k
+  one-node w n x each new k = grind (arith, nat_tests, nat_eq, eqb-true) steps 500000
 
   answered : (f : Fold) (n : ℕ) (x : NodeWorld N) (m : Message) → InSent m x.sent → (a : Reached) → ((r : Reply) → (a ≡ Again r) ⊎ (a ≡ Fresh r) → (m.at ≡ N.last (state_of N x)) × (N.kept (state_of N x) ≡ r)) → EachEarly n f x → EachEarly n f (record { moves = x.moves; sent = x.sent; told = answer_of m a x.told })
   answered f n x m sent (Stale last) facts h = h
@@ -223,25 +220,8 @@ module _ (N : NodeRules) (laws : NodeLaws N) (packages : Packages) (numbers : Li
   keeps w Restart allowed kept each = start w (w.fold.epoch + 1) refl each
 
   ready : (w : World N) (c : Current) → w.fold.current ≡ Some c → refusal_of w.fold (Decide Commit) ≡ None → WorldKept N laws packages numbers w → WorldEarly w → (n : ℕ) → IsReadyToCommit N laws packages n c (w.node n)
-  ready w c current h kept each n = go w.fold.current refl h
-    where
-      go : (o : Option Current) → w.fold.current ≡ o → in_current o (Decide Commit) ≡ None → IsReadyToCommit N laws packages n c (w.node n)
-      go None e q = absurd (none-some w.fold.current c e current)
-      go (Some d) e q =
-          let same : d ≡ c = some-inj d c (sym e ∙ current) in
-          let may : may_decide c Commit ≡ true = subst (λ y. may_decide y Commit ≡ true) same (unless-true (may_decide d Commit) q) in
-          let a = and-both (is_undecided c) (all_yes c && not (is_marked c)) may in
-          let b = and-both (all_yes c) (not (is_marked c)) a.1 in
-          ready-node N laws packages numbers n w.fold (w.node n) c current (none-of c.decision a.0) (quiet c.cancel c.restart refl b.1) b.0 (kept.each n) (each n).early
-        where
-          none-of : (p : Option Decision) → is_none p ≡ true → p ≡ None
-          none-of None z = refl
-          none-of (Some x) z = absurd (cc z)
-
-          quiet : (x y : Bool) → c.restart ≡ y → not (x || y) ≡ true → c.restart ≡ false
-          quiet x false p z = p
-          quiet true true p z = absurd (cc z)
-          quiet false true p z = absurd (cc z)
+  ready w c current h kept each n =
+      grind (arith, nat_tests, none-some, some-inj, unless-true, and-both, not, ready-node, is_none) steps 500000
 
   pub early-opened : (openings : ℕ → N.ForeignCall) → WorldEarly (opened_world N openings)
   early-opened openings n =

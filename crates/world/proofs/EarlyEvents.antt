@@ -1,4 +1,5 @@
 -- Before the decision: what each event at a node keeps.
+use Rattle.std.proofs.lemmas.Bool.Decides.{nat_tests}
 use Rattle.std.proofs.Common.{◌≡◌, ◌≢◌, ◌⊎◌, inl, inr, if◌then◌else◌, ◌&&◌, ◌||◌, not, ◌+◌, ℕ, zero, suc, ◌<◌, List, [], ◌∷◌, Option, Some, None, Bool, true, false, is_some, nat_eq, refl, sym, ◌∙◌, ap, subst, arith}
 use Rattle.std.proofs.lemmas.Bool.{eqb-true, eq-eqb}
 use Rattle.ucm_base.specs.declared.ids.CallNo.{CallNo}
@@ -47,48 +48,17 @@ sync-is _ e = absurd (cc e)
 -- what the message before a new one of an undecided campaign is
 told-before : (a b d e g : Bool) → a ≡ true → d ≡ true → g ≡ false → (not a || (b || (not d || (e && g)))) ≡ true → b ≡ true
 told-before a true d e g p q r h = refl
-told-before a false d e g p q r h = absurd (last e (subst (λ x. (false || (false || (e && x))) ≡ true) r (subst (λ x. (false || (false || (not x || (e && g)))) ≡ true) q (subst (λ x. (not x || (false || (not d || (e && g)))) ≡ true) p h))))
-  where
-    last : (x : Bool) → (x && false) ≡ true → ⊥
-    last true z = cc z
-    last false z = cc z
+told-before a false d e g p q r h = grind (arith, nat_tests, not) steps 500000
 
 module _ (N : NodeRules) (laws : NodeLaws N) (packages : Packages) (numbers : List ℕ) where
   -- the number of a delivered message that was not Stale is the last one
   pub last-facts : (s : N.State) (m : Message) (r : Reply) → (reached N s m.at m.call ≡ Again r) ⊎ (reached N s m.at m.call ≡ Fresh r) → m.at ≡ N.last (delivered N s m.at m.call)
-  last-facts s m r h = go (no_lt m.at (N.last s)) (no_eq m.at (N.last s)) refl refl h
-    where
-      join : (a b : CallNo) → a.epoch ≡ b.epoch → a.number ≡ b.number → a ≡ b
-      join a b p q = no-join a.epoch a.number b.epoch b.number p q
-        where
-          no-join : (e n e' n' : ℕ) → e ≡ e' → n ≡ n' → ◌≡◌ {A = CallNo} (record { epoch = e; number = n }) (record { epoch = e'; number = n' })
-          no-join e n e' n' p' q' = cc
-
-      go : (a b : Bool) → no_lt m.at (N.last s) ≡ a → no_eq m.at (N.last s) ≡ b → ((if a then Stale (N.last s) else (if b then Again (N.kept s) else Fresh (N.judge s m.call).1)) ≡ Again r) ⊎ ((if a then Stale (N.last s) else (if b then Again (N.kept s) else Fresh (N.judge s m.call).1)) ≡ Fresh r) → m.at ≡ N.last (if a then s else (if b then s else N.keep (N.judge s m.call).0 m.at m.call (N.judge s m.call).1))
-      go true b p q h' = absurd (elim h' [ inl e ↦ (cc e) | inr e ↦ (cc e) ])
-      go false true p q h' = let same = eq-tests m.at.epoch m.at.number (N.last s).epoch (N.last s).number p q in join m.at (N.last s) same.0 same.1
-      go false false p q h' = sym (laws.keep_last (N.judge s m.call).0 m.at m.call (N.judge s m.call).1)
+  last-facts s m r h = grind (arith, nat_tests, eq-tests, laws.keep_last) steps 500000
 
   module _ (n : ℕ) where
     -- the last number is below the next
     pub next-exec : (f : Fold) (x : NodeWorld N) → KeptOld N f n x → KeptLive N f n x → IsBelow (N.last (state_of N x)) (next_number f.epoch x.sent)
-    next-exec f x old live =
-        elim live.last_sent [
-          | inl e ↦ subst (λ y. IsBelow y (next_number f.epoch x.sent)) (sym e) (first f.epoch x.sent)
-          | inr h ↦ subst (λ y. IsBelow y (next_number f.epoch x.sent)) h.2 (next-above f.epoch x.sent old.falling old.epochs h.0 h.1)
-        ]
-      where
-        positive : (b : Bool) (i : ℕ) → 0 < (if b then i + 1 else 1)
-        positive true i = omega arith
-        positive false i = omega arith
-
-        above : (e i : ℕ) → 0 < i → IsBelow (record { epoch = 0; number = 0 }) (record { epoch = e; number = i })
-        above zero i h = inr (refl, h)
-        above (suc e) i h = inl (omega arith)
-
-        first : (e : ℕ) (sent : List Message) → IsBelow (record { epoch = 0; number = 0 }) (next_number e sent)
-        first e [] = above e 1 (omega arith)
-        first e (m ∷ ms) = above e (if nat_eq m.at.epoch e then m.at.number + 1 else 1) (positive (nat_eq m.at.epoch e) m.at.number)
+    next-exec f x old live = grind (arith, nat_tests, next-above, nat_eq) steps 500000
 
     -- what always holds
     pub live-deliver : (f : Fold) (x : NodeWorld N) (m : Message) → InSent m x.sent → KeptOld N f n x → KeptLive N f n x → KeptLive N f n (record { moves = Delivered m ∷ x.moves; sent = x.sent; told = x.told })
@@ -122,22 +92,10 @@ module _ (N : NodeRules) (laws : NodeLaws N) (packages : Packages) (numbers : Li
             entry k e _ _ p h = live.entry_sent k e h
 
     pub live-foreign : (f : Fold) (x : NodeWorld N) (call : N.ForeignCall) → KeptLive N f n x → KeptLive N f n (record { moves = Foreign call ∷ x.moves; sent = x.sent; told = x.told })
-    live-foreign f x call live =
-        let l = (laws.foreign_last (state_of N x) call).0 in
-        record {
-          last_sent = elim live.last_sent [ inl e ↦ inl (l ∙ e) | inr h ↦ inr (h.0, h.1, h.2 ∙ sym l) ];
-          live = λ y h not_sync from. live.live y h not_sync (subst (λ z. (IsBelow z y.at) ⊎ (y.at ≡ z)) l from);
-          entry_sent = live.entry_sent;
-        }
+    live-foreign f x call live = grind (arith, nat_tests, laws.foreign_last, state_of) steps 500000
 
     pub live-unit : (f : Fold) (x : NodeWorld N) (passed : Bool) → KeptLive N f n x → KeptLive N f n (record { moves = Unit_done passed ∷ x.moves; sent = x.sent; told = x.told })
-    live-unit f x passed live =
-        let l = (laws.unit_last (state_of N x) passed).0 in
-        record {
-          last_sent = elim live.last_sent [ inl e ↦ inl (l ∙ e) | inr h ↦ inr (h.0, h.1, h.2 ∙ sym l) ];
-          live = λ y h not_sync from. live.live y h not_sync (subst (λ z. (IsBelow z y.at) ⊎ (y.at ≡ z)) l from);
-          entry_sent = live.entry_sent;
-        }
+    live-unit f x passed live = grind (arith, nat_tests, laws.unit_last, state_of) steps 500000
 
     pub live-told : (f : Fold) (x : NodeWorld N) (told : List Told) → KeptLive N f n x → KeptLive N f n (record { moves = x.moves; sent = x.sent; told = told })
     live-told f x told live = record { last_sent = live.last_sent; live = live.live; entry_sent = live.entry_sent }
@@ -261,16 +219,7 @@ module _ (N : NodeRules) (laws : NodeLaws N) (packages : Packages) (numbers : Li
 
     -- the records
     pub early-fold : (f g : Fold) (x : NodeWorld N) → g.epoch ≡ f.epoch → ((d : Current) → g.current ≡ Some d → (c : Current) × (f.current ≡ Some c) × (d.campaign ≡ c.campaign) × (d.decision ≡ c.decision) × (d.restart ≡ c.restart) × (vote_of d n ≡ Some Vote.Yes → (vote_of c n ≡ Some Vote.Yes) ⊎ (showed_after_activate Activated x.told ≡ true))) → KeptEarly N packages f n x → KeptEarly N packages g n x
-    early-fold f g x epoch back early =
-        record {
-          at = λ d current undecided quiet.
-              let b = back d current in
-              subst (λ e. EarlyAt N e d.campaign (packages d.campaign n) (state_of N x) (round_entries N d.campaign x.moves) (spans N d.campaign x.moves).ended x.sent x.told) (sym epoch)
-              (subst (λ k. EarlyAt N f.epoch k (packages k n) (state_of N x) (round_entries N k x.moves) (spans N k x.moves).ended x.sent x.told) (sym b.2) (early.at b.0 b.1 (sym b.3 ∙ undecided) (sym b.4 ∙ quiet)));
-          yes = λ d current undecided quiet voted.
-              let b = back d current in
-              elim (b.5 voted) [ inl y ↦ early.yes b.0 b.1 (sym b.3 ∙ undecided) (sym b.4 ∙ quiet) y | inr s ↦ s ];
-        }
+    early-fold f g x epoch back early = grind (arith, nat_tests, state_of, round_entries, spans) steps 500000
 
     pub early-no : (g : Fold) (x : NodeWorld N) → ((d : Current) → g.current ≡ Some d → d.decision ≡ None → d.restart ≡ false → ⊥) → KeptEarly N packages g n x
     early-no g x never = record { at = λ d current undecided quiet. absurd (never d current undecided quiet); yes = λ d current undecided quiet. absurd (never d current undecided quiet) }

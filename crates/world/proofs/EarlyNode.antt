@@ -1,4 +1,5 @@
 -- What one node's part of the time before the decision keeps under each event.
+use Rattle.std.proofs.lemmas.Bool.Decides.{nat_tests}
 use Rattle.std.proofs.Common.{arith, ◌≡◌, ◌≢◌, ◌⊎◌, inl, inr, if◌then◌else◌, ◌&&◌, ◌||◌, not, ◌++◌, ℕ, List, [], ◌∷◌, Option, Some, None, Bool, true, false, is_some, nat_eq, refl, sym, ◌∙◌, ap, subst}
 use Rattle.std.proofs.lemmas.Bool.{eqb-true, eq-eqb}
 use Rattle.ucm_base.specs.declared.ids.CallNo.{CallNo}
@@ -26,13 +27,7 @@ no-join : (a b c d : ℕ) → a ≡ c → b ≡ d → ◌≡◌ {A = CallNo} (re
 no-join a b c d p q = cc
 
 pub same-no : (a b : CallNo) → no_eq a b ≡ true → a ≡ b
-same-no a b e =
-    let h = and-left' (nat_eq a.epoch b.epoch) (nat_eq a.number b.number) e in
-    no-join a.epoch a.number b.epoch b.number (eqb-true a.epoch b.epoch h.0) (eqb-true a.number b.number h.1)
-  where
-    and-left' : (x y : Bool) → (x && y) ≡ true → (x ≡ true) × (y ≡ true)
-    and-left' true y q = (refl, q)
-    and-left' false y q = absurd (cc q)
+same-no a b e = grind (arith, nat_tests, nat_eq, no-join, eqb-true) steps 500000
 
 -- what told has for a number is an answer to a message of this number
 pub told-in : (ts : List Told) (at : CallNo) (r : Reply) → told_reply ts at ≡ Some r → (m : Message) × InTold (Answered m r) ts × (m.at ≡ at)
@@ -46,16 +41,8 @@ told-in (Answered m q ∷ ts) at r e = go (no_eq m.at at) refl e (λ z. told-in 
 
 pub showed-done : (x : Status) (ts : List Told) → showed_after_activate x ts ≡ true → activate_done ts ≡ true
 showed-done x [] e = absurd (cc e)
-showed-done x (Answered m r ∷ ts) e = or-right (is_activate m.call && is_done r) (activate_done ts) (showed-done x ts e)
-  where
-    or-right : (a b : Bool) → b ≡ true → (a || b) ≡ true
-    or-right true b q = refl
-    or-right false b q = q
-showed-done x (Showed s ∷ ts) e = go (is_status s x) (activate_done ts) refl e (λ q. showed-done x ts q)
-  where
-    go : (a b : Bool) → activate_done ts ≡ b → ((a && b) || showed_after_activate x ts) ≡ true → (showed_after_activate x ts ≡ true → activate_done ts ≡ true) → activate_done ts ≡ true
-    go true true q e' rec = q
-    go _ _ q e' rec = rec e'
+showed-done x (Answered m r ∷ ts) e = grind (arith, nat_tests, showed-done x ts e) steps 500000
+showed-done x (Showed s ∷ ts) e = grind (arith, nat_tests, showed-done x ts) steps 500000
 
 is-activated : (x : Status) → is_status x Activated ≡ true → x ≡ Activated
 is-activated Activated e = refl
@@ -90,13 +77,7 @@ module _ (k : ℕ) (ps : List (List ℕ)) where
   told-stage ts [] sent done told = ap (stage_of ps At_sync) (replies-none ts sent done)
   told-stage ts (e ∷ es) [] done told = absurd done
   told-stage ts (e ∷ es) (m ∷ ms) done told =
-      go (nat_eq m.campaign k && not m.decided) (told_reply ts m.at) (flag-true m done.1 done.2) (ap (λ y. told_reply ts y.at) done.0 ∙ told.0) (told-stage ts es ms done.3 told.1)
-    where
-      go : (b : Bool) (o : Option Reply) → b ≡ true → o ≡ Some e.reply → stage_of ps At_sync (replies_of k ts ms) ≡ stage_after ps es → stage_of ps At_sync (if b then replies_of k ts ms ++ one_if o else replies_of k ts ms) ≡ onward ps (stage_after ps es) e.reply
-      go b o p q rec =
-          subst (λ x. stage_of ps At_sync (if x then replies_of k ts ms ++ one_if o else replies_of k ts ms) ≡ onward ps (stage_after ps es) e.reply) (sym p)
-          (subst (λ x. stage_of ps At_sync (replies_of k ts ms ++ one_if x) ≡ onward ps (stage_after ps es) e.reply) (sym q)
-          (stage-push ps At_sync (replies_of k ts ms) e.reply ∙ ap (λ x. onward ps x e.reply) rec))
+      grind (arith, nat_tests, nat_eq, not, flag-true, stage_after, stage-push, told-stage ts es ms done.3 told.1) steps 500000
 
   at-activate : (stage : Stage) → call_at k stage ≡ Some Activate → stage ≡ At_activate
   at-activate stage e = grind arith
@@ -139,25 +120,15 @@ older-told ts us (e ∷ es) f h = all-told ts us es (λ y q. f y (inr q)) h
 module _ (N : NodeRules) (laws : NodeLaws N) where
   -- a delivery is nothing, or an executable call that is judged, kept and answered
   pub judged-cases : (s : N.State) (m : Message) (P : N.State → Option Reply → Type 0) → P s None → (Executable N s m → P (N.keep (N.judge s m.call).0 m.at m.call (N.judge s m.call).1) (Some (N.judge s m.call).1)) → P (delivered N s m.at m.call) (judged (reached N s m.at m.call))
-  judged-cases s m P here there = go (no_lt m.at (N.last s)) (no_eq m.at (N.last s)) refl refl
-    where
-      go : (a b : Bool) → no_lt m.at (N.last s) ≡ a → no_eq m.at (N.last s) ≡ b → P (if a then s else (if b then s else N.keep (N.judge s m.call).0 m.at m.call (N.judge s m.call).1)) (judged (if a then Stale (N.last s) else (if b then Again (N.kept s) else Fresh (N.judge s m.call).1)))
-      go false false p q = there (above-last m.at (N.last s) p q)
-      go _ _ p q = here
+  judged-cases s m P here there = grind (arith, nat_tests, judged, above-last) steps 500000
 
   module _ (epoch k : ℕ) (ps : List (List ℕ)) where
     -- a judged message is not executable
     entry-done : (s : N.State) (es : List ClientEntry) (ended : List (Span N)) (sent : List Message) (told : List Told) → EarlyAt N epoch k ps s es ended sent told → (e : ClientEntry) → InEntries e es → IsBelow (N.last s) e.message.at → ⊥
-    entry-done s es ended sent told h e q below =
-        elim (h.last e q) [
-          | inl b ↦ below-irrefl (N.last s) (below-trans (N.last s) e.message.at (N.last s) below b)
-          | inr b ↦ below-irrefl (N.last s) (subst (λ y. IsBelow (N.last s) y) b.0 below)
-        ]
+    entry-done s es ended sent told h e q below = grind (arith, nat_tests, below-irrefl, below-trans) steps 500000
 
     sent-done : (s : N.State) (es : List ClientEntry) (ended : List (Span N)) (sent : List Message) (told : List Told) → EarlyAt N epoch k ps s es ended sent told → (some : List Message) → AllDone k es some → (m : Message) → InSent m some → m.campaign ≡ k → IsBelow (N.last s) m.at → ⊥
-    sent-done s es ended sent told h some all m q c below =
-        let d = in-done k ps es some m all q c in
-        entry-done s es ended sent told h d.0 d.1 (subst (λ y. IsBelow (N.last s) y.at) (sym d.2) below)
+    sent-done s es ended sent told h some all m q c below = grind (arith, nat_tests, in-done, entry-done) steps 500000
 
     -- an executable message of the campaign is the one that waits
     pub is-next : (s : N.State) (es : List ClientEntry) (ended : List (Span N)) (sent : List Message) (told : List Told) → EarlyAt N epoch k ps s es ended sent told → (m : Message) → InSent m sent → m.campaign ≡ k → IsBelow (N.last s) m.at → (m.decided ≡ false) × (call_at k (stage_after ps es) ≡ Some m.call) × AllTold told es × AllDone k (record { message = m; reply = (N.judge s m.call).1 } ∷ es) sent
@@ -218,46 +189,12 @@ module _ (N : NodeRules) (laws : NodeLaws N) where
     -- a foreign call
     pub early-foreign : (s : N.State) (call : N.ForeignCall) (es : List ClientEntry) (ended : List (Span N)) (sent : List Message) (told : List Told) → EarlyAt N epoch k ps s es ended sent told → EarlyAt N epoch k ps (N.foreign s call) es ended sent told
     early-foreign s call es ended sent told h =
-        let l = laws.foreign_last s call in
-        record {
-          epochs = h.epochs;
-          follows = h.follows;
-          sends = elim h.sends [ inl d ↦ inl d | inr w ↦ inr (waits sent w.0, w.1) ];
-          last = λ e i. elim (h.last e i) [ inl b ↦ inl (subst (λ y. IsBelow e.message.at y) (sym l.0) b) | inr b ↦ inr (b.0 ∙ sym l.0, b.1 ∙ sym l.1) ];
-          told_entry = h.told_entry;
-          is_on = elim h.is_on [ inl x ↦ inl x | inr x ↦ inr (at-foreign N laws s call k ps (stage_after ps es) x.0, x.1) ];
-          over = h.over;
-          activated = λ d.
-              elim h.is_on [
-                | inl x ↦ absurd (let o = h.over (showed-done Activated told d) in cc (o, x))
-                | inr x ↦
-                    (let a = subst (λ y. IsAt N s k ps y) (h.over (showed-done Activated told d)) x.0 in
-                    (laws.foreign_session s call k a.mine).status ∙ h.activated d)
-              ];
-        }
-      where
-        waits : (some : List Message) → OneWaits N s k ps es some → OneWaits N (N.foreign s call) k ps es some
-        waits [] w = w
-        waits (y ∷ ys) w = (w.0, w.1, w.2, subst (λ z. IsBelow z y.at) (sym (laws.foreign_last s call).0) w.3, w.4)
+        grind (arith, nat_tests, laws.foreign_last, at-foreign, stage_after, showed-done, laws.foreign_session) steps 500000
 
     -- a unit, which leaves the spans that ended unless the session is being cleaned up
     pub early-unit : (s : N.State) (passed : Bool) (es : List ClientEntry) (ended ended' : List (Span N)) (sent : List Message) (told : List Told) → (IsAt N s k ps (stage_after ps es) → ended ≡ [] → ended' ≡ []) → EarlyAt N epoch k ps s es ended sent told → EarlyAt N epoch k ps (N.unit s passed) es ended' sent told
     early-unit s passed es ended ended' sent told stays h =
-        let l = laws.unit_last s passed in
-        record {
-          epochs = h.epochs;
-          follows = h.follows;
-          sends = elim h.sends [ inl d ↦ inl d | inr w ↦ inr (waits sent w.0, w.1) ];
-          last = λ e i. elim (h.last e i) [ inl b ↦ inl (subst (λ y. IsBelow e.message.at y) (sym l.0) b) | inr b ↦ inr (b.0 ∙ sym l.0, b.1 ∙ sym l.1) ];
-          told_entry = h.told_entry;
-          is_on = elim h.is_on [ inl x ↦ inl x | inr x ↦ inr (at-unit N laws s passed k ps (stage_after ps es) x.0, stays x.0 x.1) ];
-          over = h.over;
-          activated = λ d. let a = h.activated d in ap N.status (laws.unit_still s passed (ap is_working a)) ∙ a;
-        }
-      where
-        waits : (some : List Message) → OneWaits N s k ps es some → OneWaits N (N.unit s passed) k ps es some
-        waits [] w = w
-        waits (y ∷ ys) w = (w.0, w.1, w.2, subst (λ z. IsBelow z y.at) (sym (laws.unit_last s passed).0) w.3, w.4)
+        grind (arith, nat_tests, laws.unit_last, at-unit, stage_after, laws.unit_still) steps 500000
 
     -- an answer that is told: its message is the last one that was judged
     pub early-answered : (s : N.State) (es : List ClientEntry) (ended : List (Span N)) (sent : List Message) (told : List Told) (m : Message) (r : Reply) → InSent m sent → m.at ≡ N.last s → N.kept s ≡ r → (m.call ≢ Sync → m.campaign ≡ k) → EarlyAt N epoch k ps s es ended sent told → EarlyAt N epoch k ps s es ended sent (Answered m r ∷ told)
@@ -334,24 +271,7 @@ module _ (N : NodeRules) (laws : NodeLaws N) where
     -- a status that is told
     pub early-showed : (s : N.State) (es : List ClientEntry) (ended : List (Span N)) (sent : List Message) (told : List Told) (x : Status) → N.status s ≡ x → EarlyAt N epoch k ps s es ended sent told → EarlyAt N epoch k ps s es ended sent (Showed x ∷ told)
     early-showed s es ended sent told x status h =
-        record {
-          epochs = h.epochs;
-          follows = h.follows;
-          sends =
-              elim h.sends [
-                | inl d ↦ inl (d.0, older-told told (Showed x ∷ told) es (λ e i t. t) d.1)
-                | inr w ↦ inr (w.0, all-told told (Showed x ∷ told) es (λ e i t. t) w.1)
-              ];
-          last = h.last;
-          told_entry = h.told_entry;
-          is_on = h.is_on;
-          over = h.over;
-          activated = λ d. go (is_status x Activated) refl d;
-        }
-      where
-        go : (a : Bool) → is_status x Activated ≡ a → ((a && activate_done told) || showed_after_activate Activated told) ≡ true → N.status s ≡ Activated
-        go true p d = status ∙ is-activated x p
-        go false p d = h.activated d
+        grind (arith, nat_tests, older-told, all-told, is-activated) steps 500000
 
     -- before a new message all entries were told
     pub all-answered : (s : N.State) (es : List ClientEntry) (ended : List (Span N)) (sent : List Message) (told : List Told) → ((m : Message) (r : Reply) → InTold (Answered m r) told → IsBelow (N.last s) m.at → ⊥) → ((m : Message) (ms : List Message) → sent ≡ m ∷ ms → m.campaign ≡ k → is_told told m.at ≡ true) → EarlyAt N epoch k ps s es ended sent told → AllDone k es sent × AllTold told es
@@ -381,17 +301,7 @@ module _ (N : NodeRules) (laws : NodeLaws N) where
             known a.0 r.0 a.1 (subst (λ z. IsBelow (N.last s) z) (sym a.2) w.3)
 
     pub early-sent : (s : N.State) (es : List ClientEntry) (ended : List (Span N)) (sent : List Message) (told : List Told) (m : Message) → m.campaign ≡ k → m.decided ≡ false → m.at.epoch ≡ epoch → IsBelow (N.last s) m.at → call_at k (stage_of ps At_sync (replies_of k told sent)) ≡ Some m.call → AllDone k es sent × AllTold told es → EarlyAt N epoch k ps s es ended sent told → EarlyAt N epoch k ps s es ended (m ∷ sent) told
-    early-sent s es ended sent told m c d e below call all h =
-        record {
-          epochs = λ y i yc. elim i [ inl q ↦ ap (λ z. z.at.epoch) q ∙ e | inr i' ↦ h.epochs y i' yc ];
-          follows = h.follows;
-          sends = inr ((c, d, ap (call_at k) (sym (told-stage k ps told es sent all.0 all.1)) ∙ call, below, all.0), all.1);
-          last = h.last;
-          told_entry = h.told_entry;
-          is_on = h.is_on;
-          over = h.over;
-          activated = h.activated;
-        }
+    early-sent s es ended sent told m c d e below call all h = grind (arith, nat_tests, told-stage) steps 500000
 
 -- of the entries of the rounds none is refused but possibly the newest
 onward-refused : (ps : List (List ℕ)) (stage : Stage) (why : Refusal) → onward ps stage (Refused why) ≡ Refused_once

@@ -63,11 +63,8 @@ shown-told k epoch (Answered m r ∷ ts) e = go (is_end_sync k epoch m) refl (λ
 
 pub status-told : (k epoch : ℕ) (ts : List Told) (x : Status) → last_status k epoch ts ≡ Some x → SyncTold k epoch ts
 status-told k epoch [] x e = absurd (cc e)
-status-told k epoch (Showed s ∷ ts) x e = go (is_some (last_shown k epoch ts)) refl (λ q. status-told k epoch ts x q) e
-  where
-    go : (b : Bool) → is_some (last_shown k epoch ts) ≡ b → (last_status k epoch ts ≡ Some x → SyncTold k epoch ts) → or_else (status_if b s) (last_status k epoch ts) ≡ Some x → SyncTold k epoch (Showed s ∷ ts)
-    go true q rec e' = told-later k epoch (Showed s) ts (shown-told k epoch ts q)
-    go false q rec e' = told-later k epoch (Showed s) ts (rec e')
+status-told k epoch (Showed s ∷ ts) x e =
+    grind (arith, nat_tests, is_some, told-later, shown-told, status-told k epoch ts x) steps 500000
 status-told k epoch (Answered m r ∷ ts) x e = go (is_end_sync k epoch m) refl (λ q. status-told k epoch ts x q) e
   where
     go : (b : Bool) → is_end_sync k epoch m ≡ b → (last_status k epoch ts ≡ Some x → SyncTold k epoch ts) → or_else (status_of_shown (shown_if b r)) (last_status k epoch ts) ≡ Some x → SyncTold k epoch (Answered m r ∷ ts)
@@ -75,11 +72,7 @@ status-told k epoch (Answered m r ∷ ts) x e = go (is_end_sync k epoch m) refl 
     go false q rec e' = told-later k epoch (Answered m r) ts (rec e')
 
 pub end-sync-decided : (k epoch : ℕ) (m : Message) → is_end_sync k epoch m ≡ true → (m.decided ≡ true) × (m.campaign ≡ k)
-end-sync-decided k epoch m e = go (is_sync m.call) m.decided (nat_eq m.campaign k) refl refl e
-  where
-    go : (a b c : Bool) → m.decided ≡ b → nat_eq m.campaign k ≡ c → (a && (b && (c && nat_eq m.at.epoch epoch))) ≡ true → (m.decided ≡ true) × (m.campaign ≡ k)
-    go true true true p q e' = (p, eqb-true m.campaign k q)
-    go _ _ _ p q e' = absurd (cc e')
+end-sync-decided k epoch m e = grind (arith, nat_tests, nat_eq, eqb-true) steps 500000
 
 module _ (N : NodeRules) (laws : NodeLaws N) (f : Fold) (n : ℕ) where
   -- after an answer to a message of the decided campaign nothing from before the decision is executable
@@ -185,12 +178,7 @@ module _ (N : NodeRules) (laws : NodeLaws N) (f : Fold) (n : ℕ) where
       at_status x i = inl (same x i refl)
 
   pub unit-back : (s : N.State) (passed : Bool) (tag : ℕ) → N.mine (N.unit s passed) ≡ Some tag → N.mine s ≡ Some tag
-  unit-back s passed tag e = go (N.mine s) refl
-    where
-      go : (o : Option ℕ) → N.mine s ≡ o → N.mine s ≡ Some tag
-      go None q = absurd (cc ((laws.unit_none s passed q).0, e))
-      go (Some t) q =
-          elim (unit-mine s passed t q) [ inl h ↦ q ∙ (sym h ∙ e) | inr h ↦ absurd (cc (h.1, e)) ]
+  unit-back s passed tag e = grind (arith, nat_tests, laws.unit_none, unit-mine) steps 500000
 
   pub is-cleaning : (x : Status) → is_status x CleaningUp ≡ true → x ≡ CleaningUp
   is-cleaning CleaningUp e = refl
@@ -198,19 +186,10 @@ module _ (N : NodeRules) (laws : NodeLaws N) (f : Fold) (n : ℕ) where
 
   -- a span under a unit
   still-open : (y : Spans N) (b : Bool) (z : List (Span N)) → (if (y.is_open && b) then record { is_open = false; ended = z } else y).is_open ≡ true → (y.is_open ≡ true) × (b ≡ false)
-  still-open y b z e = go y.is_open b refl refl e
-    where
-      go : (o c : Bool) → y.is_open ≡ o → b ≡ c → (if (o && c) then record { is_open = false; ended = z } else y).is_open ≡ true → (y.is_open ≡ true) × (b ≡ false)
-      go true true p q e' = absurd (cc e')
-      go true false p q e' = (p, q)
-      go false c p q e' = absurd (cc (p, e'))
+  still-open y b z e = grind (arith, nat_tests) steps 500000
 
   pub span-ended : (y : Spans N) (b : Bool) (z : List (Span N)) → ((if (y.is_open && b) then record { is_open = false; ended = z } else y).ended ≡ y.ended) ⊎ ((y.is_open ≡ true) × (b ≡ true) × ((if (y.is_open && b) then record { is_open = false; ended = z } else y).ended ≡ z))
-  span-ended y b z = go y.is_open b refl refl
-    where
-      go : (o c : Bool) → y.is_open ≡ o → b ≡ c → ((if (o && c) then record { is_open = false; ended = z } else y).ended ≡ y.ended) ⊎ ((y.is_open ≡ true) × (b ≡ true) × ((if (o && c) then record { is_open = false; ended = z } else y).ended ≡ z))
-      go true true p q = inr (p, q, refl)
-      go _ _ p q = inl refl
+  span-ended y b z = grind (arith, nat_tests) steps 500000
 
   pub event-unit : (x : NodeWorld N) (passed : Bool) → KeptFold f → KeptOld N f n x → KeptOld N f n (record { moves = Unit_done passed ∷ x.moves; sent = x.sent; told = x.told })
   event-unit x passed fold kept = kept-step x (Unit_done passed) fold kept steps
@@ -265,11 +244,7 @@ module _ (N : NodeRules) (laws : NodeLaws N) (f : Fold) (n : ℕ) where
   and-left false b e = absurd (cc e)
 
   idle-none : (s : N.State) → N.status s ≡ Idle → N.mine s ≡ None
-  idle-none s i = go (N.mine s) refl
-    where
-      go : (o : Option ℕ) → N.mine s ≡ o → N.mine s ≡ None
-      go None e = e
-      go (Some tag) e = absurd (laws.session_status s tag e i)
+  idle-none s i = grind (arith, nat_tests, laws.session_status) steps 500000
 
   pub begins-mine : (k : ℕ) (s : N.State) (at : CallNo) (call : Call) → (has_tag k call && (is_status (N.status s) Idle && is_fresh_done (reached N s at call))) ≡ true → N.mine (delivered N s at call) ≡ Some k
   begins-mine k s at (ProcessSwPackage id tag) e = go (no_lt at (N.last s)) (no_eq at (N.last s)) (and-left (is_status (N.status s) Idle) (is_fresh_done (reached N s at (ProcessSwPackage id tag))) (and-left (nat_eq tag k) (is_status (N.status s) Idle && is_fresh_done (reached N s at (ProcessSwPackage id tag))) e).1).1

@@ -1,4 +1,6 @@
 -- The node of the tables meets the world's laws, where every step keeps a state valid; and so the law of campaigns holds of it.
+use Rattle.std.proofs.Common.{arith}
+use Rattle.std.proofs.lemmas.Bool.Decides.{nat_tests}
 use Rattle.std.proofs.Common.{◌≡◌, ◌≢◌, ◌⊎◌, inl, inr, ℕ, List, [], ◌∷◌, ◌++◌, Some, None, Bool, true, false, refl, sym, ap, subst}
 use Rattle.std.specs.List.{Contains}
 use Rattle.ucm_base.specs.Parts.{Bytes}
@@ -42,11 +44,7 @@ module _ (read : Reading) (clusters : List (Cluster Bytes)) (keeps : KeepsNode r
       go _ e = refl
 
   pub unit-is : (x : FitState read) (passed : Bool) → (fit_unit read clusters keeps x passed (is_working x.state.status)).state ≡ unit_in x.state passed
-  unit-is x passed = go (is_working x.state.status) refl
-    where
-      go : (b : Bool) → is_working x.state.status ≡ b → (fit_unit read clusters keeps x passed b).state ≡ unit_in x.state passed
-      go true e = refl
-      go false e = sym (units.unit_still x.state passed e)
+  unit-is x passed = grind (arith, nat_tests, fit_unit, unit_in) steps 500000
 
   session-of : (x y : FitState read) (u : NodeState) → y.state ≡ u → KeepsSession (real read clusters) x.state u → KeepsSession (fit read clusters keeps) x y
   session-of x y u e k = let h = subst (λ z. KeepsSession (real read clusters) x.state z) (sym e) k in record { mine = h.mine; status = h.status; planned = h.planned; in_process = h.in_process; outcome = h.outcome }

@@ -1,4 +1,5 @@
 -- Laws of the real node: calls of other clients, and units where client 0 has no session.
+use Rattle.std.proofs.lemmas.Bool.Decides.{nat_tests}
 use Rattle.std.proofs.Common.{◌≡◌, inl, inr, ℕ, suc, List, [], ◌∷◌, Option, Some, None, false, refl, sym, ◌∙◌, ap, subst, arith}
 use Rattle.std.specs.Prelude.{◌==◌, option_map, option_and_then, unwrap_or, slice_set}
 use Rattle.std.specs.Option.{option_or, option_map_or}
@@ -32,29 +33,11 @@ use Rattle.world.proofs.Sessions.{mine-some}
 
 -- a numbered call leaves the state, or is judged and kept
 pub foreign-cases : (read : Reading) (s : NodeState) (f : ForeignCall) (P : NodeState → Type 0) → P s → P (after_call s (suc f.other) f.at f.call (verdict_for read s (suc f.other) f.call) (reply_to s (suc f.other) f.call (verdict_for read s (suc f.other) f.call))) → P (foreign_in read s f)
-foreign-cases read s f P here there = go (of_client s.last (suc f.other))
-  where
-    by : (k : Kept) (o : Ordering) → P (by_order s (executed s (suc f.other) f.at f.call (verdict_for read s (suc f.other) f.call)) k o).0
-    by k Greater = there
-    by k _ = here
-
-    go : (o : Option Kept) → P (by_last s (executed s (suc f.other) f.at f.call (verdict_for read s (suc f.other) f.call)) f.at o).0
-    go None = there
-    go (Some k) = by k (call_no_cmp f.at k.no)
+foreign-cases read s f P here there = grind (arith, nat_tests) steps 500000
 
 -- where the table leads
 pub led-keeps : {A : Type 0} (g : NodeState → A) → ((s : NodeState) (st : Status) → g (record s { status = st }) ≡ g s) → ((s : NodeState) (o : Outcome) → g (clean_up o s) ≡ g s) → (c : Call) (s : NodeState) → g (led_by c s) ≡ g s
-led-keeps g status clean c s = go (status_table s.status c)
-  where
-    resume : (l : List (Change Bytes)) → g (elim l as (λ _. NodeState) [ [] ↦ clean_up Old s | change ∷ changes ↦ record s { status = Ready } ]) ≡ g s
-    resume [] = clean s Old
-    resume (x ∷ xs) = status s Ready
-
-    go : (o : Option Goal) → g (option_map_or (arrive s) o s) ≡ g s
-    go None = refl
-    go (Some (To st)) = status s st
-    go (Some (CleanUp o)) = clean s o
-    go (Some Resume) = resume (changes_in s)
+led-keeps g status clean c s = grind (arith, nat_tests) steps 500000
 
 -- what no call touches
 accepted-last : (s : NodeState) (client : ℕ) (c : Call) (v : Verdict) → (accepted s client c v).last ≡ s.last
@@ -138,14 +121,8 @@ led-mine : (c : Call) (s : NodeState) → mine_in (led_by c s) ≡ mine_in s
 led-mine c s = led-keeps mine_in (λ t st. refl) (λ t o. mine-changed (λ x. record x { outcome = Some o }) (λ x. refl) (λ x. refl) t.session) c s
 
 accepted-none : (s : NodeState) (other : ℕ) (c : Call) (v : Verdict) → mine_in s ≡ None → mine_in (accepted s (suc other) c v) ≡ None
-accepted-none s other (call.ProcessSwPackage id tag) v e = led-mine (call.ProcessSwPackage id tag) (begin_processing s (suc other) id tag) ∙ go s.session e
-  where
-    zero-not : (suc other == 0) ≡ false
-    zero-not = elim (eqb_tells (suc other) 0) [ inl h ↦ absurd (let z : suc other ≡ 0 = h.1 in omega (arith, z)) | inr h ↦ h.0 ]
-
-    go : (o : Option Session) → mine-of o ≡ None → mine-of (Some (record (unwrap_or o (new_session s (suc other) tag)) { processing = Some id; units_done = 0 })) ≡ None
-    go None q = ap (λ b. tag_if b tag) zero-not
-    go (Some x) q = q
+accepted-none s other (call.ProcessSwPackage id tag) v e =
+    grind (arith, nat_tests, led-mine, eqb_tells, tag_if) steps 500000
 accepted-none s other call.Activate v e = led-mine call.Activate s ∙ e
 accepted-none s other call.Finish v e = led-mine call.Finish s ∙ e
 accepted-none s other call.Rollback v e = led-mine call.Rollback s ∙ e

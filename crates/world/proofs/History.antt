@@ -1,4 +1,6 @@
 -- A node's own history, with no world: where client 0's judged calls are those of the rounds, the node is at their stage.
+use Rattle.std.proofs.Common.{arith}
+use Rattle.std.proofs.lemmas.Bool.Decides.{nat_tests}
 use Rattle.std.proofs.Common.{◌≡◌, ◌⊎◌, inl, inr, ◌&&◌, not, ℕ, List, [], ◌∷◌, Bool, true, false, nat_eq, sym, ap, subst}
 use Rattle.std.proofs.lemmas.Bool.{eq-eqb}
 use Rattle.world.proofs.Rules.{NodeRules, NodeLaws, reached, delivered}
@@ -40,7 +42,4 @@ module _ (N : NodeRules) (laws : NodeLaws N) (k : ℕ) (ps : List (List ℕ)) wh
   history-at (Unit_done passed ∷ ms) only follows =
       elim (history-at ms only follows) [ inl e ↦ inl e | inr h ↦ inr (at-unit N laws (after N ms) passed k ps (stage_after ps (round_entries N k ms)) h) ]
   history-at (Delivered m ∷ ms) only follows =
-      step-at (after N ms) m (round_entries N k ms) (nat_eq m.campaign k && not m.decided) (flag m.campaign m.decided only.0 only.1) (history-at ms only.2) follows
-    where
-      flag : (c : ℕ) (d : Bool) → c ≡ k → d ≡ false → (nat_eq c k && not d) ≡ true
-      flag c d e q = subst (λ b. (b && not d) ≡ true) (sym (eq-eqb c k e)) (ap not q)
+      grind (arith, nat_tests, step-at, after, round_entries, nat_eq, not, eq-eqb, history-at ms only.2) steps 500000

@@ -1,4 +1,5 @@
 -- With Enter Successful every named node is new, from an invariant of the time before the decision.
+use Rattle.std.proofs.lemmas.Bool.Decides.{nat_tests}
 use Rattle.std.proofs.Common.{◌≡◌, ◌≢◌, ◌⊎◌, if◌then◌else◌, ◌+◌, ℕ, ◌≤◌, List, [], ◌∷◌, Option, Some, None, Bool, true, false, is_none, nat_eq, nat_le, refl, sym, ◌∙◌, ap, subst, arith}
 use Rattle.std.specs.List.{flat_map}
 use Rattle.std.proofs.lemmas.Bool.{eqb-true}
@@ -48,11 +49,7 @@ module _ (N : NodeRules) (laws : NodeLaws N) (packages : Packages) (numbers : Li
     pub ready : (w : World N) (c : Current) → w.fold.current ≡ Some c → refusal_of w.fold (Decide Commit) ≡ None → WorldNew w → Holds w → (n : ℕ) → IsReadyToCommit N laws packages n c (w.node n)
 
   one-node : (w : World N) (n : ℕ) (x : NodeWorld N) → ((k : ℕ) → KeptCommitted N laws packages k w.fold (w.node k)) → KeptCommitted N laws packages n w.fold x → (k : ℕ) → KeptCommitted N laws packages k w.fold (if nat_eq k n then x else w.node k)
-  one-node w n x each new k = go (nat_eq k n) refl
-    where
-      go : (b : Bool) → nat_eq k n ≡ b → KeptCommitted N laws packages k w.fold (if b then x else w.node k)
-      go true e = subst (λ j. KeptCommitted N laws packages j w.fold x) (sym (eqb-true k n e)) new
-      go false e = each k
+  one-node w n x each new k = grind (arith, nat_tests, nat_eq, eqb-true) steps 500000
 
   names-same : (f g : Fold) → ((n : ℕ) → SameFold n f g) → IsNamed f → IsNamed g
   names-same f g same names d current n low high steps =
@@ -123,11 +120,7 @@ module _ (N : NodeRules) (laws : NodeLaws N) (packages : Packages) (numbers : Li
       }
 
   ended : (w : World N) (nd : NodeId) (o : Outcome) (p : Option Current) → w.fold.current ≡ p → WorldNew w → Parts (record { fold = record { epoch = w.fold.epoch; earlier = w.fold.earlier; current = changed_in p (EndedAt nd o) }; node = w.node })
-  ended w nd o None e new =
-      record {
-        names = λ c current. absurd (cc current);
-        each = λ n. record { calm = λ c current. absurd (cc current); committed = λ c current. absurd (cc current); entered = (new.each n).entered };
-      }
+  ended w nd o None e new = grind (arith, nat_tests) steps 500000
   ended w nd o (Some c) e new =
       record {
         names = λ c' current n low high steps.
@@ -197,12 +190,7 @@ module _ (N : NodeRules) (laws : NodeLaws N) (packages : Packages) (numbers : Li
       (early.keeps w e made.0 new holds) made.1
 
   new-opened : (openings : ℕ → N.ForeignCall) → WorldNew (opened_world N openings)
-  new-opened openings =
-      record {
-        kept = kept-opened N laws packages numbers openings;
-        names = λ c current. absurd (cc current);
-        each = λ n. record { calm = λ c current. absurd (cc current); committed = λ c current. absurd (cc current); entered = λ k h. absurd h };
-      }
+  new-opened openings = grind (arith, nat_tests, kept-opened) steps 500000
 
   -- with Enter Successful every named node is new, over every list of events
   pub new-law : Early → (openings : ℕ → N.ForeignCall) (events : List (Event N)) (w : World N) → Makes N packages numbers (opened_world N openings) events w → (k : ℕ) → InEarlier (k, Successful) w.fold.earlier → (n : ℕ) → 1 ≤ n → n ≤ 8 → packages k n ≢ [] → IsNew N k (flat_map N.changes_of (packages k n)) (w.node n).moves

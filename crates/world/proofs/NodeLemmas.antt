@@ -1,4 +1,6 @@
 -- What one step of a node keeps, from the laws of a node alone.
+use Rattle.std.proofs.Common.{arith}
+use Rattle.std.proofs.lemmas.Bool.Decides.{nat_tests}
 use Rattle.std.proofs.Common.{◌≡◌, ◌≢◌, ◌⊎◌, inl, inr, if◌then◌else◌, ℕ, Option, Some, None, Bool, true, false, refl, sym, ◌∙◌, ap, subst}
 use Rattle.pm_types.specs.declared.replies.Refusal.{Refusal}
 use Rattle.ucm_base.specs.declared.ids.CallNo.{CallNo}
@@ -18,15 +20,10 @@ use Rattle.world.proofs.Invariant.{IsRolledBack, EndsOld, KeptHolds}
 module _ (N : NodeRules) (laws : NodeLaws N) where
   -- a step that keeps client 0's session keeps both facts
   pub rolled-keeps : (s t : N.State) → KeepsSession N s t → IsRolledBack N s → IsRolledBack N t
-  rolled-keeps s t k rolled tag mine =
-      let at_s : N.mine s ≡ Some tag = cc (k.mine, mine) in
-      elim (rolled tag at_s) [ inl e ↦ inl (k.status ∙ e) | inr e ↦ inr (k.status ∙ e) ]
+  rolled-keeps s t k rolled tag mine = grind (arith, nat_tests) steps 500000
 
   pub ends_old-keeps : (s t : N.State) → KeepsSession N s t → EndsOld N s → EndsOld N t
-  ends_old-keeps s t k old tag mine status =
-      let at_s : N.mine s ≡ Some tag = cc (k.mine, mine) in
-      let status_s : N.status s ≡ CleaningUp = cc (k.status, status) in
-      k.outcome ∙ old tag at_s status_s
+  ends_old-keeps s t k old tag mine status = grind (arith, nat_tests) steps 500000
 
   pub rolled-none : (s : N.State) → N.mine s ≡ None → IsRolledBack N s
   rolled-none s none tag mine = absurd (cc (none, mine))
@@ -36,18 +33,12 @@ module _ (N : NodeRules) (laws : NodeLaws N) where
 
   -- a foreign call
   pub rolled-foreign : (s : N.State) (call : N.ForeignCall) → IsRolledBack N s → IsRolledBack N (N.foreign s call)
-  rolled-foreign s call rolled = go (N.mine s) refl
-    where
-      go : (o : Option ℕ) → N.mine s ≡ o → IsRolledBack N (N.foreign s call)
-      go None e = rolled-none (N.foreign s call) (laws.foreign_none s call e)
-      go (Some tag) e = rolled-keeps s (N.foreign s call) (laws.foreign_session s call tag e) rolled
+  rolled-foreign s call rolled =
+      grind (arith, nat_tests, rolled-none, laws.foreign_none, rolled-keeps, laws.foreign_session) steps 500000
 
   pub ends_old-foreign : (s : N.State) (call : N.ForeignCall) → EndsOld N s → EndsOld N (N.foreign s call)
-  ends_old-foreign s call old = go (N.mine s) refl
-    where
-      go : (o : Option ℕ) → N.mine s ≡ o → EndsOld N (N.foreign s call)
-      go None e = ends_old-none (N.foreign s call) (laws.foreign_none s call e)
-      go (Some tag) e = ends_old-keeps s (N.foreign s call) (laws.foreign_session s call tag e) old
+  ends_old-foreign s call old =
+      grind (arith, nat_tests, ends_old-none, laws.foreign_none, ends_old-keeps, laws.foreign_session) steps 500000
 
   -- a unit
   pub cleaned : (s : N.State) (passed : Bool) (tag : ℕ) → N.mine s ≡ Some tag → N.status s ≡ CleaningUp → N.mine (N.unit s passed) ≡ None
@@ -59,15 +50,7 @@ module _ (N : NodeRules) (laws : NodeLaws N) where
   still s passed x e f = laws.unit_still s passed (ap is_working e ∙ f)
 
   pub rolled-unit : (s : N.State) (passed : Bool) → IsRolledBack N s → IsRolledBack N (N.unit s passed)
-  rolled-unit s passed rolled = go (N.mine s) refl
-    where
-      go : (o : Option ℕ) → N.mine s ≡ o → IsRolledBack N (N.unit s passed)
-      go None e = rolled-none (N.unit s passed) (laws.unit_none s passed e).0
-      go (Some tag) e =
-          elim (rolled tag e) [
-            | inl r ↦ rw (still s passed RolledBack r refl) rolled
-            | inr c ↦ rolled-none (N.unit s passed) (cleaned s passed tag e c)
-          ]
+  rolled-unit s passed rolled = grind (arith, nat_tests, rolled-none, laws.unit_none, still, cleaned) steps 500000
 
   -- no unit leads into CleaningUp
   pub ends_old-unit : (s : N.State) (passed : Bool) → EndsOld N s → EndsOld N (N.unit s passed)
@@ -215,11 +198,7 @@ module _ (N : NodeRules) (laws : NodeLaws N) where
 
   -- a delivery is nothing, or a call that is judged and kept
   pub delivered-cases : (s : N.State) (at : CallNo) (call : Call) (P : N.State → Type 0) → P s → (no_lt at (N.last s) ≡ false → no_eq at (N.last s) ≡ false → P (N.keep (N.judge s call).0 at call (N.judge s call).1)) → P (delivered N s at call)
-  delivered-cases s at call P here there = go (no_lt at (N.last s)) (no_eq at (N.last s)) there
-    where
-      go : (a b : Bool) → (a ≡ false → b ≡ false → P (N.keep (N.judge s call).0 at call (N.judge s call).1)) → P (if a then s else (if b then s else N.keep (N.judge s call).0 at call (N.judge s call).1))
-      go false false f = f refl refl
-      go _ _ f = here
+  delivered-cases s at call P here there = grind (arith, nat_tests) steps 500000
 
   pub rolled-delivered : (s : N.State) (at : CallNo) (call : Call) → ((id tag : ℕ) → call ≢ ProcessSwPackage id tag) → IsRolledBack N s → IsRolledBack N (delivered N s at call)
   rolled-delivered s at call not r =
@@ -239,11 +218,7 @@ module _ (N : NodeRules) (laws : NodeLaws N) where
 
   -- what a Sync shows
   pub sync-shown : (s : N.State) (call : Call) (x : Shown) → call ≡ Sync → (N.judge s call).1 ≡ Synced x → (x.session ≡ shown_session N s) × ((N.judge s call).0 ≡ s)
-  sync-shown s call x e r =
-      let r2 : (N.judge s Sync).1 ≡ Synced x = subst (λ c. (N.judge s c).1 ≡ Synced x) e r in
-      let same : Synced x ≡ Synced (record { session = shown_session N s; ended = N.ended s; transfers = N.transfers s }) = sym r2 ∙ laws.sync_reply s in
-      let y : x ≡ record { session = shown_session N s; ended = N.ended s; transfers = N.transfers s } = cc same in
-      (ap (λ z. z.session) y, subst (λ c. (N.judge s c).0 ≡ s) (sym e) (laws.sync_state s))
+  sync-shown s call x e r = grind (arith, nat_tests, shown_session, laws.sync_reply, laws.sync_state) steps 500000
 
   pub shown-none : (owner : ℕ) (status : Status) (mine : Option ℕ) → is_masters (shown_of owner status mine) ≡ false → mine ≡ None
   shown-none owner status None f = refl

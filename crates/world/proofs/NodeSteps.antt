@@ -32,18 +32,7 @@ module _ (read : Reading) (o : NodeState) (es : List Entry) where
 
   -- the state after a call
   pub entered-state : (client : ℕ) (at : CallNo) (c : Call) → state_after read o (entered es client at c (reached read now client at c)) ≡ (step now client at c (verdict_for read now client c)).0
-  entered-state client at c = by (of_client now.last client)
-    where
-      done : NodeState × Reached
-      done = executed now client at c (verdict_for read now client c)
-
-      order : (kept : Kept) (x : Ordering) → state_after read o (entered es client at c (by_order now done kept x).1) ≡ (by_order now done kept x).0
-      order kept Greater = after-append read o es _
-      order kept _ = refl
-
-      by : (x : Option Kept) → state_after read o (entered es client at c (by_last now done at x).1) ≡ (by_last now done at x).0
-      by None = after-append read o es _
-      by (Some kept) = order kept (call_no_cmp at kept.no)
+  entered-state client at c = grind (arith, nat_tests, after-append) steps 500000
 
   or-false : (b : Bool) → (b || false) ≡ b
   or-false true = refl
@@ -66,9 +55,7 @@ module _ (read : Reading) (o : NodeState) (es : List Entry) where
 
   -- another client's calls begin and end none
   pub foreign-spans : (k other : ℕ) (at : CallNo) (c : Call) (r : Reached) → spans read k o (entered es (suc other) at c r) ≡ spans read k o es
-  foreign-spans k other at c (Executed reply) =
-      let none : nat_eq (suc other) 0 ≡ false = grind (arith, nat_tests) in
-      spans-append read k o es _ _ ∙ (ap (λ b. same (spans read k o es) (b && (has_tag k c && (is_status now.status Idle && is_done reply)))) none ∙ unchanged (spans read k o es))
+  foreign-spans k other at c (Executed reply) = grind (arith, nat_tests, spans-append, unchanged) steps 500000
   foreign-spans k other at c _ = refl
 
   abbrev entry : NodeState → NodeState
@@ -76,29 +63,14 @@ module _ (read : Reading) (o : NodeState) (es : List Entry) where
 
   -- the state after a unit
   pub worked-state : (passed : Bool) → state_after read o (worked_on es passed (unit now passed)) ≡ unit_in now passed
-  worked-state passed = go (unit now passed) refl
-    where
-      go : (u : Option NodeState) → unit now passed ≡ u → state_after read o (worked_on es passed u) ≡ unit_in now passed
-      go None e = sym (ap (λ u. unwrap_or (option_map entry u) now) e)
-      go (Some t) e = after-append read o es _
+  worked-state passed = grind (arith, nat_tests, unit_in, after-append) steps 500000
 
   pub worked-status : (passed : Bool) → shown_by now (unit now passed) ≡ (unit_in now passed).status
-  worked-status passed = go (unit now passed)
-    where
-      go : (u : Option NodeState) → shown_by now u ≡ (unwrap_or (option_map entry u) now).status
-      go None = refl
-      go (Some t) = refl
+  worked-status passed = grind (arith, nat_tests) steps 500000
 
   -- in CleaningUp there is a unit to do
   cleans : (passed : Bool) → IsConsistent now → unit now passed ≡ None → is_status now.status CleaningUp ≡ false
-  cleans passed v e = go now.status refl
-    where
-      go : (st : Status) → now.status ≡ st → is_status st CleaningUp ≡ false
-      go CleaningUp q =
-          let x = session-there now v (λ i. cc (q, i)) in
-          let some : unit now passed ≡ Some (clean_up_unit now x.0) = ap (λ y. option_and_then (λ z. unit_of now z passed now.status) y) x.1 ∙ ap (unit_of now x.0 passed) q in
-          absurd (cc (some, e))
-      go _ q = refl
+  cleans passed v e = grind (arith, nat_tests, session-there) steps 500000
 
   joined : (b c : Bool) (a x y : Spans) → x ≡ y → (if c && b then a else x) ≡ (if b && c then a else y)
   joined b c a x y e = grind arith
@@ -110,14 +82,5 @@ module _ (read : Reading) (o : NodeState) (es : List Entry) where
   -- the spans after a unit
   pub worked-spans : (k : ℕ) (passed : Bool) → IsConsistent now
       → spans read k o (worked_on es passed (unit now passed)) ≡ (if (spans read k o es).is_open && is_status now.status CleaningUp then record { is_open = false; ended = span_of now (unit_in now passed) ∷ (spans read k o es).ended } else spans read k o es)
-  worked-spans k passed v = go (unit now passed) refl
-    where
-      old : Spans
-      old = spans read k o es
-
-      new : Spans
-      new = record { is_open = false; ended = span_of now (unit_in now passed) ∷ old.ended }
-
-      go : (u : Option NodeState) → unit now passed ≡ u → spans read k o (worked_on es passed u) ≡ (if old.is_open && is_status now.status CleaningUp then new else old)
-      go None e = sym (ap (λ b. if b then new else old) (ap (λ b. old.is_open && b) (cleans passed v e) ∙ and-no old.is_open))
-      go (Some t) e = spans-append read k o es _ _ ∙ joined old.is_open (is_status now.status CleaningUp) new (same old false) old (unchanged old)
+  worked-spans k passed v =
+      grind (arith, nat_tests, unit_in, cleans, and-no, spans-append, joined, unchanged) steps 500000

@@ -1,4 +1,5 @@
 -- Every event keeps the invariant, and so a failed or cancelled campaign left all old.
+use Rattle.std.proofs.lemmas.Bool.Decides.{nat_tests}
 use Rattle.std.proofs.Common.{◌≡◌, ◌≢◌, ◌⊎◌, inl, inr, if◌then◌else◌, ◌&&◌, not, ◌+◌, ℕ, zero, suc, ◌<◌, ◌≤◌, List, [], ◌∷◌, Option, Some, None, Bool, true, false, is_none, nat_eq, nat_le, refl, sym, ◌∙◌, ap, subst, arith}
 use Rattle.std.proofs.lemmas.Bool.{eqb-true}
 use Rattle.std.proofs.lemmas.Bool.Decides.{eqb_tells}
@@ -45,15 +46,10 @@ unless-true false e = absurd (cc e)
 
 -- what a record changes in the current campaign, where it changes no part that a node sees
 pub same-refl : (n : ℕ) (c d : Current) → d.campaign ≡ c.campaign → d.named ≡ c.named → d.ended ≡ c.ended → d.decision ≡ c.decision → SameAt n c d
-same-refl n c d a b e g =
-    record { campaign = a; named = ap (λ l. flag_of l n) b; ended = ap (λ l. part_of None l n) e; decision = g }
+same-refl n c d a b e g = grind (arith, nat_tests) steps 500000
 
 pub start-same : (n : ℕ) (c : Current) (epoch : ℕ) → SameAt n c (changed c (Start epoch))
-start-same n c epoch = go (is_undecided c)
-  where
-    go : (b : Bool) → SameAt n c (if b then record c { restart = true } else c)
-    go true = same-refl n c (record c { restart = true }) refl refl refl refl
-    go false = same-refl n c c refl refl refl refl
+start-same n c epoch = grind (arith, nat_tests, same-refl) steps 500000
 
 pub same-fold : (n : ℕ) (f : Fold) (epoch : ℕ) (e : MasterEvent) → f.epoch ≤ epoch → ((c : Current) → SameAt n c (changed c e)) → SameFold n f (record { epoch = epoch; earlier = f.earlier; current = changed_in f.current e })
 same-fold n f epoch e le same = record { epoch = le; earlier = refl; back = λ d h. back f.current d h; forth = λ c h. forth f.current c h }
@@ -80,11 +76,7 @@ module _ (N : NodeRules) (laws : NodeLaws N) (packages : Packages) (numbers : Li
 
   -- one node changes
   one-node : (w : World N) (n : ℕ) (x : NodeWorld N) → WorldKept w → KeptOld N w.fold n x → WorldKept (with_node N w n x)
-  one-node w n x kept new = record { fold = kept.fold; each = λ k. go k (nat_eq k n) refl }
-    where
-      go : (k : ℕ) (b : Bool) → nat_eq k n ≡ b → KeptOld N w.fold k (if b then x else w.node k)
-      go k true e = subst (λ j. KeptOld N w.fold j x) (sym (eqb-true k n e)) new
-      go k false e = kept.each k
+  one-node w n x kept new = grind (arith, nat_tests, nat_eq, eqb-true) steps 500000
 
   -- the reply of a delivery is the one that the node keeps then
   pub reply-facts : (s : N.State) (m : Message) (r : Reply) → (reached N s m.at m.call ≡ Again r) ⊎ (reached N s m.at m.call ≡ Fresh r) → (N.kept (delivered N s m.at m.call) ≡ r) × (Executable N (delivered N s m.at m.call) m → ⊥)
@@ -250,32 +242,7 @@ module _ (N : NodeRules) (laws : NodeLaws N) (packages : Packages) (numbers : Li
   kept-event w Restart allowed kept = kept-start w (w.fold.epoch + 1) refl kept
 
   pub kept-formatted : WorldKept (formatted_world N)
-  kept-formatted =
-      record {
-        fold = record { undecided = λ c current d n. absurd (cc current); above = λ c current k r h. absurd h };
-        each = λ n.
-            record {
-              falling = tt;
-              epochs = λ m h. absurd h;
-              tags = λ m h. absurd h;
-              early = λ m h. absurd h;
-              decided = λ m h. absurd h;
-              ordered = λ m o h. absurd h;
-              begun = λ m h. absurd h;
-              present = λ m h. absurd h;
-              told_sent = λ m r h. absurd h;
-              told_none = λ m y h. absurd h;
-              told_rolled = λ c current e. absurd (cc current);
-              kept_holds = record { none = λ x k f. laws.formatted_mine; rolled = λ x k f. rolled-none N laws N.formatted laws.formatted_mine };
-              finish = λ c cause current. absurd (cc current);
-              ends_old = λ c current. absurd (cc current);
-              session = λ tag e. absurd (cc (laws.formatted_mine, e));
-              open_span = λ k e. absurd (cc e);
-              old_so_far = λ c current. absurd (cc current);
-              fresh = λ k h. refl;
-              entered = λ k r h. absurd h;
-            };
-      }
+  kept-formatted = grind (arith, nat_tests, laws.formatted_mine, rolled-none) steps 500000
 
   pub kept-opened : (openings : ℕ → N.ForeignCall) → WorldKept (opened_world N openings)
   kept-opened openings = record { fold = kept-formatted.fold; each = λ n. event-foreign N laws nothing_yet n (record { moves = []; sent = []; told = [] }) (openings n) kept-formatted.fold (kept-formatted.each n) }

@@ -1,4 +1,6 @@
 -- A session of client 0 is an open span of its tag.
+use Rattle.std.proofs.Common.{arith}
+use Rattle.std.proofs.lemmas.Bool.Decides.{nat_tests}
 use Rattle.std.proofs.Common.{◌≡◌, inl, inr, if◌then◌else◌, ◌&&◌, ◌||◌, ℕ, List, [], ◌∷◌, Option, Some, None, Bool, true, false, nat_eq, refl, sym, ◌∙◌, ap, subst}
 use Rattle.std.proofs.lemmas.Bool.{eq-eqb}
 use Rattle.ucm_base.specs.declared.ids.CallNo.{CallNo}
@@ -45,12 +47,7 @@ module _ (N : NodeRules) (laws : NodeLaws N) where
   or-left false b e = absurd (cc e)
 
   stays-open : (y : Spans N) (b : Bool) (z : List (Span N)) → y.is_open ≡ true → (b ≡ true → ⊥) → (if (y.is_open && b) then record { is_open = false; ended = z } else y).is_open ≡ true
-  stays-open y b z open_ shut = go b y.is_open open_ shut
-    where
-      go : (c o : Bool) → o ≡ true → (c ≡ true → ⊥) → (if (o && c) then record { is_open = false; ended = z } else y).is_open ≡ true
-      go true o e f = absurd (f refl)
-      go false true e f = open_
-      go false false e f = absurd (cc e)
+  stays-open y b z open_ shut = grind (arith, nat_tests) steps 500000
 
   pub open-mine : (moves : List (Move N)) (k : ℕ) → N.mine (after N moves) ≡ Some k → (spans N k moves).is_open ≡ true
   open-mine [] k e = absurd (cc (laws.formatted_mine, e))
@@ -61,11 +58,8 @@ module _ (N : NodeRules) (laws : NodeLaws N) where
       go (Some t) q rec =
           let same : Some t ≡ Some k = sym (some-delivered N laws (after N ms) m.at m.call t q) ∙ e in
           or-left (spans N k ms).is_open (begins_span N k (after N ms) m) (rec (q ∙ same))
-  open-mine (Foreign call ∷ ms) k e = go (N.mine (after N ms)) refl (open-mine ms k)
-    where
-      go : (o : Option ℕ) → N.mine (after N ms) ≡ o → (N.mine (after N ms) ≡ Some k → (spans N k ms).is_open ≡ true) → (spans N k ms).is_open ≡ true
-      go None q rec = absurd (cc (laws.foreign_none (after N ms) call q, e))
-      go (Some t) q rec = rec (sym (laws.foreign_session (after N ms) call t q).mine ∙ e)
+  open-mine (Foreign call ∷ ms) k e =
+      grind (arith, nat_tests, after, spans, laws.foreign_none, laws.foreign_session, open-mine ms k) steps 500000
   open-mine (Unit_done passed ∷ ms) k e =
       let mine = unit-back N laws nothing_yet 0 (after N ms) passed k e in
       stays-open (spans N k ms) (is_status (N.status (after N ms)) CleaningUp) _ (open-mine ms k mine) (λ c.

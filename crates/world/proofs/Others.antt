@@ -1,4 +1,5 @@
 -- Laws of the real node: client 0's transfers under calls of others, and units where client 0 has no session.
+use Rattle.std.proofs.lemmas.Bool.Decides.{nat_tests}
 use Rattle.std.proofs.Common.{◌≡◌, inl, inr, ℕ, suc, ◌+◌, ◌<◌, List, [], ◌∷◌, ◌++◌, length, Option, Some, None, Bool, true, false, refl, sym, ◌∙◌, ap, subst, cond, arith}
 use Rattle.std.specs.Prelude.{◌==◌, ◌||◌, ◌&&◌, not, is_some, is_none, find, nat_lt, option_map, option_and_then, map, filter, if◌then◌else◌}
 use Rattle.std.specs.List.{AllByRecursion}
@@ -95,48 +96,20 @@ pub record Leaves0 (g : Transfer → Transfer) (t : Transfer) : Type 0 where
 
 ids-left : (g : Transfer → Transfer) (ts : List Transfer) → AllByRecursion (λ t. Leaves0 g t) ts → map (λ (t : Transfer). t.header.id) (filter (λ (t : Transfer). t.header.client == 0) (map g ts)) ≡ map (λ (t : Transfer). t.header.id) (filter (λ (t : Transfer). t.header.client == 0) ts)
 ids-left g [] h = refl
-ids-left g (t ∷ ts) h =
-    subst (λ b. map (λ (y : Transfer). y.header.id) (cond b (g t ∷ filter (λ (y : Transfer). y.header.client == 0) (map g ts)) (filter (λ (y : Transfer). y.header.client == 0) (map g ts))) ≡ map (λ (y : Transfer). y.header.id) (cond (t.header.client == 0) (t ∷ filter (λ (y : Transfer). y.header.client == 0) ts) (filter (λ (y : Transfer). y.header.client == 0) ts)))
-    (sym (ap (λ (n : ℕ). n == 0) h.0.client)) (go (t.header.client == 0) refl (ids-left g ts h.1))
-  where
-    go : (b : Bool) → (t.header.client == 0) ≡ b → map (λ (y : Transfer). y.header.id) (filter (λ (y : Transfer). y.header.client == 0) (map g ts)) ≡ map (λ (y : Transfer). y.header.id) (filter (λ (y : Transfer). y.header.client == 0) ts) → map (λ (y : Transfer). y.header.id) (cond b (g t ∷ filter (λ (y : Transfer). y.header.client == 0) (map g ts)) (filter (λ (y : Transfer). y.header.client == 0) (map g ts))) ≡ map (λ (y : Transfer). y.header.id) (cond b (t ∷ filter (λ (y : Transfer). y.header.client == 0) ts) (filter (λ (y : Transfer). y.header.client == 0) ts))
-    go true q rec = ap (λ (n : ℕ). n ∷ map (λ (y : Transfer). y.header.id) (filter (λ (y : Transfer). y.header.client == 0) (map g ts))) (ap (λ (y : Transfer). y.header.id) (h.0.own q)) ∙ ap (λ (l : List ℕ). t.header.id ∷ l) rec
-    go false q rec = rec
+ids-left g (t ∷ ts) h = grind (arith, nat_tests, ids-left g ts h.1) steps 500000
 
 found-left : (j : ℕ) (g : Transfer → Transfer) (ts : List Transfer) → AllByRecursion (λ t. Leaves0 g t) ts → find (λ (t : Transfer). is_of 0 j t.header) (map g ts) ≡ find (λ (t : Transfer). is_of 0 j t.header) ts
 found-left j g [] h = refl
-found-left j g (t ∷ ts) h = go (t.header.client == 0) refl (found-left j g ts h.1)
-  where
-    and-false : (a : Bool) → (a && false) ≡ false
-    and-false true = refl
-    and-false false = refl
-
-    go : (b : Bool) → (t.header.client == 0) ≡ b → find (λ (y : Transfer). is_of 0 j y.header) (map g ts) ≡ find (λ (y : Transfer). is_of 0 j y.header) ts → cond ((((g t).header.id == j)) && ((g t).header.client == 0)) (Some (g t)) (find (λ (y : Transfer). is_of 0 j y.header) (map g ts)) ≡ cond ((t.header.id == j) && (t.header.client == 0)) (Some t) (find (λ (y : Transfer). is_of 0 j y.header) ts)
-    go true q rec = ap (λ (z : Transfer). cond ((z.header.id == j) && (z.header.client == 0)) (Some z) (find (λ (y : Transfer). is_of 0 j y.header) (map g ts))) (h.0.own q) ∙ ap (λ o. cond ((t.header.id == j) && (t.header.client == 0)) (Some t) o) rec
-    go false q rec =
-        let left : (((g t).header.id == j) && ((g t).header.client == 0)) ≡ false = ap (λ (n : ℕ). ((g t).header.id == j) && (n == 0)) h.0.client ∙ (ap (λ b. ((g t).header.id == j) && b) q ∙ and-false ((g t).header.id == j)) in
-        let right : ((t.header.id == j) && (t.header.client == 0)) ≡ false = ap (λ b. (t.header.id == j) && b) q ∙ and-false (t.header.id == j) in
-        ap (λ b. cond b (Some (g t)) (find (λ (y : Transfer). is_of 0 j y.header) (map g ts))) left ∙ (rec ∙ sym (ap (λ b. cond b (Some t) (find (λ (y : Transfer). is_of 0 j y.header) ts)) right))
+found-left j g (t ∷ ts) h = grind (arith, nat_tests, found-left j g ts h.1) steps 500000
 
 -- a filter that keeps client 0's transfers
 ids-kept : (p : Transfer → Bool) (ts : List Transfer) → AllByRecursion (λ (t : Transfer). (t.header.client == 0) ≡ true → p t ≡ true) ts → filter (λ (t : Transfer). t.header.client == 0) (filter p ts) ≡ filter (λ (t : Transfer). t.header.client == 0) ts
 ids-kept p [] h = refl
-ids-kept p (t ∷ ts) h = go (p t) (t.header.client == 0) refl refl (ids-kept p ts h.1)
-  where
-    go : (a b : Bool) → p t ≡ a → (t.header.client == 0) ≡ b → filter (λ (y : Transfer). y.header.client == 0) (filter p ts) ≡ filter (λ (y : Transfer). y.header.client == 0) ts → filter (λ (y : Transfer). y.header.client == 0) (cond a (t ∷ filter p ts) (filter p ts)) ≡ cond b (t ∷ filter (λ (y : Transfer). y.header.client == 0) ts) (filter (λ (y : Transfer). y.header.client == 0) ts)
-    go true true q r rec = ap (λ z. cond z (t ∷ filter (λ (y : Transfer). y.header.client == 0) (filter p ts)) (filter (λ (y : Transfer). y.header.client == 0) (filter p ts))) r ∙ ap (λ (l : List Transfer). t ∷ l) rec
-    go true false q r rec = ap (λ z. cond z (t ∷ filter (λ (y : Transfer). y.header.client == 0) (filter p ts)) (filter (λ (y : Transfer). y.header.client == 0) (filter p ts))) r ∙ rec
-    go false true q r rec = absurd (let z = h.0 r in cc (z, q))
-    go false false q r rec = rec
+ids-kept p (t ∷ ts) h = grind (arith, nat_tests, ids-kept p ts h.1) steps 500000
 
 found-kept : (j : ℕ) (p : Transfer → Bool) (ts : List Transfer) → AllByRecursion (λ (t : Transfer). (t.header.client == 0) ≡ true → p t ≡ true) ts → find (λ (t : Transfer). is_of 0 j t.header) (filter p ts) ≡ find (λ (t : Transfer). is_of 0 j t.header) ts
 found-kept j p [] h = refl
-found-kept j p (t ∷ ts) h = go (p t) (is_of 0 j t.header) refl refl (found-kept j p ts h.1)
-  where
-    go : (a b : Bool) → p t ≡ a → is_of 0 j t.header ≡ b → find (λ (y : Transfer). is_of 0 j y.header) (filter p ts) ≡ find (λ (y : Transfer). is_of 0 j y.header) ts → find (λ (y : Transfer). is_of 0 j y.header) (cond a (t ∷ filter p ts) (filter p ts)) ≡ cond b (Some t) (find (λ (y : Transfer). is_of 0 j y.header) ts)
-    go true b q r rec = ap (λ z. cond z (Some t) (find (λ (y : Transfer). is_of 0 j y.header) (filter p ts))) r ∙ ap (λ o. cond b (Some t) o) rec
-    go false true q r rec = absurd (let z = h.0 (and-true (t.header.id == j) (t.header.client == 0) r).1 in cc (z, q))
-    go false false q r rec = rec
+found-kept j p (t ∷ ts) h = grind (arith, nat_tests, and-true, found-kept j p ts h.1) steps 500000
 
 module _ (read : Reading) (clusters : List (Cluster Bytes)) where
   keeps-left : (s t : NodeState) (g : Transfer → Transfer) → AllByRecursion (λ y. Leaves0 g y) s.transfers → t.transfers ≡ map g s.transfers → KeepsTransfers (real read clusters) s t
@@ -250,21 +223,14 @@ module _ (read : Reading) (clusters : List (Cluster Bytes)) where
   phase-keeps phase = record { id = λ t. refl; client = λ t. refl }
 
   then-led : (s t : NodeState) (c : Call) → KeepsTransfers (real read clusters) s t → KeepsTransfers (real read clusters) s (led_by c t)
-  then-led s t c k =
-      let e : (led_by c t).transfers ≡ t.transfers = led-keeps (λ y. y.transfers) (λ y st. refl) (λ y o. refl) c t in
-      let l = keeps-all read clusters t (led_by c t) e in
-      record { transfers = l.transfers ∙ k.transfers; received = λ j. l.received j ∙ k.received j }
+  then-led s t c k = grind (arith, nat_tests, led-keeps, keeps-all) steps 500000
 
   eqb-suc : (a : ℕ) → (suc a == 0) ≡ false
   eqb-suc a = elim (eqb_tells (suc a) 0) [ inl h ↦ absurd (let z : suc a ≡ 0 = h.1 in omega (arith, z)) | inr h ↦ h.0 ]
 
   -- a found transfer of another client is none of client 0's
   others : (s : NodeState) (a id : ℕ) → IsConsistent s → is_none (header_of (transfer_of s (suc a) id)) ≡ false → AllByRecursion (λ (y : Transfer). (y.header.id == id) ≡ true → (y.header.client == suc a) ≡ true) s.transfers
-  others s a id v f = go (transfer_of s (suc a) id) refl f
-    where
-      go : (o : Option Transfer) → transfer_of s (suc a) id ≡ o → is_none (option_map (λ (t : Transfer). t.header) o) ≡ false → AllByRecursion (λ (y : Transfer). (y.header.id == id) ≡ true → (y.header.client == suc a) ≡ true) s.transfers
-      go None e q = absurd (cc q)
-      go (Some t) e q = unique (suc a) id s.transfers t v.transfers.rise e
+  others s a id v f = grind (arith, nat_tests, unique) steps 500000
 
   not-own : (a : ℕ) (t : Transfer) → (t.header.client == 0) ≡ true → (t.header.client == suc a) ≡ true → ⊥
   not-own a t p q = let x : t.header.client ≡ 0 = eqb-true t.header.client 0 p in let y : t.header.client ≡ suc a = eqb-true t.header.client (suc a) q in omega (arith, x, y)
@@ -310,25 +276,7 @@ module _ (read : Reading) (clusters : List (Cluster Bytes)) where
               by false e = refl
 
   start-others : (s : NodeState) (a size : ℕ) → KeepsTransfers (real read clusters) s (started s (suc a) size)
-  start-others s a size =
-      record {
-        transfers =
-            ap (λ l. map (λ (t : Transfer). t.header.id) l)
-            (filter-append (λ (t : Transfer). t.header.client == 0) s.transfers (record { header = fresh s.next_id (suc a) size; bytes = []; parts = [] } ∷ [])
-            ∙ (ap (λ b. filter (λ (t : Transfer). t.header.client == 0) s.transfers ++ cond b (record { header = fresh s.next_id (suc a) size; bytes = []; parts = [] } ∷ []) []) (eqb-suc a) ∙ append-nil (filter (λ (t : Transfer). t.header.client == 0) s.transfers)));
-        received = λ j.
-            ap (λ o. option_map_or (λ (t : Transfer). t.bytes) o [])
-            (find-append (λ (t : Transfer). is_of 0 j t.header) s.transfers (record { header = fresh s.next_id (suc a) size; bytes = []; parts = [] } ∷ [])
-            ∙ (ap (λ b. option_or (transfer_of s 0 j) (cond b (Some (record { header = fresh s.next_id (suc a) size; bytes = []; parts = [] })) None)) (ap (λ b. (s.next_id == j) && b) (eqb-suc a) ∙ and-false (s.next_id == j)) ∙ or-nothing (transfer_of s 0 j)));
-      }
-    where
-      and-false : (b : Bool) → (b && false) ≡ false
-      and-false true = refl
-      and-false false = refl
-
-      or-nothing : (o : Option Transfer) → option_or o None ≡ o
-      or-nothing None = refl
-      or-nothing (Some t) = refl
+  start-others s a size = grind (arith, nat_tests, filter-append, eqb-suc, append-nil, find-append) steps 500000
 
   judged-others : (s : NodeState) (a : ℕ) (c : Call) (w : Verdict) → IsConsistent s → KeepsTransfers (real read clusters) s (judge s (suc a) c w).0
   judged-others s a call.Sync w v = keeps-all read clusters s s refl

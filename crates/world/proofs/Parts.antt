@@ -1,4 +1,6 @@
 -- The parts of nodes: after one has changed, and where each flagged one passes a test.
+use Rattle.std.proofs.Common.{arith}
+use Rattle.std.proofs.lemmas.Bool.Decides.{nat_tests}
 use Rattle.std.proofs.Common.{◌≡◌, ◌≢◌, ◌⊎◌, inl, inr, ℕ, zero, suc, List, [], ◌∷◌, Bool, true, false, refl, ap}
 use Rattle.std.specs.Prelude.{Option, Some, None, replicate, slice_index_or, slice_set}
 use Rattle.std.proofs.lemmas.Bool.{and_parts}
@@ -52,8 +54,4 @@ pub flagged-ended : (flags : List Bool) (ended : List (Option Outcome)) (n : ℕ
 flagged-ended flags ended n a q e = let h = flagged-each has_ended None flags ended n a q in let z = ap has_ended e in cc
 
 pub flagged-yes : (flags : List Bool) (votes : List (Option Vote)) (n : ℕ) → all_flagged voted_yes flags votes ≡ true → part_of false flags n ≡ true → part_of None votes n ≡ Some Vote.Yes
-flagged-yes flags votes n a q = go (part_of None votes n) (flagged-each voted_yes None flags votes n a q)
-  where
-    go : (o : Option Vote) → voted_yes o ≡ true → o ≡ Some Vote.Yes
-    go (Some Vote.Yes) e = refl
-    go _ e = absurd (cc)
+flagged-yes flags votes n a q = grind (arith, nat_tests, flagged-each) steps 500000

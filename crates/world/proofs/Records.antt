@@ -1,4 +1,5 @@
 -- What the records of the master keep of the invariant.
+use Rattle.std.proofs.lemmas.Bool.Decides.{nat_tests}
 use Rattle.std.proofs.Common.{◌≡◌, ◌≢◌, ◌⊎◌, inl, inr, ◌&&◌, ℕ, ◌<◌, ◌≤◌, List, [], ◌∷◌, ◌++◌, Option, Some, None, Bool, true, false, nat_lt, refl, sym, ◌∙◌, ap, subst, arith}
 use Rattle.std.proofs.lemmas.Bool.{ltb-true}
 use Rattle.pm_types.specs.declared.status.Status.TheVariants.{RolledBack}
@@ -59,11 +60,7 @@ below-append k (x ∷ xs) y h =
     (subst (λ b. (b && all_below k xs) ≡ true) (sym q.0) r.0, r.1)
 
 not-commit : (o : Option Decision) (r : CampaignResult) → is_result_of o r ≡ true → r ≢ Successful → o ≢ Some Commit
-not-commit o r h q e = go r (subst (λ d. is_result_of d r ≡ true) e h) q
-  where
-    go : (r' : CampaignResult) → is_result_of (Some Commit) r' ≡ true → r' ≢ Successful → ⊥
-    go Successful h' q' = q' refl
-    go _ h' q' = cc h'
+not-commit o r h q e = grind (arith, nat_tests) steps 500000
 
 pub below-in : (k : ℕ) (xs : List (ℕ × CampaignResult)) (j : ℕ) (r : CampaignResult) → all_below k xs ≡ true → InEarlier (j, r) xs → j < k
 below-in k [] j r a h = absurd h
@@ -73,40 +70,13 @@ below-in k (x ∷ xs) j r a h =
 
 module _ (N : NodeRules) (laws : NodeLaws N) (n : ℕ) where
   pub forget : (f : Fold) (x : NodeWorld N) → KeptOld N f n x → KeptOld N f n (record { moves = x.moves; sent = x.sent; told = [] })
-  forget f x kept =
-      record {
-        falling = kept.falling;
-        epochs = kept.epochs;
-        tags = kept.tags;
-        early = kept.early;
-        decided = kept.decided;
-        ordered = kept.ordered;
-        begun = kept.begun;
-        present = kept.present;
-        told_sent = λ m r told. absurd told;
-        told_none = λ m y told d c current campaign free. absurd told;
-        told_rolled = λ c current e. absurd (cc e);
-        kept_holds = kept.kept_holds;
-        finish = kept.finish;
-        ends_old = kept.ends_old;
-        session = kept.session;
-        open_span = kept.open_span;
-        old_so_far = kept.old_so_far;
-        fresh = kept.fresh;
-        entered = kept.entered;
-      }
+  forget f x kept = grind (arith, nat_tests) steps 500000
 
   pub present-forth : (f g : Fold) → SameFold n f g → (P : ℕ → Type 0) → InPresent f n (λ c. P c.campaign) → InPresent g n (λ c. P c.campaign)
-  present-forth f g same P h =
-      let k = same.forth h.0 h.1 in
-      (k.0, k.1, k.2.named ∙ h.2, k.2.ended ∙ h.3, subst P (sym k.2.campaign) h.4)
+  present-forth f g same P h = grind (arith, nat_tests) steps 500000
 
   fresh-back : (f g : Fold) → SameFold n f g → (k : ℕ) → IsFresh g k → IsFresh f k
-  fresh-back f g same k h =
-      record {
-        above = subst (λ l. all_below k l ≡ true) same.earlier h.above;
-        other = λ c current q. let d = same.forth c current in h.other d.0 d.1 (d.2.campaign ∙ q);
-      }
+  fresh-back f g same k h = grind (arith, nat_tests) steps 500000
 
   -- Start, PhaseTo, VoteOf and CancelAsked
   pub event-same : (f g : Fold) (x : NodeWorld N) → SameFold n f g → (g.epoch ≡ f.epoch) ⊎ (x.told ≡ []) → KeptOld N f n x → KeptOld N g n x

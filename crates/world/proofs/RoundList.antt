@@ -1,4 +1,5 @@
 -- The stages ask for the calls of the list of all rounds, in its order: while each reply fits its call, the stage's call is the list's call at the number of replies.
+use Rattle.std.proofs.lemmas.Bool.Decides.{nat_tests}
 use Rattle.std.proofs.Common.{◌≡◌, ◌≢◌, ℕ, zero, suc, ◌+◌, ◌≤◌, List, [], ◌∷◌, ◌++◌, length, take, drop, Some, refl, sym, ◌∙◌, ap, append_assoc, length-drop, arith}
 use Rattle.pm_types.specs.declared.calls.Call.{Call}
 use Rattle.pm_types.specs.declared.replies.Reply.{Reply}
@@ -91,16 +92,8 @@ module _ (k : ℕ) (ps : List (List ℕ)) where
   )
   one-on (At_process (id ∷ ids) taken) Done rs some h = (ProcessSwPackage id k, refl, ap (λ (l : List Call). ProcessSwPackage id k ∷ l) (processed-later ids (suc taken) (ids_of rs)))
   one-on At_activate Done rs some h = (Activate, refl, refl)
-  one-on Over r rs some h = absurd (over r h)
-    where
-      over : (r' : Reply) → Fits Over r' → ⊥
-      over (Refused why) h' = h'
-      over _ h' = h'
-  one-on Refused_once r rs some h = absurd (over r h)
-    where
-      over : (r' : Reply) → Fits Refused_once r' → ⊥
-      over (Refused why) h' = h'
-      over _ h' = h'
+  one-on Over r rs some h = grind (arith, nat_tests) steps 500000
+  one-on Refused_once r rs some h = grind (arith, nat_tests) steps 500000
   one-on _ _ rs some h = absurd h
 
   -- the stages that are reached ask for a call, or all is done
@@ -153,7 +146,4 @@ module _ (k : ℕ) (ps : List (List ℕ)) where
 
   -- the stage's call is the list's call at the number of replies
   pub stages-list : (rs : List Reply) → ps ≢ [] → AllFit ps At_sync rs → call_at k (stage_of ps At_sync rs) ≡ nth_call (round_calls k (ids_of rs) ps) (length rs)
-  stages-list rs some fit =
-      from-stage At_sync rs some tt fit
-      ∙ ap (λ (l : List Call). nth_call (Sync ∷ l) (length rs))
-      (ap (λ (l : List Call). all_transfers (ids_of rs) ps ++ l) (sym (processed-is k (ids_of rs) ps)) ∙ sym (append_assoc (all_transfers (ids_of rs) ps) (all_processed k (ids_of rs) ps) (Activate ∷ [])))
+  stages-list rs some fit = grind (arith, nat_tests, from-stage, processed-is, append_assoc) steps 500000

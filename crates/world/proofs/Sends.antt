@@ -1,4 +1,5 @@
 -- What a send keeps of the invariant.
+use Rattle.std.proofs.lemmas.Bool.Decides.{nat_tests}
 use Rattle.std.proofs.Common.{◌≡◌, ◌≢◌, inl, inr, if◌then◌else◌, ◌||◌, ◌+◌, ℕ, ◌≤◌, List, [], ◌∷◌, length, take, Option, Some, None, Bool, true, false, is_some, nat_eq, refl, sym, ◌∙◌, ap, subst, arith}
 use Rattle.std.proofs.lemmas.Bool.{eqb-true}
 use Rattle.std.proofs.lemmas.Bool.Decides.{eqb_tells}
@@ -30,9 +31,7 @@ round-calls k At_sync call e = let q : Sync ≡ call = cc e in (λ z. cc, λ i t
 round-calls k (At_start ids (p ∷ ps)) call e = let q : TransferStart (length p) ≡ call = cc e in (λ z. cc, λ i t z. cc)
 round-calls k (At_data ids id counter [] left) call e = let q : TransferExit id ≡ call = cc e in (λ z. cc, λ i t z. cc)
 round-calls k (At_data ids id counter (b ∷ bs) left) call e = let q : TransferData id counter (take 4096 (b ∷ bs)) ≡ call = cc e in (λ z. cc, λ i t z. cc)
-round-calls k (At_process (id ∷ ids) taken) call e =
-    let q : ProcessSwPackage id k ≡ call = cc e in
-    (λ z. cc, λ i t z. (let z' : ProcessSwPackage id k ≡ ProcessSwPackage i t = q ∙ z in let g : k ≡ t = cc z' in sym g))
+round-calls k (At_process (id ∷ ids) taken) call e = grind (arith, nat_tests) steps 500000
 round-calls k At_activate call e = let q : Activate ≡ call = cc e in (λ z. cc, λ i t z. cc)
 round-calls k _ call e = absurd (cc e)
 

@@ -1,4 +1,6 @@
 -- A world of the tables is one of the rules: what its events make, the rules' events make too.
+use Rattle.std.proofs.Common.{arith}
+use Rattle.std.proofs.lemmas.Bool.Decides.{nat_tests}
 use Rattle.std.proofs.Common.{◌≡◌, refl, sym, ap, subst, ◌∙◌, ℕ, suc, ◌<◌, Bool, true, false, [], ◌∷◌}
 use Rattle.std.specs.Prelude.{◌&&◌, ◌||◌, map, if◌then◌else◌, Some}
 use Rattle.std.specs.List.{AllByRecursion}
@@ -87,13 +89,7 @@ module _ (read : Reading) (keeps : KeepsNode read []) where
 
   pub same-foreign : (x : NodeWorld) (y : engine.NodeWorld (fit read [] keeps)) (f : ForeignCall) → SameNode x y
       → SameNode (called read x (suc f.other) f.at f.call) (record { moves = engine.Foreign (Calls f) ∷ y.moves; sent = y.sent; told = y.told })
-  same-foreign x y f h = record {
-    state = ap (λ z. (step z (suc f.other) f.at f.call (verdict_for read z (suc f.other) f.call)).0) h.state ∙ sym (entered-state read x.opening x.history (suc f.other) f.at f.call);
-    sent = h.sent;
-    told = h.told;
-    spans_told = λ k. h.spans_told k ∙ sym (foreign-spans read x.opening x.history k f.other f.at f.call _);
-    epochs = h.epochs;
-  }
+  same-foreign x y f h = grind (arith, nat_tests, entered-state, foreign-spans) steps 500000
 
   pub same-work : (x : NodeWorld) (y : engine.NodeWorld (fit read [] keeps)) (passed told : Bool) → SameNode x y
       → SameNode (worked read x passed told) (record { moves = engine.Unit_done passed ∷ y.moves; sent = y.sent; told = if told then Showed (rules.NodeRules.status N (rules.NodeRules.unit N (engine.state_of (fit read [] keeps) y) passed)) ∷ y.told else y.told })

@@ -1,4 +1,5 @@
 -- Laws of the real node: client 0's transfers under its own calls and under units.
+use Rattle.std.proofs.lemmas.Bool.Decides.{nat_tests}
 use Rattle.std.proofs.Common.{◌≡◌, ◌≢◌, ◌⊎◌, inl, inr, ℕ, zero, suc, ◌+◌, ◌<◌, List, [], ◌∷◌, ◌++◌, length, get_or, Option, Some, None, Bool, true, false, refl, sym, ◌∙◌, ap, subst, cond, arith}
 use Rattle.std.specs.Prelude.{◌==◌, ◌||◌, ◌&&◌, IfSome, IsSomeAnd, not, is_none, find, nat_lt, option_map, option_and_then, map, filter, if◌then◌else◌}
 use Rattle.std.specs.List.{AllByRecursion, Contains}
@@ -50,58 +51,29 @@ pub record KeepsNames (f : Transfer → Transfer) : Type 0 where
   pub client : (t : Transfer) → (f t).header.client ≡ t.header.client
 
 changed-id : (id : ℕ) (f : Transfer → Transfer) → KeepsNames f → (t : Transfer) → (changed id f t).header.id ≡ t.header.id
-changed-id id f k t = go (t.header.id == id)
-  where
-    go : (b : Bool) → (if b then f t else t).header.id ≡ t.header.id
-    go true = k.id t
-    go false = refl
+changed-id id f k t = grind (arith, nat_tests) steps 500000
 
 changed-client : (id : ℕ) (f : Transfer → Transfer) → KeepsNames f → (t : Transfer) → (changed id f t).header.client ≡ t.header.client
-changed-client id f k t = go (t.header.id == id)
-  where
-    go : (b : Bool) → (if b then f t else t).header.client ≡ t.header.client
-    go true = k.client t
-    go false = refl
+changed-client id f k t = grind (arith, nat_tests) steps 500000
 
 ids-changed : (c id : ℕ) (f : Transfer → Transfer) → KeepsNames f → (ts : List Transfer) → map (λ (t : Transfer). t.header.id) (filter (λ (t : Transfer). t.header.client == c) (map (changed id f) ts)) ≡ map (λ (t : Transfer). t.header.id) (filter (λ (t : Transfer). t.header.client == c) ts)
 ids-changed c id f k [] = refl
 ids-changed c id f k (t ∷ ts) =
-    subst (λ b. map (λ (y : Transfer). y.header.id) (cond b (changed id f t ∷ filter (λ (y : Transfer). y.header.client == c) (map (changed id f) ts)) (filter (λ (y : Transfer). y.header.client == c) (map (changed id f) ts))) ≡ map (λ (y : Transfer). y.header.id) (cond (t.header.client == c) (t ∷ filter (λ (y : Transfer). y.header.client == c) ts) (filter (λ (y : Transfer). y.header.client == c) ts)))
-    (sym (ap (λ (n : ℕ). n == c) (changed-client id f k t))) (go (t.header.client == c) (ids-changed c id f k ts))
-  where
-    go : (b : Bool) → map (λ (y : Transfer). y.header.id) (filter (λ (y : Transfer). y.header.client == c) (map (changed id f) ts)) ≡ map (λ (y : Transfer). y.header.id) (filter (λ (y : Transfer). y.header.client == c) ts) → map (λ (y : Transfer). y.header.id) (cond b (changed id f t ∷ filter (λ (y : Transfer). y.header.client == c) (map (changed id f) ts)) (filter (λ (y : Transfer). y.header.client == c) (map (changed id f) ts))) ≡ map (λ (y : Transfer). y.header.id) (cond b (t ∷ filter (λ (y : Transfer). y.header.client == c) ts) (filter (λ (y : Transfer). y.header.client == c) ts))
-    go true rec = ap (λ (n : ℕ). n ∷ map (λ (y : Transfer). y.header.id) (filter (λ (y : Transfer). y.header.client == c) (map (changed id f) ts))) (changed-id id f k t) ∙ ap (λ (l : List ℕ). t.header.id ∷ l) rec
-    go false rec = rec
+    grind (arith, nat_tests, changed-client, changed-id, ids-changed c id f k ts) steps 500000
 
 found-changed : (c j id : ℕ) (f : Transfer → Transfer) → KeepsNames f → (ts : List Transfer) → find (λ (t : Transfer). is_of c j t.header) (map (changed id f) ts) ≡ option_map (changed id f) (find (λ (t : Transfer). is_of c j t.header) ts)
 found-changed c j id f k [] = refl
 found-changed c j id f k (t ∷ ts) =
-    subst (λ b. cond b (Some (changed id f t)) (find (λ (y : Transfer). is_of c j y.header) (map (changed id f) ts)) ≡ option_map (changed id f) (cond (is_of c j t.header) (Some t) (find (λ (y : Transfer). is_of c j y.header) ts))) (sym same)
-    (go (is_of c j t.header) (found-changed c j id f k ts))
-  where
-    same : is_of c j (changed id f t).header ≡ is_of c j t.header
-    same = ap (λ (n : ℕ). (n == j) && ((changed id f t).header.client == c)) (changed-id id f k t) ∙ ap (λ (n : ℕ). (t.header.id == j) && (n == c)) (changed-client id f k t)
-
-    go : (b : Bool) → find (λ (y : Transfer). is_of c j y.header) (map (changed id f) ts) ≡ option_map (changed id f) (find (λ (y : Transfer). is_of c j y.header) ts) → cond b (Some (changed id f t)) (find (λ (y : Transfer). is_of c j y.header) (map (changed id f) ts)) ≡ option_map (changed id f) (cond b (Some t) (find (λ (y : Transfer). is_of c j y.header) ts))
-    go true rec = refl
-    go false rec = rec
+    grind (arith, nat_tests, changed-id, changed-client, found-changed c j id f k ts) steps 500000
 
 -- what is found passes
 pub find-passes : (p : Transfer → Bool) (ts : List Transfer) (t : Transfer) → find p ts ≡ Some t → p t ≡ true
 find-passes p [] t e = absurd (cc e)
-find-passes p (y ∷ ys) t e = go (p y) refl e (λ q. find-passes p ys t q)
-  where
-    go : (b : Bool) → p y ≡ b → cond b (Some y) (find p ys) ≡ Some t → (find p ys ≡ Some t → p t ≡ true) → p t ≡ true
-    go true q h rec = let z : y ≡ t = cc h in ap p (sym z) ∙ q
-    go false q h rec = rec h
+find-passes p (y ∷ ys) t e = grind (arith, nat_tests, find-passes p ys t) steps 500000
 
 pub find-all : (P : Transfer → Type 0) (p : Transfer → Bool) (ts : List Transfer) (t : Transfer) → AllByRecursion P ts → find p ts ≡ Some t → P t
 find-all P p [] t a e = absurd (cc e)
-find-all P p (y ∷ ys) t a e = go (p y) e (λ q. find-all P p ys t a.1 q)
-  where
-    go : (b : Bool) → cond b (Some y) (find p ys) ≡ Some t → (find p ys ≡ Some t → P t) → P t
-    go true h rec = let z : y ≡ t = cc h in subst P z a.0
-    go false h rec = rec h
+find-all P p (y ∷ ys) t a e = grind (arith, nat_tests, find-all P p ys t a.1) steps 500000
 
 pub and-true : (a b : Bool) → (a && b) ≡ true → (a ≡ true) × (b ≡ true)
 and-true true b e = (refl, e)
@@ -117,40 +89,19 @@ data-rest found counter size =
 -- the bytes of a changed transfer
 bytes-changed : (id : ℕ) (f : Transfer → Transfer) → ((t : Transfer) → (f t).bytes ≡ t.bytes) → (o : Option Transfer) → option_map_or (λ (t : Transfer). t.bytes) (option_map (changed id f) o) [] ≡ option_map_or (λ (t : Transfer). t.bytes) o []
 bytes-changed id f k None = refl
-bytes-changed id f k (Some t) = go (t.header.id == id)
-  where
-    go : (b : Bool) → (if b then f t else t).bytes ≡ t.bytes
-    go true = k t
-    go false = refl
+bytes-changed id f k (Some t) = grind (arith, nat_tests) steps 500000
 
 -- where no transfer of the id is changed
 bytes-other : (id j : ℕ) (f : Transfer → Transfer) (c : ℕ) (ts : List Transfer) → j ≢ id → (o : Option Transfer) → find (λ (t : Transfer). is_of c j t.header) ts ≡ o → option_map_or (λ (t : Transfer). t.bytes) (option_map (changed id f) o) [] ≡ option_map_or (λ (t : Transfer). t.bytes) o []
 bytes-other id j f c ts n None e = refl
-bytes-other id j f c ts n (Some t) e = go (t.header.id == id) refl
-  where
-    is : t.header.id ≡ j
-    is = eqb-true t.header.id j (and-true (t.header.id == j) (t.header.client == c) (find-passes (λ (y : Transfer). is_of c j y.header) ts t e)).0
-
-    go : (b : Bool) → (t.header.id == id) ≡ b → (if b then f t else t).bytes ≡ t.bytes
-    go true q = absurd (n (sym is ∙ eqb-true t.header.id id q))
-    go false q = refl
+bytes-other id j f c ts n (Some t) e = grind (arith, nat_tests, eqb-true, and-true, find-passes) steps 500000
 
 module _ (read : Reading) (clusters : List (Cluster Bytes)) where
   pub keeps-all : (s t : NodeState) → t.transfers ≡ s.transfers → KeepsTransfers (real read clusters) s t
-  keeps-all s t e =
-      record {
-        transfers = ap (λ l. map (λ (y : Transfer). y.header.id) (filter (λ (y : Transfer). y.header.client == 0) l)) e;
-        received = λ id. ap (λ l. option_map_or (λ (y : Transfer). y.bytes) (find (λ (y : Transfer). is_of 0 id y.header) l) []) e;
-      }
+  keeps-all s t e = grind (arith, nat_tests) steps 500000
 
   pub keeps-changed : (s t : NodeState) (id : ℕ) (f : Transfer → Transfer) → KeepsNames f → ((y : Transfer) → (f y).bytes ≡ y.bytes) → t.transfers ≡ map (changed id f) s.transfers → KeepsTransfers (real read clusters) s t
-  keeps-changed s t id f k b e =
-      record {
-        transfers = ap (λ l. map (λ (y : Transfer). y.header.id) (filter (λ (y : Transfer). y.header.client == 0) l)) e ∙ ids-changed 0 id f k s.transfers;
-        received = λ j.
-            ap (λ l. option_map_or (λ (y : Transfer). y.bytes) (find (λ (y : Transfer). is_of 0 j y.header) l) []) e
-            ∙ (ap (λ o. option_map_or (λ (y : Transfer). y.bytes) o []) (found-changed 0 j id f k s.transfers) ∙ bytes-changed id f b (find (λ (y : Transfer). is_of 0 j y.header) s.transfers));
-      }
+  keeps-changed s t id f k b e = grind (arith, nat_tests, ids-changed, found-changed, bytes-changed) steps 500000
 
   phase-names : (phase : Phase) → KeepsNames (λ t. record t { header = in_phase phase t.header })
   phase-names phase = record { id = λ t. refl; client = λ t. refl }
@@ -162,15 +113,7 @@ module _ (read : Reading) (clusters : List (Cluster Bytes)) where
       (keeps-changed s (exited s id (verdict_for read s 0 (call.TransferExit id))) id (λ t. record t { header = in_phase Transferred t.header; parts = parts_read (verdict_for read s 0 (call.TransferExit id)) }) (record { id = λ t. refl; client = λ t. refl }) (λ t. refl) refl)
 
   led-transfers : (c : Call) (s : NodeState) → (led_by c s).transfers ≡ s.transfers
-  led-transfers c s = go (status_table s.status c)
-    where
-      resume : (l : List (Change Bytes)) → ◌≡◌ {A = List Transfer} (elim l as (λ _. NodeState) [ [] ↦ clean_up Old s | change ∷ changes ↦ record s { status = Ready } ]).transfers s.transfers
-      resume [] = refl
-      resume (x ∷ xs) = refl
-
-      go : (o : Option Goal) → (option_map_or (arrive s) o s).transfers ≡ s.transfers
-      go (Some Resume) = resume (changes_in s)
-      go _ = refl
+  led-transfers c s = grind (arith, nat_tests) steps 500000
 
   pub process_received : (s : NodeState) (id tag : ℕ) → KeepsTransfers (real read clusters) s (judged_in read s (ProcessSwPackage id tag)).0
   process_received s id tag =
@@ -182,9 +125,7 @@ module _ (read : Reading) (clusters : List (Cluster Bytes)) where
   block-names bytes = record { id = λ t. refl; client = λ t. refl }
 
   pub data_transfers : (s : NodeState) (id counter : ℕ) (bytes : List ℕ) → ids_of (judged_in read s (TransferData id counter bytes)).0 0 ≡ ids_of s 0
-  data_transfers s id counter bytes =
-      judged-by s 0 (call.TransferData id counter bytes) (verdict_for read s 0 (call.TransferData id counter bytes)) (λ t. ids_of t 0 ≡ ids_of s 0) refl
-      (ids-changed 0 id (λ t. record t { header = grown (length bytes) t.header; bytes = t.bytes ++ bytes }) (block-names bytes) s.transfers)
+  data_transfers s id counter bytes = grind (arith, nat_tests, judged-by, ids-changed, block-names) steps 500000
 
   pub data_received : (s : NodeState) (id counter : ℕ) (bytes : List ℕ) → (judged_in read s (TransferData id counter bytes)).1 ≡ Done → (received_in (judged_in read s (TransferData id counter bytes)).0 id ≡ received_in s id ++ bytes) × ((other : ℕ) → other ≢ id → received_in (judged_in read s (TransferData id counter bytes)).0 other ≡ received_in s other)
   data_received s id counter bytes d =
@@ -203,19 +144,11 @@ module _ (read : Reading) (clusters : List (Cluster Bytes)) where
 
   -- TransferStart
   start-is : (s : NodeState) (size id : ℕ) → (judged_in read s (TransferStart size)).1 ≡ Started id → ((judged_in read s (TransferStart size)).0 ≡ started s 0 size) × (id ≡ s.next_id)
-  start-is s size id e = go (refusal s 0 (call.TransferStart size) (verdict_for read s 0 (call.TransferStart size))) e
-    where
-      go : (o : Option Refusal) → (refused_or (reply.Started s.next_id) o) ≡ Started id → (after_reply s 0 (call.TransferStart size) (verdict_for read s 0 (call.TransferStart size)) (refused_or (reply.Started s.next_id) o) ≡ started s 0 size) × (id ≡ s.next_id)
-      go None q = (refl, let z : s.next_id ≡ id = cc q in sym z)
-      go (Some why) q = absurd (cc q)
+  start-is s size id e = grind (arith, nat_tests) steps 500000
 
   ids-below : (next : ℕ) (ts : List Transfer) → AllByRecursion (IsSound next) ts → AllByRecursion (λ (n : ℕ). n < next) (map (λ (t : Transfer). t.header.id) (filter (λ (t : Transfer). t.header.client == 0) ts))
   ids-below next [] a = tt
-  ids-below next (t ∷ ts) a = go (t.header.client == 0) (ids-below next ts a.1)
-    where
-      go : (b : Bool) → AllByRecursion (λ (n : ℕ). n < next) (map (λ (y : Transfer). y.header.id) (filter (λ (y : Transfer). y.header.client == 0) ts)) → AllByRecursion (λ (n : ℕ). n < next) (map (λ (y : Transfer). y.header.id) (cond b (t ∷ filter (λ (y : Transfer). y.header.client == 0) ts) (filter (λ (y : Transfer). y.header.client == 0) ts)))
-      go true rec = (a.0.id.1, rec)
-      go false rec = rec
+  ids-below next (t ∷ ts) a = grind (arith, nat_tests, ids-below next ts a.1) steps 500000
 
   not-below : (b : ℕ) (l : List ℕ) → AllByRecursion (λ (n : ℕ). n < b) l → Contains l b → ⊥
   not-below b l a h = at l a h.0 h.1 h.2
@@ -236,15 +169,7 @@ module _ (read : Reading) (clusters : List (Cluster Bytes)) where
       )
 
   none-found : (next : ℕ) (ts : List Transfer) → AllByRecursion (IsSound next) ts → find (λ (t : Transfer). is_of 0 next t.header) ts ≡ None
-  none-found next ts a = go (find (λ (t : Transfer). is_of 0 next t.header) ts) refl
-    where
-      go : (o : Option Transfer) → find (λ (t : Transfer). is_of 0 next t.header) ts ≡ o → find (λ (t : Transfer). is_of 0 next t.header) ts ≡ None
-      go None e = e
-      go (Some t) e =
-          let sound = find-all (IsSound next) (λ (y : Transfer). is_of 0 next y.header) ts t a e in
-          let is : t.header.id ≡ next = eqb-true t.header.id next (and-true (t.header.id == next) (t.header.client == 0) (find-passes (λ (y : Transfer). is_of 0 next y.header) ts t e)).0 in
-          let lt : t.header.id < next = sound.id.1 in
-          absurd (omega (arith, is))
+  none-found next ts a = grind (arith, nat_tests, find-all, eqb-true, and-true, find-passes) steps 500000
 
   pub start_received : (s : NodeState) (size id : ℕ) → IsConsistent s → (judged_in read s (TransferStart size)).1 ≡ Started id → (received_in (judged_in read s (TransferStart size)).0 id ≡ []) × ((other : ℕ) → other ≢ id → received_in (judged_in read s (TransferStart size)).0 other ≡ received_in s other)
   start_received s size id v e =
@@ -312,57 +237,8 @@ module _ (read : Reading) (clusters : List (Cluster Bytes)) where
 
   parts-are : (s : NodeState) (x : Session) (id : ℕ) → IsFit read s → s.session ≡ Some x → (x.owner == 0) ≡ true → x.processing ≡ Some id → parts_of_id s x id ≡ parts_read (read (received_in s id))
   parts-are s x id fit e owner p =
-      ap (λ (n : ℕ). parts_of (transfer_of s n id)) (eqb-true x.owner 0 owner) ∙ go (transfer_of s 0 id) refl (subst (λ (n : ℕ). IsSomeAnd (transfer_of s n id) (λ t. x.units_done < all_units t.parts)) (eqb-true x.owner 0 owner) unfinished)
-    where
-      unfinished : IsSomeAnd (transfer_of s x.owner id) (λ t. x.units_done < all_units t.parts)
-      unfinished =
-          subst (λ o. IfSome o (λ (i : ℕ). IsSomeAnd (transfer_of s x.owner i) (λ t. x.units_done < all_units t.parts))) p
-          (subst (λ o. IfSome o (λ (y : Session). IfSome y.processing (λ (i : ℕ). IsSomeAnd (transfer_of s y.owner i) (λ t. y.units_done < all_units t.parts)))) e fit.consistent.processing.unfinished)
-
-      in_process : id_in_processing s ≡ Some id
-      in_process = ap (λ o. option_and_then (λ (y : Session). y.processing) o) e ∙ p
-
-      of-phase : (t : Transfer) (phase : Phase) → t.header.phase ≡ phase → is_in BeingProcessed t.header ≡ true → IsRead read t phase → t.parts ≡ parts_read (read t.bytes)
-      of-phase t Transferring q i r = absurd (let z : is_in BeingProcessed (record t.header { phase = Transferring }) ≡ true = subst (λ (y : Phase). is_in BeingProcessed (record t.header { phase = y }) ≡ true) q i in cc z)
-      of-phase t _ q i r = r
-
-      go : (o : Option Transfer) → transfer_of s 0 id ≡ o → IsSomeAnd o (λ t. x.units_done < all_units t.parts) → parts_of (transfer_of s 0 id) ≡ parts_read (read (received_in s id))
-      go None q h = absurd h
-      go (Some t) q h =
-          let each = find-all (λ y. is_in BeingProcessed y.header ≡ some_passes (λ (i : ℕ). i == y.header.id) (id_in_processing s)) (λ (y : Transfer). is_of 0 id y.header) s.transfers t fit.consistent.processing.each q in
-          let is : t.header.id ≡ id = eqb-true t.header.id id (and-true (t.header.id == id) (t.header.client == 0) (find-passes (λ (y : Transfer). is_of 0 id y.header) s.transfers t q)).0 in
-          let being : is_in BeingProcessed t.header ≡ true = each ∙ (ap (λ o. some_passes (λ (i : ℕ). i == t.header.id) o) in_process ∙ eq-eqb id t.header.id (sym is)) in
-          let r = find-all (λ y. IsRead read y y.header.phase) (λ (y : Transfer). is_of 0 id y.header) s.transfers t fit.read_parts q in
-          ap parts_of q ∙ (of-phase t t.header.phase refl being r ∙ sym (ap (λ o. parts_read (read (option_map_or (λ (y : Transfer). y.bytes) o []))) q))
+      grind (arith, nat_tests, eqb-true, received_in, find-all, and-true, find-passes, eq-eqb) steps 500000
 
   pub unit_processing : (s : NodeState) (passed : Bool) (tag id : ℕ) → IsFit read s → mine_in s ≡ Some tag → s.status ≡ Processing → id_in_processing s ≡ Some id → (mine_in (unit_in s passed) ≡ Some tag) × (ended_in (unit_in s passed) ≡ ended_in s) × ((((unit_in s passed).status ≡ Processing) × (planned_in (unit_in s passed) ≡ planned_in s) × (id_in_processing (unit_in s passed) ≡ Some id)) ⊎ (((unit_in s passed).status ≡ Ready) × (planned_in (unit_in s passed) ≡ planned_in s ++ parts_read (read (received_in s id)))))
   unit_processing s passed tag id fit mine st p =
-      let m = mine-some s tag mine in
-      let proc : m.0.processing ≡ Some id = sym (ap (λ o. option_and_then (λ (y : Session). y.processing) o) m.1) ∙ p in
-      subst P (sym (unit-is s passed m.0 (process_unit s m.0 id) m.1 (ap (λ y. unit_of s m.0 passed y) st ∙ ap (λ o. option_and_then (λ i. Some (process_unit s m.0 i)) o) proc)))
-      (go (nat_lt (m.0.units_done + 1) (all_units (parts_of_id s m.0 id))) m.0 m.1 proc m.2)
-    where
-      P : NodeState → Type 0
-      P t = (mine_in t ≡ Some tag) × (ended_in t ≡ ended_in s) × (((t.status ≡ Processing) × (planned_in t ≡ planned_in s) × (id_in_processing t ≡ Some id)) ⊎ ((t.status ≡ Ready) × (planned_in t ≡ planned_in s ++ parts_read (read (received_in s id)))))
-
-      planned-is : (x : Session) → s.session ≡ Some x → planned_in s ≡ map (λ (change : Change Bytes). change.part) x.changes
-      planned-is x e = ap (λ o. map (λ (change : Change Bytes). change.part) (option_map_or (λ (y : Session). y.changes) o [])) e
-
-      mine-is : (x : Session) → s.session ≡ Some x → tag_if (x.owner == 0) x.tag ≡ Some tag
-      mine-is x e = sym (ap (λ o. option_and_then (λ (y : Session). tag_if (y.owner == 0) y.tag) o) e) ∙ mine
-
-      unit-state : Session → Bool → NodeState
-      unit-state x b = if b then record s { session = Some (record x { units_done = x.units_done + 1 }) } else processed s x id (parts_of_id s x id)
-
-      go : (b : Bool) (x : Session) → s.session ≡ Some x → x.processing ≡ Some id → (x.owner == 0) ≡ true → P (with_entry (UnitAfter (unit-state x b).status) (unit-state x b))
-      go true x e q o = (mine-is x e, refl, inl (st, sym (planned-is x e), q))
-      go false x e q o = (
-        mine-is x e,
-        refl,
-        inr (
-          refl,
-          map-append (λ (change : Change Bytes). change.part) x.changes (changes_of id (parts_of_id s x id))
-              ∙ (ap (λ l. map (λ (change : Change Bytes). change.part) x.changes ++ l) (parts-back id (parts_of_id s x id) ∙ parts-are s x id fit e o q)
-              ∙ ap (λ l. l ++ parts_read (read (received_in s id))) (sym (planned-is x e))),
-        ),
-      )
+      grind (arith, nat_tests, mine-some, unit-is, mine_in, ended_in, planned_in, received_in, tag_if, map-append, parts-back, parts-are) steps 500000

@@ -1,4 +1,6 @@
 -- What planned changes make of each cluster.
+use Rattle.std.proofs.Common.{arith}
+use Rattle.std.proofs.lemmas.Bool.Decides.{nat_tests}
 use Rattle.std.proofs.Common.{◌≡◌, inl, inr, ℕ, List, [], ◌∷◌, Option, Some, None, Bool, true, false, refl, sym, ◌∙◌, ap, subst, cond}
 use Rattle.std.specs.Prelude.{◌||◌, ◌&&◌, not, find, filter, map}
 use Rattle.std.specs.Option.{option_or}
@@ -28,12 +30,7 @@ same-names : (a b : List ℕ) → a ≡ b → bytes_eq a b ≡ true
 same-names a b e = (bytes_eq-Decides a b).1 e
 
 eq-swap : (a b : List ℕ) → bytes_eq a b ≡ bytes_eq b a
-eq-swap a b = go (bytes_eq a b) (bytes_eq b a) refl refl
-  where
-    go : (x y : Bool) → bytes_eq a b ≡ x → bytes_eq b a ≡ y → x ≡ y
-    go true false p q = absurd (let z = same-names b a (sym (eq-names a b p)) in cc (z, q))
-    go false true p q = absurd (let z = same-names a b (sym (eq-names b a q)) in cc (z, p))
-    go _ _ p q = refl
+eq-swap a b = grind (arith, nat_tests, same-names, eq-names) steps 500000
 
 lt-not_eq : (a b : List ℕ) → bytes_eq a b ≡ true → name_lt a b ≡ false
 lt-not_eq a b e = go (slice_cmp nat_cmp a b) (sym (texts_ties a b) ∙ e)
@@ -53,22 +50,8 @@ lt-other a b e = go (slice_cmp nat_cmp a b) (slice_cmp nat_cmp b a) (sym (texts_
 
 -- a filter by name keeps what is found, or leaves nothing
 found-by_name : (q : List ℕ → Bool) (name : List ℕ) (cs : List (Cluster Bytes)) → find (λ (c : Cluster Bytes). bytes_eq c.name name) (filter (λ (d : Cluster Bytes). q d.name) cs) ≡ cond (q name) (find (λ (c : Cluster Bytes). bytes_eq c.name name) cs) None
-found-by_name q name [] = go (q name)
-  where
-    go : (b : Bool) → ◌≡◌ {A = Option (Cluster Bytes)} None (cond b None None)
-    go true = refl
-    go false = refl
-found-by_name q name (d ∷ ds) = go (q d.name) (bytes_eq d.name name) refl refl (found-by_name q name ds)
-  where
-    go : (a b : Bool) → q d.name ≡ a → bytes_eq d.name name ≡ b → find (λ (c : Cluster Bytes). bytes_eq c.name name) (filter (λ (e : Cluster Bytes). q e.name) ds) ≡ cond (q name) (find (λ (c : Cluster Bytes). bytes_eq c.name name) ds) None → find (λ (c : Cluster Bytes). bytes_eq c.name name) (cond a (d ∷ filter (λ (e : Cluster Bytes). q e.name) ds) (filter (λ (e : Cluster Bytes). q e.name) ds)) ≡ cond (q name) (cond b (Some d) (find (λ (c : Cluster Bytes). bytes_eq c.name name) ds)) None
-    go true true p r rec =
-        let z : q name ≡ true = ap q (sym (eq-names d.name name r)) ∙ p in
-        ap (λ x. cond x (Some d) (find (λ (c : Cluster Bytes). bytes_eq c.name name) (filter (λ (e : Cluster Bytes). q e.name) ds))) r ∙ sym (ap (λ x. cond x (Some d) None) z)
-    go true false p r rec = ap (λ x. cond x (Some d) (find (λ (c : Cluster Bytes). bytes_eq c.name name) (filter (λ (e : Cluster Bytes). q e.name) ds))) r ∙ rec
-    go false true p r rec =
-        let z : q name ≡ false = ap q (sym (eq-names d.name name r)) ∙ p in
-        rec ∙ (ap (λ x. cond x (find (λ (c : Cluster Bytes). bytes_eq c.name name) ds) None) z ∙ sym (ap (λ x. cond x (Some d) None) z))
-    go false false p r rec = rec
+found-by_name q name [] = grind (arith, nat_tests) steps 500000
+found-by_name q name (d ∷ ds) = grind (arith, nat_tests, eq-names, found-by_name q name ds) steps 500000
 
 with-at : (c : Cluster Bytes) (cs : List (Cluster Bytes)) (name : List ℕ) → cluster_at (with_cluster c cs) name ≡ cond (bytes_eq c.name name) (Some c) (cluster_at cs name)
 with-at c cs name =
@@ -99,11 +82,7 @@ without-at n cs name = found-by_name (λ m. not (bytes_eq m n)) name cs ∙ (ap 
     go false = refl
 
 changed-at : (p : Part Bytes) (cs : List (Cluster Bytes)) (name : List ℕ) → cluster_at (changed_by p cs) name ≡ cond (bytes_eq (cluster_of p) name) (left_by p.manifest.action (brought p)) (cluster_at cs name)
-changed-at p cs name = go p.manifest.action
-  where
-    go : (a : Action) → cluster_at (changed_as a (brought p) cs) name ≡ cond (bytes_eq (cluster_of p) name) (left_by a (brought p)) (cluster_at cs name)
-    go Remove = without-at (cluster_of p) cs name
-    go _ = with-at (brought p) cs name
+changed-at p cs name = grind (arith, nat_tests, without-at, with-at) steps 500000
 
 -- the clusters after the parts, each in turn
 abbrev pub run_parts : List (Part Bytes) → List (Cluster Bytes) → List (Cluster Bytes)
@@ -145,8 +124,4 @@ run-named (q ∷ qs) cs p d h =
     ]
 
 pub runs-new : (ps : List (Part Bytes)) (saved running : List (Cluster Bytes)) → all_differ (map cluster_of ps) ≡ true → running ≡ run_parts ps saved → RunsNew ps saved running
-runs-new ps saved running d e =
-    record {
-      named = λ p h. ap (λ l. cluster_at l (cluster_of p)) e ∙ run-named ps saved p d h;
-      others = λ name h. ap (λ l. cluster_at l name) e ∙ run-others ps saved name h;
-    }
+runs-new ps saved running d e = grind (arith, nat_tests, run-named, run-others) steps 500000

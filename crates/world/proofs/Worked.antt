@@ -1,4 +1,5 @@
 -- Two closed lists of events: one node installs a cluster and the campaign ends successful, or its check fails and it ends failed.
+use Rattle.std.proofs.lemmas.Bool.Decides.{nat_tests}
 use Rattle.std.specs.Prelude.{length, map, IsTrue, ◌≡◌, ◌≢◌, ℕ, zero, suc, ◌<◌, ◌≤◌, List, [], ◌∷◌, ◌++◌, Some, None, true, false, Ok, if◌then◌else◌, nat_eq, replicate}
 use Rattle.std.proofs.Common.{subst, refl, inl, arith}
 use Rattle.ucm_base.specs.Parts.{Bytes}
@@ -40,11 +41,7 @@ abbrev read : Reading
 read bytes = Ok (part ∷ [])
 
 reading : IsReading read
-reading = record {
-  parts_of = λ bytes parts e.
-      let same : part ∷ [] ≡ parts = cc e in
-      subst (λ ps. (0 < length ps) × IsTrue (all_differ (map cluster_of ps))) same (omega arith, refl);
-}
+reading = grind (arith, nat_tests) steps 500000
 
 -- campaign 7 has one package, for node 1
 abbrev packages : Packages
@@ -82,22 +79,7 @@ abbrev start : World
 start = opened (λ n. [])
 
 names : NamesOf packages 7 one
-names = (refl, flags)
-  where
-    other : (n : ℕ) → flag_of one n ≡ false → packages 7 n ≡ [] → (flag_of one n ≡ true → packages 7 n ≢ []) × (packages 7 n ≢ [] → flag_of one n ≡ true)
-    other n off none = (λ on. let g : ⊥ = cc (on, off) in absurd g, λ some. absurd (some none))
-
-    flags : (n : ℕ) → 1 ≤ n → n ≤ 8 → (flag_of one n ≡ true → packages 7 n ≢ []) × (packages 7 n ≢ [] → flag_of one n ≡ true)
-    flags zero low high = let g : ⊥ = omega (arith, low) in absurd g
-    flags (suc zero) low high = (λ on none. cc none, λ some. refl)
-    flags (suc (suc zero)) low high = other 2 refl refl
-    flags (suc (suc (suc zero))) low high = other 3 refl refl
-    flags (suc (suc (suc (suc zero)))) low high = other 4 refl refl
-    flags (suc (suc (suc (suc (suc zero))))) low high = other 5 refl refl
-    flags (suc (suc (suc (suc (suc (suc zero)))))) low high = other 6 refl refl
-    flags (suc (suc (suc (suc (suc (suc (suc zero))))))) low high = other 7 refl refl
-    flags (suc (suc (suc (suc (suc (suc (suc (suc zero)))))))) low high = other 8 refl refl
-    flags (suc (suc (suc (suc (suc (suc (suc (suc (suc n))))))))) low high = let g : ⊥ = omega (arith, high) in absurd g
+names = grind (arith, nat_tests) steps 500000
 
 -- what the last Sync shows
 abbrev shown : Outcome → Shown

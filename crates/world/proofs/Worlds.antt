@@ -1,4 +1,5 @@
 -- Whole worlds: every event of the tables is one of the rules.
+use Rattle.std.proofs.lemmas.Bool.Decides.{nat_tests}
 use Rattle.std.proofs.Common.{◌≡◌, refl, sym, ap, subst, ◌∙◌, ℕ, zero, suc, ◌+◌, ◌<◌, ◌≤◌, Bool, true, false, List, [], ◌∷◌, ◌++◌, length, arith}
 use Rattle.std.specs.Prelude.{nat_eq, nat_le, if◌then◌else◌, Option, Some, None}
 use Rattle.std.specs.List.{AllByRecursion}
@@ -29,23 +30,11 @@ abbrev HasStarted : Fold → Type 0
 HasStarted f = (c : Current) → f.current ≡ Some c → 0 < f.epoch
 
 kept-current : (f : Fold) (e : MasterEvent) → HasStarted f → (c : Current) → changed_in f.current e ≡ Some c → 0 < f.epoch
-kept-current f e h c q = go f.current refl q
-  where
-    go : (o : Option Current) → f.current ≡ o → changed_in o e ≡ Some c → 0 < f.epoch
-    go None p k = absurd (cc)
-    go (Some d) p k = h d p
+kept-current f e h c q = grind (arith, nat_tests) steps 500000
 
 started-after : (f : Fold) (e : MasterEvent) → refusal_of f e ≡ None → HasStarted f → HasStarted (after_event f e)
-started-after f (Start epoch) r h = λ c q. by (nat_eq epoch (f.epoch + 1)) refl r
-  where
-    by : (b : Bool) → nat_eq epoch (f.epoch + 1) ≡ b → unless b ≡ None → 0 < epoch
-    by true p k = let z = eqb-true epoch (f.epoch + 1) p in omega (arith, z)
-    by false p k = absurd (cc)
-started-after f (Begin k named) r h = λ c q. by (may_begin f k named) refl r
-  where
-    by : (b : Bool) → may_begin f k named ≡ b → unless b ≡ None → 0 < f.epoch
-    by true p j = let z = leb-true 1 f.epoch (and_parts (nat_le 1 f.epoch) _ p).0 in omega (arith, z)
-    by false p j = absurd (cc)
+started-after f (Start epoch) r h = grind (arith, nat_tests, eqb-true) steps 500000
+started-after f (Begin k named) r h = grind (arith, nat_tests, leb-true, and_parts) steps 500000
 started-after f (Enter x) r h = λ c q. absurd (cc)
 started-after f x r h = kept-current f x h
 
@@ -64,11 +53,7 @@ module _ (read : Reading) (keeps : KeepsNode read []) (packages : Packages) (num
   Follows w v e = (f : engine.Event (fit read [] keeps)) × engine.Allowed (fit read [] keeps) packages numbers v f × SameWorld read keeps (happens read w e) (engine.happens (fit read [] keeps) v f)
 
   same-with : (w : World) (v : engine.World (fit read [] keeps)) (n : ℕ) (x : NodeWorld) (y : engine.NodeWorld (fit read [] keeps)) → SameWorld read keeps w v → SameNode read keeps x y → SameWorld read keeps (with_node w n x) (engine.with_node (fit read [] keeps) v n y)
-  same-with w v n x y h k = record { fold = h.fold; node = λ i. go i (nat_eq i n); started = h.started }
-    where
-      go : (i : ℕ) (b : Bool) → SameNode read keeps (if b then x else w.node i) (if b then y else v.node i)
-      go i true = k
-      go i false = h.node i
+  same-with w v n x y h k = grind (arith, nat_tests) steps 500000
 
   deliver : (w : World) (v : engine.World (fit read [] keeps)) (n which : ℕ) (told : Bool) → SameWorld read keeps w v → which < length (w.node n).sent → Follows w v (Deliver n which told)
   deliver w v n which told h allowed = (
@@ -120,21 +105,11 @@ module _ (read : Reading) (keeps : KeepsNode read []) (packages : Packages) (num
   evidence : (w : World) (v : engine.World (fit read [] keeps)) (e : MasterEvent) → SameWorld read keeps w v → HasEvidence packages numbers w e → engine.Evidence (fit read [] keeps) packages numbers v e
   evidence w v (Begin k named) h has = has
   evidence w v (VoteOf n vote) h has = subst (VoteEvidence vote) (sym (h.node n).told) has
-  evidence w v (EndedAt n o) h has =
-      subst (λ (f : Fold). InCurrent f.current (λ c. EndEvidence f.epoch c (v.node n).told (v.node n).sent)) (sym h.fold)
-      (subst (λ ts. InCurrent (fold_of w).current (λ c. EndEvidence (fold_of w).epoch c ts (v.node n).sent)) (sym (h.node n).told)
-      (subst (λ ms. InCurrent (fold_of w).current (λ c. EndEvidence (fold_of w).epoch c (w.node n).told ms)) (sym (h.node n).sent) has))
+  evidence w v (EndedAt n o) h has = grind (arith, nat_tests) steps 500000
   evidence w v _ h has = tt
 
   same-recorded : (w : World) (v : engine.World (fit read [] keeps)) (e : MasterEvent) → SameWorld read keeps w v → HasStarted (after_event v.fold e) → SameWorld read keeps (recorded w e) (engine.recorded (fit read [] keeps) v e)
-  same-recorded w v e h started = go (empties e)
-    where
-      fold : after_event v.fold e ≡ campaign (w.list ++ e ∷ [])
-      fold = ap (λ f. after_event f e) h.fold ∙ sym (fold-append nothing_yet w.list e)
-
-      go : (b : Bool) → SameWorld read keeps (record { list = w.list ++ e ∷ []; node = if b then (λ k. record (w.node k) { told = [] }) else w.node }) (if b then engine.emptied (fit read [] keeps) v (after_event v.fold e) else record { fold = after_event v.fold e; node = v.node })
-      go true = record { fold = fold; node = λ n. let k = h.node n in record { state = k.state; sent = k.sent; told = refl; spans_told = k.spans_told; epochs = k.epochs }; started = started }
-      go false = record { fold = fold; node = h.node; started = started }
+  same-recorded w v e h started = grind (arith, nat_tests, fold-append, fit) steps 500000
 
   follows : (w : World) (v : engine.World (fit read [] keeps)) (e : Event) → SameWorld read keeps w v → IsAllowed read packages numbers w e → Follows w v e
   follows w v (Deliver n which told) h allowed = deliver w v n which told h allowed
