@@ -84,5 +84,4 @@ found-changed owner n id f k (t ∷ ts) = grind (arith, nat_tests, found-changed
 
 -- the parts of what is found, where the change leaves them
 pub parts-changed : (id : ℕ) (f : Transfer → Transfer) → ((t : Transfer) → (f t).parts ≡ t.parts) → (o : Option Transfer) → parts_of (option_map (changed id f) o) ≡ parts_of o
-parts-changed id f k None = refl
-parts-changed id f k (Some t) = grind (arith, nat_tests) steps 500000
+parts-changed id f k x = grind (arith, nat_tests) steps 1500000

@@ -168,9 +168,7 @@ own-tag false false e = absurd (cc)
 
 -- the table takes a package in Idle and in Ready
 process-status : (a : Status) (id tag : ℕ) → is_none (status_table a (ProcessSwPackage id tag)) ≡ false → ((a ≡ Idle) ⊎ (a ≡ Ready)) × (status_table a (ProcessSwPackage id tag) ≡ Some (To Processing))
-process-status Idle id tag e = (inl refl, refl)
-process-status Ready id tag e = (inr refl, refl)
-process-status _ id tag e = absurd (cc)
+process-status x id tag e = grind (arith, nat_tests) steps 1500000
 
 -- a package is taken into processing
 pub process-fit : (read : Reading) (s : NodeState) (client id tag : ℕ) → client < client_limit → IsFit read s
@@ -262,12 +260,10 @@ stopped read s x id u to o fit v e due runs plans working leaves outcome = recor
     other-id t n = grind (arith, nat_tests, n)
 
 passes-some : (o : Option ℕ) (n : ℕ) → some_passes (λ i. i == n) o ≡ true → o ≡ Some n
-passes-some None n e = absurd (cc)
-passes-some (Some i) n e = ap Some (eqb-true i n e)
+passes-some x n e = grind (arith, nat_tests, eqb-true) steps 1500000
 
 cancel-status : (a : Status) (id : ℕ) → is_none (status_table a (Cancel id)) ≡ false → (a ≡ Processing) × (status_table a (Cancel id) ≡ Some Resume)
-cancel-status Processing id e = (refl, refl)
-cancel-status _ id e = absurd (cc)
+cancel-status x id e = grind (arith, nat_tests) steps 1500000
 
 -- a package is not processed after all
 pub cancel-fit : (read : Reading) (s : NodeState) (client id : ℕ) → IsFit read s

@@ -65,8 +65,7 @@ any-more p (x ∷ xs) ys h = grind (arith, nat_tests, any-more p xs ys) steps 50
 
 -- numbers that rise
 pub rise-tail : (a : ℕ) (ns : List ℕ) → numbers_rise (a ∷ ns) ≡ true → numbers_rise ns ≡ true
-rise-tail a [] r = refl
-rise-tail a (b ∷ ns) r = (and_parts (nat_lt a b) (numbers_rise (b ∷ ns)) r).1
+rise-tail a x r = grind (arith, nat_tests, and_parts) steps 1500000
 
 pub rise-above : (a : ℕ) (ns : List ℕ) → numbers_rise (a ∷ ns) ≡ true → AllByRecursion (λ n. a < n) ns
 rise-above a [] r = tt
@@ -76,8 +75,7 @@ rise-above a (b ∷ ns) r =
     (first, each-imp _ _ (λ n h. omega (arith, first, h)) ns (rise-above b ns parts.1))
 
 rise-onto : (a : ℕ) (ns : List ℕ) → AllByRecursion (λ n. a < n) ns → numbers_rise ns ≡ true → numbers_rise (a ∷ ns) ≡ true
-rise-onto a [] h r = refl
-rise-onto a (b ∷ ns) h r = both_true (lt-ltb a b h.0) r
+rise-onto a x h r = grind (arith, nat_tests, lt-ltb) steps 1500000
 
 pub rise-append : (ns : List ℕ) (n : ℕ) → numbers_rise ns ≡ true → AllByRecursion (λ m. m < n) ns → numbers_rise (ns ++ n ∷ []) ≡ true
 rise-append [] n r b = refl

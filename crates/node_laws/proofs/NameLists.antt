@@ -125,8 +125,7 @@ abbrev pub Behind : List ℕ → List (List ℕ) → Type 0
 Behind a ns = AllByRecursion (λ n. name_lt a n ≡ true) ns
 
 pub names-tail : (a : List ℕ) (ns : List (List ℕ)) → names_rise (a ∷ ns) ≡ true → names_rise ns ≡ true
-names-tail a [] r = refl
-names-tail a (b ∷ ns) r = (and_parts (name_lt a b) (names_rise (b ∷ ns)) r).1
+names-tail a x r = grind (arith, nat_tests, and_parts) steps 1500000
 
 pub names-behind : (a : List ℕ) (ns : List (List ℕ)) → names_rise (a ∷ ns) ≡ true → Behind a ns
 names-behind a [] r = tt
@@ -135,8 +134,7 @@ names-behind a (b ∷ ns) r =
     (parts.0, each-imp _ _ (λ n h. lt-trans a b n parts.0 h) ns (names-behind b ns parts.1))
 
 pub names-onto : (a : List ℕ) (ns : List (List ℕ)) → Behind a ns → names_rise ns ≡ true → names_rise (a ∷ ns) ≡ true
-names-onto a [] h r = refl
-names-onto a (b ∷ ns) h r = both_true h.0 r
+names-onto a x h r = grind (arith, nat_tests) steps 1500000
 
 -- names before one, that one, and names behind it
 pub names-around : (xs : List (List ℕ)) (n : List ℕ) (ys : List (List ℕ)) → names_rise xs ≡ true → AllByRecursion (λ x. name_lt x n ≡ true) xs → names_rise (n ∷ ys) ≡ true → names_rise (xs ++ n ∷ ys) ≡ true

@@ -68,8 +68,7 @@ module _ (s : NodeState) (next : ℕ) (us : List Transfer) (quiet : Quiet s.next
       quiet.found_still owner n p.transfer p.is p.in_processing ∙ sym p.is
 
   still-unfinished : (owner done : ℕ) (o : Option ℕ) → Held s.next_id s.transfers → InProcessing o s.transfers → IfSome o (IsUnfinished owner done s.transfers) → IfSome o (IsUnfinished owner done us)
-  still-unfinished owner done None h k m = tt
-  still-unfinished owner done (Some n) h k m = subst (λ o. IsSomeAnd o (λ t. done < all_units t.parts)) (sym (same-found owner done n h k m)) m
+  still-unfinished owner x y h k m = grind (arith, nat_tests, same-found) steps 1500000
 
   below-next : (owner done : ℕ) (o : Option ℕ) → Held s.next_id s.transfers → InProcessing o s.transfers → IfSome o (IsUnfinished owner done s.transfers) → IfSome o (λ n. n < s.next_id)
   below-next owner done None h k m = tt

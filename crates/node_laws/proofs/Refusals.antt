@@ -20,8 +20,7 @@ rows-clear ((false, r) ∷ rows) e = (refl, rows-clear rows e)
 rows-clear ((true, r) ∷ rows) e = absurd (cc)
 
 pub both-none : {X : Type 0} (o q : Option X) → option_or o q ≡ None → (o ≡ None) × (q ≡ None)
-both-none None q e = (refl, e)
-both-none (Some x) q e = absurd (cc)
+both-none x q e = grind (arith, nat_tests) steps 1500000
 
 pub neither : (a b : Bool) → (a || b) ≡ false → (a ≡ false) × (b ≡ false)
 neither false b e = (refl, e)
@@ -40,12 +39,10 @@ or-false true e = refl
 or-false false e = absurd (cc)
 
 pub some-header : (o : Option Transfer) → is_none (header_of o) ≡ false → (u : Transfer) × (o ≡ Some u)
-some-header (Some u) e = (u, refl)
-some-header None e = absurd (cc)
+some-header x e = grind (arith, nat_tests) steps 1500000
 
 pub some-transfer : (o : Option Transfer) → is_none o ≡ false → (u : Transfer) × (o ≡ Some u)
-some-transfer (Some u) e = (u, refl)
-some-transfer None e = absurd (cc)
+some-transfer x e = grind (arith, nat_tests) steps 1500000
 
 pub is-transferring : (h : Header) → is_in Transferring h ≡ true → h.phase ≡ Transferring
 is-transferring h e = grind (arith, nat_tests) steps 500000

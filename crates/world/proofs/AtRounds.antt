@@ -45,16 +45,7 @@ module _ (N : NodeRules) (laws : NodeLaws N) where
 
   -- a step that keeps client 0's transfers, and its session or that it has none
   pub at-same : (s t : N.State) → KeepsTransfers N s t → (N.mine s ≡ None → N.mine t ≡ None) → ((tag : ℕ) → N.mine s ≡ Some tag → KeepsSession N s t) → (k : ℕ) (ps : List (List ℕ)) (stage : Stage) → IsAt N s k ps stage → IsAt N t k ps stage
-  at-same s t transfers none session k ps At_sync h = none h
-  at-same s t transfers none session k ps (At_start ids left) h = record { done = h.done; all = h.all; none = none h.none; hold = hold-same s t transfers ids h.done h.hold }
-  at-same s t transfers none session k ps (At_data ids id counter bytes left) h =
-      grind (arith, nat_tests, hold-same) steps 500000
-  at-same s t transfers none session k ps (At_process ids zero) h = record { done = h.done; all = h.all; none = none h.none; hold = hold-same s t transfers ids h.done h.hold }
-  at-same s t transfers none session k ps (At_process ids (suc taken)) h =
-      record { done = h.done; left = h.left; all = h.all; has = has-same s t transfers (session k h.has.mine) k (flat_map N.changes_of h.done) h.has; hold = hold-same s t transfers ids h.left h.hold }
-  at-same s t transfers none session k ps At_activate h = has-same s t transfers (session k h.mine) k (flat_map N.changes_of ps) h
-  at-same s t transfers none session k ps Over h = grind (arith, nat_tests) steps 500000
-  at-same s t transfers none session k ps Refused_once h = absurd h
+  at-same s t transfers none session k ps x h = grind (arith, nat_tests, hold-same, has-same) steps 1500000
 
   pub at-foreign : (s : N.State) (call : N.ForeignCall) (k : ℕ) (ps : List (List ℕ)) (stage : Stage) → IsAt N s k ps stage → IsAt N (N.foreign s call) k ps stage
   at-foreign s call = at-same s (N.foreign s call) (laws.foreign_transfers s call) (laws.foreign_none s call) (laws.foreign_session s call)
@@ -64,12 +55,7 @@ module _ (N : NodeRules) (laws : NodeLaws N) where
 
   -- where client 0 has a session at a stage, it is not being cleaned up
   pub at-not_cleaning : (s : N.State) (k tag : ℕ) (ps : List (List ℕ)) (stage : Stage) → IsAt N s k ps stage → N.mine s ≡ Some tag → N.status s ≢ CleaningUp
-  at-not_cleaning s k tag ps At_sync h mine e = cc (h, mine)
-  at-not_cleaning s k tag ps (At_process ids (suc taken)) h mine e = elim h.has.planned [ inl a ↦ (cc (a.0, e)) | inr b ↦ (cc (b.0, e)) ]
-  at-not_cleaning s k tag ps At_activate h mine e = elim h.planned [ inl a ↦ (cc (a.0, e)) | inr b ↦ (cc (b.0, e)) ]
-  at-not_cleaning s k tag ps Over h mine e = grind (arith, nat_tests) steps 500000
-  at-not_cleaning s k tag ps Refused_once h mine e = h
-  at-not_cleaning s k tag ps _ h mine e = let none = h.none in cc (none, mine)
+  at-not_cleaning s k tag ps x h mine e = grind (arith, nat_tests) steps 1500000
 
   -- a unit
   has-unit : (s : N.State) (passed : Bool) (k : ℕ) (changes : List N.Change) → Has N s k changes → Has N (N.unit s passed) k changes × KeepsTransfers N s (N.unit s passed)

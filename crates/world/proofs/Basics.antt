@@ -45,20 +45,16 @@ pub done-accepted : (s : NodeState) (client : ℕ) (c : Call) (v : Verdict) → 
 done-accepted s client c v e = grind (arith, nat_tests) steps 500000
 
 pub done-none : (r : Reply) (o : Option Refusal) → (refused_or r o) ≡ Done → o ≡ None
-done-none r None e = refl
-done-none r (Some why) e = absurd (cc e)
+done-none r x e = grind (arith, nat_tests) steps 1500000
 
 pub done-or-refused : (r : Reply) (o : Option Refusal) → r ≡ Done → ((refused_or r o) ≡ Done) ⊎ ((why : Refusal) × ((refused_or r o) ≡ Refused why))
-done-or-refused r None e = inl e
-done-or-refused r (Some why) e = inr (why, refl)
+done-or-refused r x e = grind (arith, nat_tests) steps 1500000
 
 pub or-none : {A : Type 0} (a b : Option A) → option_or a b ≡ None → (a ≡ None) × (b ≡ None)
-or-none None b e = (refl, e)
-or-none (Some x) b e = absurd (cc e)
+or-none x b e = grind (arith, nat_tests) steps 1500000
 
 pub not-refused : (row : Bool × Refusal) (rows : List (Bool × Refusal)) → first_refusal (row ∷ rows) ≡ None → (row.0 ≡ false) × (first_refusal rows ≡ None)
-not-refused (false, r) rows e = (refl, e)
-not-refused (true, r) rows e = absurd (cc e)
+not-refused x rows e = grind (arith, nat_tests) steps 1500000
 
 -- what is kept
 pub last-kept : (s : NodeState) (at : CallNo) (c : Call) (r : Reply) → IsConsistent s → of_client (kept_after s at c r).last 0 ≡ Some (record { no = at; reply = r })
@@ -80,16 +76,7 @@ seen owner tag st false true p q r i = let z : tag ≡ 0 = eqb-true tag 0 q in a
 seen owner tag st false false p q r i = absurd (cc r)
 
 session-shown : (o : Option Session) (st : Status) → SessionIsDue st o → option_map (mark_of st) o ≡ seen_of (option_map_or (λ (x : Session). x.owner) o 0) st (option_and_then (λ (x : Session). tag_if (x.owner == 0) x.tag) o)
-session-shown None Idle h = refl
-session-shown (Some x) Ready h = seen x.owner x.tag Ready (x.owner == 0) (x.tag == 0) refl refl h refl
-session-shown (Some x) Processing h = seen x.owner x.tag Processing (x.owner == 0) (x.tag == 0) refl refl h refl
-session-shown (Some x) Activating h = seen x.owner x.tag Activating (x.owner == 0) (x.tag == 0) refl refl h refl
-session-shown (Some x) Verifying h = seen x.owner x.tag Verifying (x.owner == 0) (x.tag == 0) refl refl h refl
-session-shown (Some x) Activated h = seen x.owner x.tag Activated (x.owner == 0) (x.tag == 0) refl refl h refl
-session-shown (Some x) RollingBack h = seen x.owner x.tag RollingBack (x.owner == 0) (x.tag == 0) refl refl h refl
-session-shown (Some x) RolledBack h = seen x.owner x.tag RolledBack (x.owner == 0) (x.tag == 0) refl refl h refl
-session-shown (Some x) CleaningUp h = seen x.owner x.tag CleaningUp (x.owner == 0) (x.tag == 0) refl refl h refl
-session-shown _ _ h = absurd h
+session-shown x y h = grind (arith, nat_tests, seen) steps 1500000
 
 module _ (read : Reading) (clusters : List (Cluster Bytes)) where
   -- a step that leaves the session and the status
@@ -119,16 +106,7 @@ module _ (read : Reading) (clusters : List (Cluster Bytes)) where
   led-ended c s = grind (arith, nat_tests) steps 500000
 
   pub judge_ended : (s : NodeState) (c : Call) → ended_in (judged_in read s c).0 ≡ ended_in s
-  judge_ended s c = ap (λ l. of_client l 0) (judged-by s 0 (c) (verdict_for read s 0 (c)) (λ t. t.ended ≡ s.ended) refl (go c))
-    where
-      go : (d : Call) → (accepted s 0 (d) (verdict_for read s 0 (c))).ended ≡ s.ended
-      go (ProcessSwPackage id tag) = led-ended (call.ProcessSwPackage id tag) (begin_processing s 0 id tag)
-      go Activate = led-ended call.Activate s
-      go Finish = led-ended call.Finish s
-      go Rollback = led-ended call.Rollback s
-      go Revert = led-ended call.RevertProcessedSwPackages s
-      go (Cancel id) = led-ended (call.Cancel id) (stop_processing s id)
-      go _ = refl
+  judge_ended s c = grind (arith, nat_tests, judged-by, led-ended)
 
   pub refused : (s : NodeState) (c : Call) (why : Refusal) → (judged_in read s c).1 ≡ Refused why → (judged_in read s c).0 ≡ s
   refused s c why e = refused-leaves s 0 (c) (verdict_for read s 0 (c)) why e

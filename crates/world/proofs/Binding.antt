@@ -71,31 +71,5 @@ module _ (read : Reading) (clusters : List (Cluster Bytes)) (s : NodeState) (at 
 
   -- a call whose epoch is at least 1, as every call number's is
   pub delivered-is : 0 < at.epoch → (delivered (real read clusters) s at c ≡ (step s 0 at (c) (verdict_for read s 0 (c))).0) × (world_reached (real read clusters) s at c ≡ (step s 0 at (c) (verdict_for read s 0 (c))).1)
-  delivered-is epoch = go (of_client s.last 0) refl
-    where
-      go : (o : Option Kept) → of_client s.last 0 ≡ o → (delivered (real read clusters) s at c ≡ (by_last s done at o).0) × (world_reached (real read clusters) s at c ≡ (by_last s done at o).1)
-      go None e =
-          let l : last_in s ≡ zero_no = ap (λ o. option_map_or (λ (k : Kept). k.no) o zero_no) e in
-          let p : no_lt at (last_in s) ≡ false = ap (no_lt at) l ∙ above-first-lt at.epoch at.number 0 0 epoch in
-          let q : no_eq at (last_in s) ≡ false = ap (no_eq at) l ∙ above-first-eq at.epoch at.number 0 0 epoch in
-          (state-by false false p q, reached-by false false p q)
-      go (Some k) e = by (call_no_cmp at k.no) (tests at k.no)
-        where
-          l : last_in s ≡ k.no
-          l = ap (λ o. option_map_or (λ (k' : Kept). k'.no) o zero_no) e
-
-          again : kept_in s ≡ k.reply
-          again = ap (λ o. option_map_or (λ (k' : Kept). k'.reply) o Done) e
-
-          by : (o : Ordering) → Tests at k.no o → (delivered (real read clusters) s at c ≡ (by_order s done k o).0) × (world_reached (real read clusters) s at c ≡ (by_order s done k o).1)
-          by Less h =
-              let p : no_lt at (last_in s) ≡ true = ap (no_lt at) l ∙ h in
-              (state-by true (no_eq at (last_in s)) p refl, reached-by true (no_eq at (last_in s)) p refl ∙ ap Stale l)
-          by Equal h =
-              let p : no_lt at (last_in s) ≡ false = ap (no_lt at) l ∙ h.0 in
-              let q : no_eq at (last_in s) ≡ true = ap (no_eq at) l ∙ h.1 in
-              (state-by false true p q, reached-by false true p q ∙ ap Again again)
-          by Greater h =
-              let p : no_lt at (last_in s) ≡ false = ap (no_lt at) l ∙ h.0 in
-              let q : no_eq at (last_in s) ≡ false = ap (no_eq at) l ∙ h.1 in
-              (state-by false false p q, reached-by false false p q)
+  delivered-is epoch =
+      grind (arith, nat_tests, delivered, real, world_reached, last_in, zero_no, above-first-lt, above-first-eq, state-by, reached-by, tests, kept_in)

@@ -23,11 +23,7 @@ abbrev pub IsCalm : Call → Type 0
 IsCalm call = (call ≡ Sync) ⊎ ((call ≡ Finish) ⊎ ((id : ℕ) × (call ≡ DeleteTransfer id)))
 
 pub late-commit : (call : Call) (o : Option Status) (shown : Option _) → (is_sync call || (end_call_at Commit o call || delete_at shown call)) ≡ true → IsCalm call
-late-commit Sync o shown e = inl refl
-late-commit Finish o shown e = inr (inl refl)
-late-commit (DeleteTransfer id) o shown e = inr (inr (id, refl))
-late-commit _ None shown e = absurd (cc e)
-late-commit _ (Some s) shown e = absurd (cc e)
+late-commit x y shown e = grind (arith, nat_tests) steps 1500000
 
 module _ (N : NodeRules) (laws : NodeLaws N) (k : ℕ) (changes : List N.Change) where
   -- the campaign's session waits for Finish, or is being cleaned up after it
@@ -64,19 +60,11 @@ module _ (N : NodeRules) (laws : NodeLaws N) (k : ℕ) (changes : List N.Change)
           ])
 
   pub waiting-foreign : (moves : List (Move N)) (call : N.ForeignCall) → IsWaiting moves → IsWaiting (Foreign call ∷ moves)
-  waiting-foreign moves call w =
-      record { waits = waits-keeps (after N moves) (N.foreign (after N moves) call) (laws.foreign_session (after N moves) call k w.waits.mine) w.waits; is_open = w.is_open; none = w.none }
+  waiting-foreign moves call w = grind (arith, nat_tests, waits-keeps, after, laws.foreign_session)
 
   pub waiting-delivered : (moves : List (Move N)) (m : Message) → (Executable N (after N moves) m → IsCalm m.call) → IsWaiting moves → IsWaiting (Delivered m ∷ moves)
   waiting-delivered moves m calm w =
-      record {
-        waits =
-            delivered-cases N laws (after N moves) m.at m.call (λ t. Waits t) w.waits (λ a b.
-            waits-keeps (N.judge (after N moves) m.call).0 _ (laws.keep_session (N.judge (after N moves) m.call).0 m.at m.call (N.judge (after N moves) m.call).1)
-            (waits-judge (after N moves) m.call (calm (above-last m.at (N.last (after N moves)) a b)) w.waits));
-        is_open = subst (λ b. (b || begins_span N k (after N moves) m) ≡ true) (sym w.is_open) refl;
-        none = w.none;
-      }
+      grind (arith, nat_tests, delivered-cases, after, waits-keeps, laws.keep_session, waits-judge, above-last, begins_span)
 
   -- a unit goes on waiting, or ends the one span as New
   pub waiting-unit : (moves : List (Move N)) (passed : Bool) → IsWaiting moves → IsWaiting (Unit_done passed ∷ moves) ⊎ IsNew N k changes (Unit_done passed ∷ moves)

@@ -34,9 +34,7 @@ bool-cases true f = absurd (f refl)
 bool-cases false f = refl
 
 has-tag-process : (k : ℕ) (call : Call) → IsCalm call → has_tag k call ≡ false
-has-tag-process k call (inl e) = ap (has_tag k) e
-has-tag-process k call (inr (inl e)) = ap (has_tag k) e
-has-tag-process k call (inr (inr d)) = ap (has_tag k) d.1
+has-tag-process k call x = grind (arith, nat_tests) steps 1500000
 
 module _ (N : NodeRules) (laws : NodeLaws N) (packages : Packages) (n : ℕ) where
   abbrev pub changes_of : ℕ → List N.Change

@@ -42,8 +42,7 @@ or-right true b e = refl
 or-right false b e = e
 
 sync-is : (call : Call) → is_sync call ≡ true → call ≡ Sync
-sync-is Sync e = refl
-sync-is _ e = absurd (cc e)
+sync-is x e = grind (arith, nat_tests) steps 1500000
 
 -- what the message before a new one of an undecided campaign is
 told-before : (a b d e g : Bool) → a ≡ true → d ≡ true → g ≡ false → (not a || (b || (not d || (e && g)))) ≡ true → b ≡ true

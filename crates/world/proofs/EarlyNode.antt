@@ -45,16 +45,13 @@ showed-done x (Answered m r ∷ ts) e = grind (arith, nat_tests, showed-done x t
 showed-done x (Showed s ∷ ts) e = grind (arith, nat_tests, showed-done x ts) steps 500000
 
 is-activated : (x : Status) → is_status x Activated ≡ true → x ≡ Activated
-is-activated Activated e = refl
-is-activated _ e = absurd (cc e)
+is-activated x e = grind (arith, nat_tests) steps 1500000
 
 call-activate : (call : Call) → is_activate call ≡ true → call ≡ Activate
-call-activate Activate e = refl
-call-activate _ e = absurd (cc e)
+call-activate x e = grind (arith, nat_tests) steps 1500000
 
 reply-done : (r : Reply) → is_done r ≡ true → r ≡ Done
-reply-done Done e = refl
-reply-done _ e = absurd (cc e)
+reply-done x e = grind (arith, nat_tests) steps 1500000
 
 -- the replies that are told lead to the same stage as the entries
 stage-push : (ps : List (List ℕ)) (stage : Stage) (rs : List Reply) (r : Reply) → stage_of ps stage (rs ++ r ∷ []) ≡ onward ps (stage_of ps stage rs) r
@@ -114,8 +111,7 @@ all-told ts us [] f h = tt
 all-told ts us (e ∷ es) f h = (f e (inl refl) h.0, all-told ts us es (λ y q. f y (inr q)) h.1)
 
 older-told : (ts us : List Told) (es : List ClientEntry) → ((e : ClientEntry) → InEntries e es → told_reply ts e.message.at ≡ Some e.reply → told_reply us e.message.at ≡ Some e.reply) → OlderTold ts es → OlderTold us es
-older-told ts us [] f h = tt
-older-told ts us (e ∷ es) f h = all-told ts us es (λ y q. f y (inr q)) h
+older-told ts us x f h = grind (arith, nat_tests, all-told) steps 1500000
 
 module _ (N : NodeRules) (laws : NodeLaws N) where
   -- a delivery is nothing, or an executable call that is judged, kept and answered
@@ -270,8 +266,7 @@ module _ (N : NodeRules) (laws : NodeLaws N) where
 
     -- a status that is told
     pub early-showed : (s : N.State) (es : List ClientEntry) (ended : List (Span N)) (sent : List Message) (told : List Told) (x : Status) → N.status s ≡ x → EarlyAt N epoch k ps s es ended sent told → EarlyAt N epoch k ps s es ended sent (Showed x ∷ told)
-    early-showed s es ended sent told x status h =
-        grind (arith, nat_tests, older-told, all-told, is-activated) steps 500000
+    early-showed s es ended sent told x status h = grind (arith, nat_tests, older-told, all-told, is-activated)
 
     -- before a new message all entries were told
     pub all-answered : (s : N.State) (es : List ClientEntry) (ended : List (Span N)) (sent : List Message) (told : List Told) → ((m : Message) (r : Reply) → InTold (Answered m r) told → IsBelow (N.last s) m.at → ⊥) → ((m : Message) (ms : List Message) → sent ≡ m ∷ ms → m.campaign ≡ k → is_told told m.at ≡ true) → EarlyAt N epoch k ps s es ended sent told → AllDone k es sent × AllTold told es
@@ -305,8 +300,7 @@ module _ (N : NodeRules) (laws : NodeLaws N) where
 
 -- of the entries of the rounds none is refused but possibly the newest
 onward-refused : (ps : List (List ℕ)) (stage : Stage) (why : Refusal) → onward ps stage (Refused why) ≡ Refused_once
-onward-refused ps (At_data ids id counter (b ∷ bs) left) why = refl
-onward-refused ps _ why = refl
+onward-refused ps x why = grind (arith, nat_tests) steps 1500000
 
 refused-stage : (k : ℕ) (ps : List (List ℕ)) (es : List ClientEntry) (y : ClientEntry) (why : Refusal) → Follows k ps es → InEntries y es → y.reply ≡ Refused why → stage_after ps es ≡ Refused_once
 refused-stage k ps [] y why f h e = absurd h

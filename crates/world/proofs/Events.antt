@@ -27,14 +27,10 @@ use Rattle.world.proofs.NodeLemmas.{rolled-keeps, ends_old-keeps, rolled-foreign
 
 -- order of numbers
 pub below-trans : (a b c : CallNo) → IsBelow a b → IsBelow b c → IsBelow a c
-below-trans a b c (inl p) (inl q) = inl (omega arith)
-below-trans a b c (inl p) (inr q) = inl (omega arith)
-below-trans a b c (inr p) (inl q) = inl (omega arith)
-below-trans a b c (inr p) (inr q) = inr (omega arith, omega arith)
+below-trans a b c x y = grind (arith, nat_tests) steps 1500000
 
 pub below-irrefl : (a : CallNo) → IsBelow a a → ⊥
-below-irrefl a (inl p) = omega arith
-below-irrefl a (inr p) = omega arith
+below-irrefl a x = grind (arith, nat_tests) steps 1500000
 
 below-tests : (a b c d : ℕ) → (nat_lt a c || (nat_eq a c && nat_lt b d)) ≡ false → (nat_eq a c && nat_eq b d) ≡ false → (c < a) ⊎ ((c ≡ a) × (d < b))
 below-tests a b c d p q = grind (arith, nat_tests)
@@ -181,8 +177,7 @@ module _ (N : NodeRules) (laws : NodeLaws N) (f : Fold) (n : ℕ) where
   unit-back s passed tag e = grind (arith, nat_tests, laws.unit_none, unit-mine) steps 500000
 
   pub is-cleaning : (x : Status) → is_status x CleaningUp ≡ true → x ≡ CleaningUp
-  is-cleaning CleaningUp e = refl
-  is-cleaning _ e = absurd (cc e)
+  is-cleaning x e = grind (arith, nat_tests) steps 1500000
 
   -- a span under a unit
   still-open : (y : Spans N) (b : Bool) (z : List (Span N)) → (if (y.is_open && b) then record { is_open = false; ended = z } else y).is_open ≡ true → (y.is_open ≡ true) × (b ≡ false)
@@ -232,12 +227,10 @@ module _ (N : NodeRules) (laws : NodeLaws N) (f : Fold) (n : ℕ) where
 
   -- a delivery
   pub done-is : (r : Reply) → is_done r ≡ true → r ≡ Done
-  done-is Done e = refl
-  done-is _ e = absurd (cc e)
+  done-is x e = grind (arith, nat_tests) steps 1500000
 
   pub is-idle : (x : Status) → is_status x Idle ≡ true → x ≡ Idle
-  is-idle Idle e = refl
-  is-idle _ e = absurd (cc e)
+  is-idle x e = grind (arith, nat_tests) steps 1500000
 
   pub and-left : (a b : Bool) → (a && b) ≡ true → (a ≡ true) × (b ≡ true)
   and-left true b e = (refl, e)
@@ -247,16 +240,8 @@ module _ (N : NodeRules) (laws : NodeLaws N) (f : Fold) (n : ℕ) where
   idle-none s i = grind (arith, nat_tests, laws.session_status) steps 500000
 
   pub begins-mine : (k : ℕ) (s : N.State) (at : CallNo) (call : Call) → (has_tag k call && (is_status (N.status s) Idle && is_fresh_done (reached N s at call))) ≡ true → N.mine (delivered N s at call) ≡ Some k
-  begins-mine k s at (ProcessSwPackage id tag) e = go (no_lt at (N.last s)) (no_eq at (N.last s)) (and-left (is_status (N.status s) Idle) (is_fresh_done (reached N s at (ProcessSwPackage id tag))) (and-left (nat_eq tag k) (is_status (N.status s) Idle && is_fresh_done (reached N s at (ProcessSwPackage id tag))) e).1).1
-    where
-      go : (a b : Bool) → is_fresh_done (if a then Stale (N.last s) else (if b then Again (N.kept s) else Fresh (N.judge s (ProcessSwPackage id tag)).1)) ≡ true → N.mine (if a then s else (if b then s else N.keep (N.judge s (ProcessSwPackage id tag)).0 at (ProcessSwPackage id tag) (N.judge s (ProcessSwPackage id tag)).1)) ≡ Some k
-      go false false q =
-          let st : N.status s ≡ Idle = is-idle (N.status s) (and-left (is_status (N.status s) Idle) (is_fresh_done (reached N s at (ProcessSwPackage id tag))) (and-left (nat_eq tag k) (is_status (N.status s) Idle && is_fresh_done (reached N s at (ProcessSwPackage id tag))) e).1).0 in
-          let tg : tag ≡ k = eqb-true tag k (and-left (nat_eq tag k) (is_status (N.status s) Idle && is_fresh_done (reached N s at (ProcessSwPackage id tag))) e).0 in
-          let d = laws.process_idle s id tag (idle-none s st) (done-is (N.judge s (ProcessSwPackage id tag)).1 q) in
-          (laws.keep_session (N.judge s (ProcessSwPackage id tag)).0 at (ProcessSwPackage id tag) (N.judge s (ProcessSwPackage id tag)).1).mine ∙ (d.1 ∙ ap Some tg)
-      go _ _ q = absurd (cc q)
-  begins-mine k s at _ e = absurd (cc e)
+  begins-mine k s at x e =
+      grind (arith, nat_tests, and-left, is_fresh_done, reached, nat_eq, is-idle, eqb-true, laws.process_idle, idle-none, done-is, laws.keep_session) steps 1500000
 
   pub or-true : (a b : Bool) → (a || b) ≡ true → (a ≡ true) ⊎ (b ≡ true)
   or-true true b e = inl refl

@@ -41,22 +41,10 @@ led-keeps g status clean c s = grind (arith, nat_tests) steps 500000
 
 -- what no call touches
 accepted-last : (s : NodeState) (client : ℕ) (c : Call) (v : Verdict) → (accepted s client c v).last ≡ s.last
-accepted-last s client (call.ProcessSwPackage id tag) v = led-keeps (λ t. t.last) (λ t st. refl) (λ t o. refl) (call.ProcessSwPackage id tag) (begin_processing s client id tag)
-accepted-last s client call.Activate v = led-keeps (λ t. t.last) (λ t st. refl) (λ t o. refl) call.Activate s
-accepted-last s client call.Finish v = led-keeps (λ t. t.last) (λ t st. refl) (λ t o. refl) call.Finish s
-accepted-last s client call.Rollback v = led-keeps (λ t. t.last) (λ t st. refl) (λ t o. refl) call.Rollback s
-accepted-last s client call.RevertProcessedSwPackages v = led-keeps (λ t. t.last) (λ t st. refl) (λ t o. refl) call.RevertProcessedSwPackages s
-accepted-last s client (call.Cancel id) v = led-keeps (λ t. t.last) (λ t st. refl) (λ t o. refl) (call.Cancel id) (stop_processing s id)
-accepted-last s client _ v = refl
+accepted-last s client x v = grind (arith, nat_tests, led-keeps) steps 1500000
 
 accepted-ended : (s : NodeState) (client : ℕ) (c : Call) (v : Verdict) → (accepted s client c v).ended ≡ s.ended
-accepted-ended s client (call.ProcessSwPackage id tag) v = led-keeps (λ t. t.ended) (λ t st. refl) (λ t o. refl) (call.ProcessSwPackage id tag) (begin_processing s client id tag)
-accepted-ended s client call.Activate v = led-keeps (λ t. t.ended) (λ t st. refl) (λ t o. refl) call.Activate s
-accepted-ended s client call.Finish v = led-keeps (λ t. t.ended) (λ t st. refl) (λ t o. refl) call.Finish s
-accepted-ended s client call.Rollback v = led-keeps (λ t. t.ended) (λ t st. refl) (λ t o. refl) call.Rollback s
-accepted-ended s client call.RevertProcessedSwPackages v = led-keeps (λ t. t.ended) (λ t st. refl) (λ t o. refl) call.RevertProcessedSwPackages s
-accepted-ended s client (call.Cancel id) v = led-keeps (λ t. t.ended) (λ t st. refl) (λ t o. refl) (call.Cancel id) (stop_processing s id)
-accepted-ended s client _ v = refl
+accepted-ended s client x v = grind (arith, nat_tests, led-keeps) steps 1500000
 
 -- client 0's last number and end stay
 pub foreign_last : (read : Reading) (s : NodeState) (f : ForeignCall) → (last_in (foreign_in read s f) ≡ last_in s) × (kept_in (foreign_in read s f) ≡ kept_in s) × (ended_in (foreign_in read s f) ≡ ended_in s)
@@ -89,14 +77,7 @@ same : (s : NodeState) → SameSession s s
 same s = record { session = refl; status = refl }
 
 foreign-keeps : (s : NodeState) (x : Session) (client : ℕ) (c : Call) (v : Verdict) → s.session ≡ Some x → (x.owner == client) ≡ false → SameSession s (judge s client c v).0
-foreign-keeps s x client call.Sync v e n = same s
-foreign-keeps s x client (call.ProcessSwPackage id tag) v e n = subst (λ t. SameSession s t) (sym (busy-same s client (call.ProcessSwPackage id tag) v (ap (λ o. option_or o (process_refusal s client tag (transfer_of s client id))) (busy s x client (call.ProcessSwPackage id tag) e n)))) (same s)
-foreign-keeps s x client call.Activate v e n = subst (λ t. SameSession s t) (sym (busy-same s client call.Activate v (ap (λ o. option_or o (activate_refusal s)) (busy s x client call.Activate e n)))) (same s)
-foreign-keeps s x client call.Finish v e n = subst (λ t. SameSession s t) (sym (busy-same s client call.Finish v (busy s x client call.Finish e n))) (same s)
-foreign-keeps s x client call.Rollback v e n = subst (λ t. SameSession s t) (sym (busy-same s client call.Rollback v (busy s x client call.Rollback e n))) (same s)
-foreign-keeps s x client call.RevertProcessedSwPackages v e n = subst (λ t. SameSession s t) (sym (busy-same s client call.RevertProcessedSwPackages v (busy s x client call.RevertProcessedSwPackages e n))) (same s)
-foreign-keeps s x client (call.Cancel id) v e n = subst (λ t. SameSession s t) (sym (busy-same s client (call.Cancel id) v (ap (λ o. option_or o (first_refusal (cancel_refusals (header_of (transfer_of s client id))))) (busy s x client (call.Cancel id) e n)))) (same s)
-foreign-keeps s x client y v e n = judged-by s client y v (λ t. SameSession s t) (same s) (record { session = refl; status = refl })
+foreign-keeps s x client z v e n = grind (arith, nat_tests, same, busy-same, busy, judged-by) steps 1500000
 
 pub foreign_session : (read : Reading) (clusters : List (Cluster Bytes)) (s : NodeState) (f : ForeignCall) (tag : ℕ) → mine_in s ≡ Some tag → KeepsSession (real read clusters) s (foreign_in read s f)
 foreign_session read clusters s f tag mine =
@@ -114,23 +95,13 @@ abbrev mine-of : Option Session → Option ℕ
 mine-of o = option_and_then (λ (x : Session). tag_if (x.owner == 0) x.tag) o
 
 mine-changed : (g : Session → Session) → ((x : Session) → (g x).owner ≡ x.owner) → ((x : Session) → (g x).tag ≡ x.tag) → (o : Option Session) → mine-of (option_map g o) ≡ mine-of o
-mine-changed g owner tag None = refl
-mine-changed g owner tag (Some x) = ap (λ (n : ℕ). tag_if (n == 0) (g x).tag) (owner x) ∙ ap (λ (n : ℕ). tag_if (x.owner == 0) n) (tag x)
+mine-changed g owner tag x = grind (arith, nat_tests, tag_if) steps 1500000
 
 led-mine : (c : Call) (s : NodeState) → mine_in (led_by c s) ≡ mine_in s
 led-mine c s = led-keeps mine_in (λ t st. refl) (λ t o. mine-changed (λ x. record x { outcome = Some o }) (λ x. refl) (λ x. refl) t.session) c s
 
 accepted-none : (s : NodeState) (other : ℕ) (c : Call) (v : Verdict) → mine_in s ≡ None → mine_in (accepted s (suc other) c v) ≡ None
-accepted-none s other (call.ProcessSwPackage id tag) v e =
-    grind (arith, nat_tests, led-mine, eqb_tells, tag_if) steps 500000
-accepted-none s other call.Activate v e = led-mine call.Activate s ∙ e
-accepted-none s other call.Finish v e = led-mine call.Finish s ∙ e
-accepted-none s other call.Rollback v e = led-mine call.Rollback s ∙ e
-accepted-none s other call.RevertProcessedSwPackages v e = led-mine call.RevertProcessedSwPackages s ∙ e
-accepted-none s other (call.Cancel id) v e = led-mine (call.Cancel id) (stop_processing s id) ∙ (mine-changed (λ x. record x { processing = None }) (λ x. refl) (λ x. refl) s.session ∙ e)
-accepted-none s other _ v e = e
+accepted-none s other x v e = grind (arith, nat_tests, led-mine, eqb_tells, tag_if, mine-changed) steps 1500000
 
 pub foreign_none : (read : Reading) (s : NodeState) (f : ForeignCall) → mine_in s ≡ None → mine_in (foreign_in read s f) ≡ None
-foreign_none read s f e =
-    foreign-cases read s f (λ t. mine_in t ≡ None) e
-    (judged-by s (suc f.other) f.call (verdict_for read s (suc f.other) f.call) (λ t. mine_in t ≡ None) e (accepted-none s f.other f.call (verdict_for read s (suc f.other) f.call) e))
+foreign_none read s f e = grind (arith, nat_tests, foreign-cases, mine_in, judged-by, accepted-none)

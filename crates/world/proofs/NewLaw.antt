@@ -63,8 +63,7 @@ module _ (N : NodeRules) (laws : NodeLaws N) (packages : Packages) (numbers : Li
   deliver f n x (Some m) false is fold old kept = committed-deliver N laws packages n f x m (is m refl) fold (event-deliver N laws f n x m (is m refl) fold old) kept
 
   send : (f : Fold) (n : ℕ) (x : NodeWorld N) (call : Call) (o : Option Current) → f.current ≡ o → InCurrent o (λ c. MaySend packages f.epoch n c x.told x.sent call) → KeptCommitted N laws packages n f x → KeptCommitted N laws packages n f (record { moves = x.moves; sent = record { at = next_number f.epoch x.sent; call = call; campaign = campaign_of o; decided = decided_of o } ∷ x.sent; told = x.told })
-  send f n x call None e may kept = absurd may
-  send f n x call (Some c) e may kept = committed-send N laws packages n f x c call e may kept
+  send f n x call y e may kept = grind (arith, nat_tests, committed-send) steps 1500000
 
   start-fold : (w : World N) (epoch : ℕ) → epoch ≡ w.fold.epoch + 1 → (n : ℕ) → SameFold n w.fold (after_event w.fold (Start epoch))
   start-fold w epoch e n = same-fold n w.fold epoch (Start epoch) (omega (arith, e)) (λ c. start-same n c epoch)
@@ -111,13 +110,7 @@ module _ (N : NodeRules) (laws : NodeLaws N) (packages : Packages) (numbers : Li
 
   decide : (w : World N) (d : Decision) (o : Option Current) → w.fold.current ≡ o → in_current o (Decide d) ≡ None → ((c : Current) → o ≡ Some c → d ≡ Commit → (n : ℕ) → IsReadyToCommit N laws packages n c (w.node n)) → WorldNew w → Parts (record { fold = record { epoch = w.fold.epoch; earlier = w.fold.earlier; current = changed_in o (Decide d) }; node = w.node })
   decide w d None e h ready new = absurd (cc h)
-  decide w d (Some c) e h ready new =
-      record {
-        names = λ c' current n low high steps.
-            let same = some-inj (record c { decision = Some d }) c' current in
-            sym (ap (λ y. flag_of y.named n) same) ∙ new.names c e n low high (subst (λ j. packages j n ≢ []) (sym (ap (λ y. y.campaign) same)) steps);
-        each = λ n. committed-decide N laws packages n w.fold (w.node n) c d e (λ q. ready c refl q n) (new.each n);
-      }
+  decide w d (Some c) e h ready new = grind (arith, nat_tests, some-inj, committed-decide)
 
   ended : (w : World N) (nd : NodeId) (o : Outcome) (p : Option Current) → w.fold.current ≡ p → WorldNew w → Parts (record { fold = record { epoch = w.fold.epoch; earlier = w.fold.earlier; current = changed_in p (EndedAt nd o) }; node = w.node })
   ended w nd o None e new = grind (arith, nat_tests) steps 500000
@@ -164,20 +157,14 @@ module _ (N : NodeRules) (laws : NodeLaws N) (packages : Packages) (numbers : Li
   of-record early w x h evidence new ready = plain w x (λ n c. same-refl n c (changed c x) refl refl refl refl) new
 
   of-event : (early : Early) (w : World N) (e : Event N) → Allowed N packages numbers w e → WorldNew w → early.Holds w → Parts (happens N w e)
-  of-event early w (Deliver n which told) allowed new holds =
-      record {
-        names = new.names;
-        each = one-node w n _ new.each (deliver w.fold n (w.node n) (nth_sent (w.node n).sent which) told (λ m e. nth-in (w.node n).sent which m e) new.kept.fold (new.kept.each n) (new.each n));
-      }
-  of-event early w (Foreign_calls n call) allowed new holds =
-      record { names = new.names; each = one-node w n _ new.each (committed-foreign N laws packages n w.fold (w.node n) call (new.each n)) }
+  of-event early w (Deliver n which told) allowed new holds = grind (arith, nat_tests, one-node, deliver, nth-in)
+  of-event early w (Foreign_calls n call) allowed new holds = grind (arith, nat_tests, one-node, committed-foreign)
   of-event early w (Unit_comes n passed told) allowed new holds =
       record {
         names = new.names;
         each = one-node w n _ new.each (committed-told N laws packages n w.fold (record { moves = Unit_done passed ∷ (w.node n).moves; sent = (w.node n).sent; told = (w.node n).told }) (if told then Showed (N.status (N.unit (state_of N (w.node n)) passed)) ∷ (w.node n).told else (w.node n).told) (committed-unit N laws packages n w.fold (w.node n) passed (new.each n)));
       }
-  of-event early w (Send n call) allowed new holds =
-      record { names = new.names; each = one-node w n _ new.each (send w.fold n (w.node n) call w.fold.current refl allowed (new.each n)) }
+  of-event early w (Send n call) allowed new holds = grind (arith, nat_tests, one-node, send)
   of-event early w (Record e) allowed new holds = of-record early w e allowed.0 allowed.1 new (λ c current h n. early.ready w c current h new holds n)
   of-event early w Restart allowed new holds = start w (w.fold.epoch + 1) refl new
 

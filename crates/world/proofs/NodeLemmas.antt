@@ -42,9 +42,7 @@ module _ (N : NodeRules) (laws : NodeLaws N) where
 
   -- a unit
   pub cleaned : (s : N.State) (passed : Bool) (tag : ℕ) → N.mine s ≡ Some tag → N.status s ≡ CleaningUp → N.mine (N.unit s passed) ≡ None
-  cleaned s passed tag mine status =
-      let o = laws.cleaning_outcome s tag mine status in
-      (laws.unit_cleaning s passed tag o.0 mine status o.1).0
+  cleaned s passed tag mine status = grind (arith, nat_tests, laws.cleaning_outcome, laws.unit_cleaning)
 
   pub still : (s : N.State) (passed : Bool) (x : Status) → N.status s ≡ x → is_working x ≡ false → N.unit s passed ≡ s
   still s passed x e f = laws.unit_still s passed (ap is_working e ∙ f)
@@ -209,24 +207,20 @@ module _ (N : NodeRules) (laws : NodeLaws N) where
       delivered-cases s at call (λ t. EndsOld N t) o (λ a b. ends_old-keeps _ _ (laws.keep_session (N.judge s call).0 at call (N.judge s call).1) (ends_old-judge s call fin o))
 
   pub none-delivered : (s : N.State) (at : CallNo) (call : Call) → ((id tag : ℕ) → call ≢ ProcessSwPackage id tag) → N.mine s ≡ None → N.mine (delivered N s at call) ≡ None
-  none-delivered s at call not e =
-      delivered-cases s at call (λ t. N.mine t ≡ None) e (λ a b. (laws.keep_session (N.judge s call).0 at call (N.judge s call).1).mine ∙ none-judge s call not e)
+  none-delivered s at call not e = grind (arith, nat_tests, delivered-cases, laws.keep_session, none-judge)
 
   pub some-delivered : (s : N.State) (at : CallNo) (call : Call) (tag : ℕ) → N.mine s ≡ Some tag → N.mine (delivered N s at call) ≡ Some tag
-  some-delivered s at call tag e =
-      delivered-cases s at call (λ t. N.mine t ≡ Some tag) e (λ a b. (laws.keep_session (N.judge s call).0 at call (N.judge s call).1).mine ∙ some-judge s call tag e)
+  some-delivered s at call tag e = grind (arith, nat_tests, delivered-cases, laws.keep_session, some-judge)
 
   -- what a Sync shows
   pub sync-shown : (s : N.State) (call : Call) (x : Shown) → call ≡ Sync → (N.judge s call).1 ≡ Synced x → (x.session ≡ shown_session N s) × ((N.judge s call).0 ≡ s)
   sync-shown s call x e r = grind (arith, nat_tests, shown_session, laws.sync_reply, laws.sync_state) steps 500000
 
   pub shown-none : (owner : ℕ) (status : Status) (mine : Option ℕ) → is_masters (shown_of owner status mine) ≡ false → mine ≡ None
-  shown-none owner status None f = refl
-  shown-none owner status (Some tag) f = absurd (cc f)
+  shown-none owner status x f = grind (arith, nat_tests) steps 1500000
 
   pub shown-status : (owner tag : ℕ) (status : Status) (mine : Option ℕ) → mine ≡ Some tag → session_status (shown_of owner status mine) ≡ status
-  shown-status owner tag status None e = absurd (cc e)
-  shown-status owner tag status (Some t) e = refl
+  shown-status owner tag status x e = grind (arith, nat_tests) steps 1500000
 
   -- what a kept Sync says: of a call just judged, after a foreign call and after a unit
   pub kept-fresh : (s : N.State) (at : CallNo) (call : Call) → KeptHolds N (N.keep (N.judge s call).0 at call (N.judge s call).1)

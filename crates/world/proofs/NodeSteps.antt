@@ -50,13 +50,11 @@ module _ (read : Reading) (o : NodeState) (es : List Entry) where
 
   -- the spans after a call of client 0
   pub entered-spans : (k : ℕ) (at : CallNo) (c : Call) (r : Reached) → spans read k o (entered es 0 at c r) ≡ same (spans read k o es) (has_tag k c && (is_status now.status Idle && is_fresh_done r))
-  entered-spans k at c (Executed reply) = spans-append read k o es _ _
-  entered-spans k at c _ = sym (ap (same (spans read k o es)) (and-false (has_tag k c) (is_status now.status Idle)) ∙ unchanged (spans read k o es))
+  entered-spans k at c x = grind (arith, nat_tests, spans-append, and-false, unchanged) steps 1500000
 
   -- another client's calls begin and end none
   pub foreign-spans : (k other : ℕ) (at : CallNo) (c : Call) (r : Reached) → spans read k o (entered es (suc other) at c r) ≡ spans read k o es
-  foreign-spans k other at c (Executed reply) = grind (arith, nat_tests, spans-append, unchanged) steps 500000
-  foreign-spans k other at c _ = refl
+  foreign-spans k other at c x = grind (arith, nat_tests, spans-append, unchanged) steps 1500000
 
   abbrev entry : NodeState → NodeState
   entry t = with_entry (UnitLine t.status) t
@@ -82,5 +80,4 @@ module _ (read : Reading) (o : NodeState) (es : List Entry) where
   -- the spans after a unit
   pub worked-spans : (k : ℕ) (passed : Bool) → IsConsistent now
       → spans read k o (worked_on es passed (unit now passed)) ≡ (if (spans read k o es).is_open && is_status now.status CleaningUp then record { is_open = false; ended = span_of now (unit_in now passed) ∷ (spans read k o es).ended } else spans read k o es)
-  worked-spans k passed v =
-      grind (arith, nat_tests, unit_in, cleans, and-no, spans-append, joined, unchanged) steps 500000
+  worked-spans k passed v = grind (arith, nat_tests, unit_in, cleans, and-no, spans-append, joined, unchanged)

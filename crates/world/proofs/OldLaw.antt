@@ -80,19 +80,7 @@ module _ (N : NodeRules) (laws : NodeLaws N) (packages : Packages) (numbers : Li
 
   -- the reply of a delivery is the one that the node keeps then
   pub reply-facts : (s : N.State) (m : Message) (r : Reply) → (reached N s m.at m.call ≡ Again r) ⊎ (reached N s m.at m.call ≡ Fresh r) → (N.kept (delivered N s m.at m.call) ≡ r) × (Executable N (delivered N s m.at m.call) m → ⊥)
-  reply-facts s m r h = go (no_lt m.at (N.last s)) (no_eq m.at (N.last s)) refl refl h
-    where
-      go : (a b : Bool) → no_lt m.at (N.last s) ≡ a → no_eq m.at (N.last s) ≡ b → ((if a then Stale (N.last s) else (if b then Again (N.kept s) else Fresh (N.judge s m.call).1)) ≡ Again r) ⊎ ((if a then Stale (N.last s) else (if b then Again (N.kept s) else Fresh (N.judge s m.call).1)) ≡ Fresh r) → (N.kept (if a then s else (if b then s else N.keep (N.judge s m.call).0 m.at m.call (N.judge s m.call).1)) ≡ r) × (IsBelow (N.last (if a then s else (if b then s else N.keep (N.judge s m.call).0 m.at m.call (N.judge s m.call).1))) m.at → ⊥)
-      go true b p q h' = absurd (elim h' [ inl e ↦ (cc e) | inr e ↦ (cc e) ])
-      go false true p q h' =
-          let same = eq-tests m.at.epoch m.at.number (N.last s).epoch (N.last s).number p q in (
-            elim h' [ inl e ↦ (let g : N.kept s ≡ r = cc e in g) | inr e ↦ absurd (cc e) ],
-            λ exec. elim exec [ inl z ↦ (omega (arith, same.0)) | inr z ↦ (omega (arith, same.1)) ],
-          )
-      go false false p q h' = (
-        elim h' [ inl e ↦ absurd (cc e) | inr e ↦ (let g : (N.judge s m.call).1 ≡ r = cc e in laws.keep_kept (N.judge s m.call).0 m.at m.call (N.judge s m.call).1 ∙ g) ],
-        λ exec. below-irrefl m.at (subst (λ l. IsBelow l m.at) (laws.keep_last (N.judge s m.call).0 m.at m.call (N.judge s m.call).1) exec),
-      )
+  reply-facts s m r h = grind (arith, nat_tests, eq-tests, laws.keep_kept, below-irrefl, laws.keep_last)
 
   deliver-told : (f : Fold) (n : ℕ) (x : NodeWorld N) (m : Message) → InSent m x.sent → (a : Reached) → ((r : Reply) → (a ≡ Again r) ⊎ (a ≡ Fresh r) → (N.kept (state_of N x) ≡ r) × (Executable N (state_of N x) m → ⊥)) → KeptOld N f n x → KeptOld N f n (record { moves = x.moves; sent = x.sent; told = answer_of m a x.told })
   deliver-told f n x m sent (Stale last) facts kept = kept
@@ -111,13 +99,11 @@ module _ (N : NodeRules) (laws : NodeLaws N) (packages : Packages) (numbers : Li
   kept-unit-told f n x passed false fold kept = event-unit N laws f n x passed fold kept
 
   pub kept-send : (f : Fold) (n : ℕ) (x : NodeWorld N) (call : Call) (o : Option Current) → f.current ≡ o → InCurrent o (λ c. MaySend packages f.epoch n c x.told x.sent call) → KeptFold f → KeptOld N f n x → KeptOld N f n (record { moves = x.moves; sent = record { at = next_number f.epoch x.sent; call = call; campaign = campaign_of o; decided = decided_of o } ∷ x.sent; told = x.told })
-  kept-send f n x call None e may fold kept = absurd may
-  kept-send f n x call (Some c) e may fold kept = event-send N laws packages f n x c call e may fold kept
+  kept-send f n x call y e may fold kept = grind (arith, nat_tests, event-send) steps 1500000
 
   -- the records
   pub meets-in : (o : Option Current) (e : MasterEvent) → in_current o e ≡ None → (c : Current) × (o ≡ Some c) × (meets c e ≡ true)
-  meets-in None e h = absurd (cc h)
-  meets-in (Some c) e h = (c, refl, unless-true (meets c e) h)
+  meets-in x e h = grind (arith, nat_tests, unless-true) steps 1500000
 
   kept-start : (w : World N) (epoch : ℕ) → epoch ≡ w.fold.epoch + 1 → WorldKept w → WorldKept (emptied N w (after_event w.fold (Start epoch)))
   kept-start w epoch e kept =

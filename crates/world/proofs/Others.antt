@@ -50,8 +50,7 @@ numbers-above a (b ∷ ns) r =
     more lt (m ∷ ms) h = (let z : b < m = h.0 in omega arith, more lt ms h.1)
 
 rise-tail : (a : ℕ) (ns : List ℕ) → numbers_rise (a ∷ ns) ≡ true → numbers_rise ns ≡ true
-rise-tail a [] r = refl
-rise-tail a (b ∷ ns) r = (and-true (nat_lt a b) (numbers_rise (b ∷ ns)) r).1
+rise-tail a x r = grind (arith, nat_tests, and-true) steps 1500000
 
 of-map : (P : ℕ → Type 0) (ts : List Transfer) → AllByRecursion P (map (λ (t : Transfer). t.header.id) ts) → AllByRecursion (λ (t : Transfer). P t.header.id) ts
 of-map P [] h = tt

@@ -24,8 +24,7 @@ index-with _ _ _ v = inr refl
 
 -- another node's part is as before
 pub part-other : {A : Type 0} (xs : List (Option A)) (m n : ℕ) (v : Option A) → n ≢ m → part_of None (with_part xs m v) n ≡ part_of None xs n
-part-other xs (suc m) (suc n) v d = elim (index-with xs m n v) [ inl e ↦ absurd (d (ap suc e)) | inr e ↦ e ]
-part-other xs _ _ v d = refl
+part-other xs x y v d = grind (arith, nat_tests, index-with) steps 1500000
 
 -- what is there was there, or came now
 pub part-with : {A : Type 0} (xs : List (Option A)) (m n : ℕ) (v : Option A) (y : A) → part_of None (with_part xs m v) n ≡ Some y → (part_of None xs n ≡ Some y) ⊎ ((n ≡ m) × (v ≡ Some y))

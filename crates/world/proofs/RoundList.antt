@@ -56,12 +56,10 @@ module _ (k : ℕ) (ps : List (List ℕ)) where
   next-rest ids (p ∷ left) later some = refl
 
   processed-next : (ids : List ℕ) (taken : ℕ) → processed k ids ≡ rest_of k ps (next_processed ids taken) []
-  processed-next [] taken = refl
-  processed-next (id ∷ ids) taken = refl
+  processed-next x taken = grind (arith, nat_tests) steps 1500000
 
   processed-later : (ids : List ℕ) (taken : ℕ) (later : List ℕ) → processed k ids ≡ rest_of k ps (next_processed ids taken) later
-  processed-later [] taken later = refl
-  processed-later (id ∷ ids) taken later = refl
+  processed-later x taken later = grind (arith, nat_tests) steps 1500000
 
   -- a fitting reply takes the first call away
   one-on : (stage : Stage) (r : Reply) (rs : List Reply) → ps ≢ [] → Fits stage r → (call : Call) × (call_at k stage ≡ Some call) × (rest_of k ps stage (ids_of (r ∷ rs)) ≡ call ∷ rest_of k ps (onward ps stage r) (ids_of rs))
@@ -104,13 +102,10 @@ module _ (k : ℕ) (ps : List (List ℕ)) where
   IsReached _ = Unit {0}
 
   reached-next : (ids : List ℕ) (left : List (List ℕ)) → (left ≡ [] → ids ≢ []) → IsReached (next_package ids left)
-  reached-next [] [] some = absurd (some refl refl)
-  reached-next (id ∷ ids) [] some = tt
-  reached-next ids (p ∷ left) some = tt
+  reached-next x y some = grind (arith, nat_tests) steps 1500000
 
   reached-processed : (ids : List ℕ) (taken : ℕ) → IsReached (next_processed ids taken)
-  reached-processed [] taken = tt
-  reached-processed (id ∷ ids) taken = tt
+  reached-processed x taken = grind (arith, nat_tests) steps 1500000
 
   reached-on : (stage : Stage) (r : Reply) → ps ≢ [] → Fits stage r → IsReached (onward ps stage r)
   reached-on At_sync (Synced x) some h = reached-next [] ps (λ e. absurd (some e))
@@ -127,16 +122,7 @@ module _ (k : ℕ) (ps : List (List ℕ)) where
 
   -- with no further reply the first call of the rest comes
   first-is : (stage : Stage) → IsReached stage → call_at k stage ≡ nth_call (rest_of k ps stage []) 0
-  first-is At_sync h = refl
-  first-is (At_start ids []) h = absurd h
-  first-is (At_start ids (p ∷ left)) h = refl
-  first-is (At_data ids id counter [] left) h = refl
-  first-is (At_data ids id counter (b ∷ bs) left) h = refl
-  first-is (At_process [] taken) h = absurd h
-  first-is (At_process (id ∷ ids) taken) h = refl
-  first-is At_activate h = refl
-  first-is Over h = refl
-  first-is Refused_once h = absurd h
+  first-is x h = grind (arith, nat_tests) steps 1500000
 
   from-stage : (stage : Stage) (rs : List Reply) → ps ≢ [] → IsReached stage → AllFit ps stage rs → call_at k (stage_of ps stage rs) ≡ nth_call (rest_of k ps stage (ids_of rs)) (length rs)
   from-stage stage [] some h fit = first-is stage h

@@ -27,13 +27,7 @@ abbrev pub IsRoundCall : ℕ → Call → Type 0
 IsRoundCall k call = (call ≢ Finish) × ((id tag : ℕ) → call ≡ ProcessSwPackage id tag → tag ≡ k)
 
 pub round-calls : (k : ℕ) (stage : Stage) (call : Call) → call_at k stage ≡ Some call → IsRoundCall k call
-round-calls k At_sync call e = let q : Sync ≡ call = cc e in (λ z. cc, λ i t z. cc)
-round-calls k (At_start ids (p ∷ ps)) call e = let q : TransferStart (length p) ≡ call = cc e in (λ z. cc, λ i t z. cc)
-round-calls k (At_data ids id counter [] left) call e = let q : TransferExit id ≡ call = cc e in (λ z. cc, λ i t z. cc)
-round-calls k (At_data ids id counter (b ∷ bs) left) call e = let q : TransferData id counter (take 4096 (b ∷ bs)) ≡ call = cc e in (λ z. cc, λ i t z. cc)
-round-calls k (At_process (id ∷ ids) taken) call e = grind (arith, nat_tests) steps 500000
-round-calls k At_activate call e = let q : Activate ≡ call = cc e in (λ z. cc, λ i t z. cc)
-round-calls k _ call e = absurd (cc e)
+round-calls k x call e = grind (arith, nat_tests, take) steps 1500000
 
 -- the next number is above all that were sent
 pub next-above : (epoch : ℕ) (sent : List Message) → Falling sent → ((m : Message) → InSent m sent → m.at.epoch ≤ epoch) → (older : Message) → InSent older sent → IsBelow older.at (next_number epoch sent)
@@ -51,30 +45,24 @@ next-above epoch (m ∷ ms) falling epochs older h =
             elim (eqb_tells m.at.epoch epoch) [ inl h2 ↦ absurd (cc (h2.0, q)) | inr h2 ↦ inl (let ne : m.at.epoch ≢ epoch = h2.1 in omega arith) ]
 
 pub next-epoch : (epoch : ℕ) (sent : List Message) → (next_number epoch sent).epoch ≡ epoch
-next-epoch epoch [] = refl
-next-epoch epoch (m ∷ ms) = refl
+next-epoch epoch x = grind (arith, nat_tests) steps 1500000
 
 none-of : (o : Option Decision) → is_some o ≡ false → o ≡ None
-none-of None e = refl
-none-of (Some d) e = absurd (cc e)
+none-of x e = grind (arith, nat_tests) steps 1500000
 
 -- what may be sent after the decision
 late-process : (d : Decision) (o : Option Status) (shown : Option _) (id tag : ℕ) → (is_sync (ProcessSwPackage id tag) || (end_call_at d o (ProcessSwPackage id tag) || delete_at shown (ProcessSwPackage id tag))) ≡ true → ⊥
-late-process (Abort cause) (Some s) shown id tag e = cc e
-late-process _ None shown id tag e = cc e
-late-process Commit (Some s) shown id tag e = cc e
+late-process x y shown id tag e = grind (arith, nat_tests) steps 1500000
 
 is-rolled : (x : Status) → is_status x RolledBack ≡ true → x ≡ RolledBack
-is-rolled RolledBack e = refl
-is-rolled _ e = absurd (cc e)
+is-rolled x e = grind (arith, nat_tests) steps 1500000
 
 or-false : (b : Bool) → (b || false) ≡ true → b ≡ true
 or-false true e = refl
 or-false false e = e
 
 late-finish : (cause : Cause) (o : Option Status) (shown : Option _) → (is_sync Finish || (end_call_at (Abort cause) o Finish || delete_at shown Finish)) ≡ true → o ≡ Some RolledBack
-late-finish cause None shown e = absurd (cc e)
-late-finish cause (Some s) shown e = ap Some (is-rolled s (or-false (is_status s RolledBack) e))
+late-finish cause x shown e = grind (arith, nat_tests, is-rolled, or-false) steps 1500000
 
 module _ (N : NodeRules) (laws : NodeLaws N) (packages : Packages) (f : Fold) (n : ℕ) where
   pub event-send : (x : NodeWorld N) (c : Current) (call : Call) → f.current ≡ Some c → MaySend packages f.epoch n c x.told x.sent call → KeptFold f → KeptOld N f n x → KeptOld N f n (record { moves = x.moves; sent = record { at = next_number f.epoch x.sent; call = call; campaign = c.campaign; decided = is_some c.decision } ∷ x.sent; told = x.told })

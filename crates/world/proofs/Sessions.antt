@@ -36,12 +36,7 @@ pub mine-some : (s : NodeState) (tag : ℕ) → mine_in s ≡ Some tag → (x : 
 mine-some s tag e = grind (arith, nat_tests, tag_if) steps 500000
 
 pub session-there : (s : NodeState) → IsConsistent s → s.status ≢ Idle → (x : Session) × (s.session ≡ Some x)
-session-there s v n = go s.session s.status refl refl v.session
-  where
-    go : (o : Option Session) (st : Status) → s.session ≡ o → s.status ≡ st → SessionIsDue st o → (x : Session) × (s.session ≡ Some x)
-    go (Some x) st p q h = (x, p)
-    go None Idle p q h = absurd (n q)
-    go None _ p q h = absurd h
+session-there s v n = grind (arith, nat_tests)
 
 pub session_status : (s : NodeState) (tag : ℕ) → IsConsistent s → mine_in s ≡ Some tag → s.status ≢ Idle
 session_status s tag v e q = grind (arith, nat_tests, mine-some) steps 500000
@@ -56,9 +51,7 @@ not-busy s x e f = grind (arith, nat_tests, tag_if, not-false) steps 500000
 
 -- what the first two refusals leave
 pub let-through : (s : NodeState) (c : Call) → first_refusal (session_refusals s 0 c) ≡ None → (some_passes (λ (y : Session). not (y.owner == 0)) s.session ≡ false) × (is_none (status_table s.status c) ≡ false)
-let-through s c e =
-    let a = not-refused (some_passes (λ (y : Session). not (y.owner == 0)) s.session, ServiceBusy) ((is_none (status_table s.status c), OperationNotPermitted) ∷ []) e in
-    (a.0, (not-refused (is_none (status_table s.status c), OperationNotPermitted) [] a.1).0)
+let-through s c e = grind (arith, nat_tests, not-refused)
 
 pub outcome-due : (s : NodeState) (x : Session) → IsConsistent s → s.session ≡ Some x → is_some x.outcome ≡ has_status CleaningUp s
 outcome-due s x v e = (subst (λ o. IfSome o (λ (y : Session). LeavesOneToVerify y s.status × (is_some y.outcome ≡ has_status CleaningUp s))) e v.verdicts).1
@@ -113,12 +106,10 @@ module _ (read : Reading) (clusters : List (Cluster Bytes)) where
   activate s tag v e d st = grind (arith, nat_tests, done-accepted, to-status, move-to, not-cleaning) steps 500000
 
   pub rollback_verifying : (s : NodeState) (tag : ℕ) → IsConsistent s → mine_in s ≡ Some tag → (judged_in read s Rollback).1 ≡ Done → s.status ≡ Verifying → MovesTo s (judged_in read s Rollback).0 tag RollingBack None
-  rollback_verifying s tag v e d st =
-      grind (arith, nat_tests, done-accepted, to-status, move-to, not-cleaning) steps 500000
+  rollback_verifying s tag v e d st = grind (arith, nat_tests, done-accepted, to-status, move-to, not-cleaning)
 
   pub rollback_activated : (s : NodeState) (tag : ℕ) → IsConsistent s → mine_in s ≡ Some tag → (judged_in read s Rollback).1 ≡ Done → s.status ≡ Activated → MovesTo s (judged_in read s Rollback).0 tag RollingBack None
-  rollback_activated s tag v e d st =
-      grind (arith, nat_tests, done-accepted, to-status, move-to, not-cleaning) steps 500000
+  rollback_activated s tag v e d st = grind (arith, nat_tests, done-accepted, to-status, move-to, not-cleaning)
 
   pub finish_new : (s : NodeState) (tag : ℕ) → mine_in s ≡ Some tag → (judged_in read s Finish).1 ≡ Done → s.status ≡ Activated → MovesTo s (judged_in read s Finish).0 tag CleaningUp (Some New)
   finish_new s tag e d st = grind (arith, nat_tests, done-accepted, to-clean, move-clean) steps 500000
@@ -134,8 +125,7 @@ module _ (read : Reading) (clusters : List (Cluster Bytes)) where
   Stopped s t = (tag : ℕ) × (mine_in s ≡ Some tag) × (s.status ≡ Processing) × (mine_in t ≡ Some tag) × ((t.status ≡ Ready) ⊎ ((t.status ≡ CleaningUp) × (outcome_in t ≡ Some Old)))
 
   cancel-from : (st : Status) (id : ℕ) → is_none (status_table st (call.Cancel id)) ≡ false → st ≡ Processing
-  cancel-from Processing id q = refl
-  cancel-from _ id q = absurd (cc)
+  cancel-from x id q = grind (arith, nat_tests) steps 1500000
 
   pub cancel : (s : NodeState) (id : ℕ) → IsConsistent s → ((why : Refusal) × ((judged_in read s (call.Cancel id)).1 ≡ reply.Refused why)) ⊎ Stopped s (judged_in read s (call.Cancel id)).0
   cancel s id v = elim (done-or-refused reply.Done (refusal s 0 (call.Cancel id) (verdict_for read s 0 (call.Cancel id))) refl) [ inr r ↦ inl r | inl d ↦ inr (done d) ]
@@ -170,9 +160,7 @@ module _ (read : Reading) (clusters : List (Cluster Bytes)) where
   process-through s id tag d = grind (arith, nat_tests, or-none, done-none, let-through, not-refused) steps 500000
 
   process-from : (st : Status) (id tag : ℕ) → is_none (status_table st (call.ProcessSwPackage id tag)) ≡ false → (st ≡ Idle) ⊎ (st ≡ Ready)
-  process-from Idle id tag q = inl refl
-  process-from Ready id tag q = inr refl
-  process-from _ id tag q = absurd (cc q)
+  process-from x id tag q = grind (arith, nat_tests) steps 1500000
 
   -- the state after an accepted one
   process-led : (s : NodeState) (id tag : ℕ) → (s.status ≡ Idle) ⊎ (s.status ≡ Ready) → (judged_in read s (ProcessSwPackage id tag)).1 ≡ Done → (judged_in read s (ProcessSwPackage id tag)).0 ≡ record (begin_processing s 0 id tag) { status = Processing }
@@ -187,26 +175,4 @@ module _ (read : Reading) (clusters : List (Cluster Bytes)) where
 
   pub process_ready : (s : NodeState) (id tag old : ℕ) → IsConsistent s → mine_in s ≡ Some old → (judged_in read s (ProcessSwPackage id tag)).1 ≡ Done → (s.status ≡ Ready) × (tag ≡ old) × (mine_in (judged_in read s (ProcessSwPackage id tag)).0 ≡ Some old) × ((judged_in read s (ProcessSwPackage id tag)).0.status ≡ Processing) × (planned_in (judged_in read s (ProcessSwPackage id tag)).0 ≡ planned_in s) × (id_in_processing (judged_in read s (ProcessSwPackage id tag)).0 ≡ Some id)
   process_ready s id tag old v mine d =
-      let l = process-through s id tag d in
-      let from = process-from s.status id tag l.1 in
-      let ready : s.status ≡ Ready = elim from [
-        | inl e ↦ absurd (session_status s old v mine e)
-        | inr e ↦ e
-      ] in
-      let e = process-led s id tag from d in
-      let m = mine-some s old mine in
-      let x = m.0 in
-      let session : (judged_in read s (ProcessSwPackage id tag)).0.session ≡ Some (record x { processing = Some id; units_done = 0 }) =
-      ap (λ t. t.session) e ∙ ap (λ y. Some (record (unwrap_or y (new_session s 0 tag)) { processing = Some id; units_done = 0 })) m.1 in
-      let same_tag : not (x.tag == tag) ≡ false = subst (λ o. some_passes (λ (y : Session). not (y.tag == tag)) o ≡ false) m.1 (right-false (if 0 == 0 then tag == 0 else not (tag == 0)) (some_passes (λ (y : Session). not (y.tag == tag)) s.session) l.2) in (
-        ready,
-        sym (eqb-true x.tag tag (not-false (x.tag == tag) same_tag)) ∙ m.3,
-        ap (λ y. option_and_then (λ (z : Session). tag_if (z.owner == 0) z.tag) y) session ∙ (ap (λ b. tag_if b x.tag) m.2 ∙ ap Some m.3),
-        ap (λ t. t.status) e,
-        ap (λ y. map (λ (change : Change Bytes). change.part) (option_map_or (λ (z : Session). z.changes) y [])) session ∙ sym (ap (λ y. map (λ (change : Change Bytes). change.part) (option_map_or (λ (z : Session). z.changes) y [])) m.1),
-        ap (λ y. option_and_then (λ (z : Session). z.processing) y) session,
-      )
-    where
-      right-false : (a b : Bool) → (a || b) ≡ false → b ≡ false
-      right-false true b q = absurd (cc q)
-      right-false false b q = q
+      grind (arith, nat_tests, process-through, process-from, session_status, process-led, mine-some, judged_in, eqb-true, not-false, tag_if)

@@ -66,26 +66,8 @@ module _ (read : Reading) (keeps : KeepsNode read []) where
 
   -- a message of the master arrives
   pub same-deliver : (x : NodeWorld) (y : engine.NodeWorld (fit read [] keeps)) (m : Message) (told : Bool) → 0 < m.at.epoch → SameNode x y → SameNode (delivered read x (Some m) told) (engine.deliver_to (fit read [] keeps) y (Some m) told)
-  same-deliver x y m told low h = record {
-    state = delivered-state X m.at m.call low ∙ (ap (λ z. (step z 0 m.at m.call (verdict_for read z 0 m.call)).0) h.state ∙ sym (entered-state read x.opening x.history 0 m.at m.call));
-    sent = h.sent;
-    told = ap (λ r. if told then answer_of m r y.told else y.told) same ∙ ap (λ ts. if told then answer_of m (reached read (state_of read x) 0 m.at m.call) ts else ts) h.told;
-    spans_told = λ k.
-        ap (grow k (told_spans (law.spans N k y.moves)) X.state) same
-        ∙ (ap (λ z. grow k (told_spans (law.spans N k y.moves)) z (reached read (state_of read x) 0 m.at m.call)) h.state
-        ∙ (ap (λ z. grow k z (state_of read x) (reached read (state_of read x) 0 m.at m.call)) (h.spans_told k)
-        ∙ sym (entered-spans read x.opening x.history k m.at m.call (reached read (state_of read x) 0 m.at m.call))));
-    epochs = h.epochs;
-  }
-    where
-      X : FitState read
-      X = engine.state_of (fit read [] keeps) y
-
-      grow : ℕ → Spans → NodeState → Reached → Spans
-      grow k z t r = record { is_open = z.is_open || (has_tag k m.call && (is_status t.status Idle && law.is_fresh_done r)); ended = z.ended }
-
-      same : rules.reached (fit read [] keeps) (engine.state_of (fit read [] keeps) y) m.at m.call ≡ reached read (state_of read x) 0 m.at m.call
-      same = delivered-reached (engine.state_of (fit read [] keeps) y) m.at m.call low ∙ ap (λ z. reached read z 0 m.at m.call) h.state
+  same-deliver x y m told low h =
+      grind (arith, nat_tests, delivered-state, entered-state, entered-spans, fit, delivered-reached)
 
   pub same-foreign : (x : NodeWorld) (y : engine.NodeWorld (fit read [] keeps)) (f : ForeignCall) → SameNode x y
       → SameNode (called read x (suc f.other) f.at f.call) (record { moves = engine.Foreign (Calls f) ∷ y.moves; sent = y.sent; told = y.told })
@@ -93,34 +75,5 @@ module _ (read : Reading) (keeps : KeepsNode read []) where
 
   pub same-work : (x : NodeWorld) (y : engine.NodeWorld (fit read [] keeps)) (passed told : Bool) → SameNode x y
       → SameNode (worked read x passed told) (record { moves = engine.Unit_done passed ∷ y.moves; sent = y.sent; told = if told then Showed (rules.NodeRules.status N (rules.NodeRules.unit N (engine.state_of (fit read [] keeps) y) passed)) ∷ y.told else y.told })
-  same-work x y passed told h = record {
-    state = after ∙ sym (worked-state read x.opening x.history passed);
-    sent = h.sent;
-    told = ap (λ st. if told then Showed st ∷ y.told else y.told) (ap (λ z. z.status) after ∙ sym (worked-status read x.opening x.history passed)) ∙ ap (λ ts. if told then Showed (shown_by (state_of read x) (unit (state_of read x) passed)) ∷ ts else ts) h.told;
-    spans_told = λ k.
-        pushed (law.spans N k y.moves)
-        ∙ (ap (closing X.state (told_spans (law.spans N k y.moves))) (unit-is read [] keeps X passed)
-        ∙ (ap (λ z. closing z (told_spans (law.spans N k y.moves)) (unit_in z passed)) h.state
-        ∙ (ap (λ z. closing (state_of read x) z (unit_in (state_of read x) passed)) (h.spans_told k)
-        ∙ sym (worked-spans read x.opening x.history k passed (subst IsConsistent h.state X.fit.consistent)))));
-    epochs = h.epochs;
-  }
-    where
-      X : FitState read
-      X = engine.state_of (fit read [] keeps) y
-
-      after : (rules.NodeRules.unit (fit read [] keeps) (engine.state_of (fit read [] keeps) y) passed).state ≡ unit_in (state_of read x) passed
-      after = unit-is read [] keeps (engine.state_of (fit read [] keeps) y) passed ∙ ap (λ z. unit_in z passed) h.state
-
-      closing : NodeState → Spans → NodeState → Spans
-      closing z t u = if t.is_open && is_status z.status CleaningUp then record { is_open = false; ended = span_of z u ∷ t.ended } else t
-
-      pushed : (t : law.Spans (fit read [] keeps)) → told_spans (law.span_step (fit read [] keeps) 0 (engine.state_of (fit read [] keeps) y) (engine.Unit_done passed) t) ≡ closing (engine.state_of (fit read [] keeps) y).state (told_spans t) (rules.NodeRules.unit (fit read [] keeps) (engine.state_of (fit read [] keeps) y) passed).state
-      pushed t = go (t.is_open && is_status (engine.state_of (fit read [] keeps) y).state.status CleaningUp)
-        where
-          new : law.Spans (fit read [] keeps)
-          new = record { is_open = false; ended = record { outcome = rules.NodeRules.outcome (fit read [] keeps) (engine.state_of (fit read [] keeps) y); before = engine.state_of (fit read [] keeps) y; left = rules.NodeRules.unit (fit read [] keeps) (engine.state_of (fit read [] keeps) y) passed } ∷ t.ended }
-
-          go : (b : Bool) → told_spans (if b then new else t) ≡ (if b then told_spans new else told_spans t)
-          go true = refl
-          go false = refl
+  same-work x y passed told h =
+      grind (arith, nat_tests, worked-state, worked-status, unit-is, unit_in, worked-spans, fit)

@@ -58,13 +58,11 @@ changed-client id f k t = grind (arith, nat_tests) steps 500000
 
 ids-changed : (c id : ℕ) (f : Transfer → Transfer) → KeepsNames f → (ts : List Transfer) → map (λ (t : Transfer). t.header.id) (filter (λ (t : Transfer). t.header.client == c) (map (changed id f) ts)) ≡ map (λ (t : Transfer). t.header.id) (filter (λ (t : Transfer). t.header.client == c) ts)
 ids-changed c id f k [] = refl
-ids-changed c id f k (t ∷ ts) =
-    grind (arith, nat_tests, changed-client, changed-id, ids-changed c id f k ts) steps 500000
+ids-changed c id f k (t ∷ ts) = grind (arith, nat_tests, changed-client, changed-id, ids-changed c id f k ts)
 
 found-changed : (c j id : ℕ) (f : Transfer → Transfer) → KeepsNames f → (ts : List Transfer) → find (λ (t : Transfer). is_of c j t.header) (map (changed id f) ts) ≡ option_map (changed id f) (find (λ (t : Transfer). is_of c j t.header) ts)
 found-changed c j id f k [] = refl
-found-changed c j id f k (t ∷ ts) =
-    grind (arith, nat_tests, changed-id, changed-client, found-changed c j id f k ts) steps 500000
+found-changed c j id f k (t ∷ ts) = grind (arith, nat_tests, changed-id, changed-client, found-changed c j id f k ts)
 
 -- what is found passes
 pub find-passes : (p : Transfer → Bool) (ts : List Transfer) (t : Transfer) → find p ts ≡ Some t → p t ≡ true
@@ -88,13 +86,11 @@ data-rest found counter size =
 
 -- the bytes of a changed transfer
 bytes-changed : (id : ℕ) (f : Transfer → Transfer) → ((t : Transfer) → (f t).bytes ≡ t.bytes) → (o : Option Transfer) → option_map_or (λ (t : Transfer). t.bytes) (option_map (changed id f) o) [] ≡ option_map_or (λ (t : Transfer). t.bytes) o []
-bytes-changed id f k None = refl
-bytes-changed id f k (Some t) = grind (arith, nat_tests) steps 500000
+bytes-changed id f k x = grind (arith, nat_tests) steps 1500000
 
 -- where no transfer of the id is changed
 bytes-other : (id j : ℕ) (f : Transfer → Transfer) (c : ℕ) (ts : List Transfer) → j ≢ id → (o : Option Transfer) → find (λ (t : Transfer). is_of c j t.header) ts ≡ o → option_map_or (λ (t : Transfer). t.bytes) (option_map (changed id f) o) [] ≡ option_map_or (λ (t : Transfer). t.bytes) o []
-bytes-other id j f c ts n None e = refl
-bytes-other id j f c ts n (Some t) e = grind (arith, nat_tests, eqb-true, and-true, find-passes) steps 500000
+bytes-other id j f c ts n x e = grind (arith, nat_tests, eqb-true, and-true, find-passes) steps 1500000
 
 module _ (read : Reading) (clusters : List (Cluster Bytes)) where
   pub keeps-all : (s t : NodeState) → t.transfers ≡ s.transfers → KeepsTransfers (real read clusters) s t
@@ -129,18 +125,7 @@ module _ (read : Reading) (clusters : List (Cluster Bytes)) where
 
   pub data_received : (s : NodeState) (id counter : ℕ) (bytes : List ℕ) → (judged_in read s (TransferData id counter bytes)).1 ≡ Done → (received_in (judged_in read s (TransferData id counter bytes)).0 id ≡ received_in s id ++ bytes) × ((other : ℕ) → other ≢ id → received_in (judged_in read s (TransferData id counter bytes)).0 other ≡ received_in s other)
   data_received s id counter bytes d =
-      let e = done-accepted s 0 (call.TransferData id counter bytes) (verdict_for read s 0 (call.TransferData id counter bytes)) d in
-      let there = (not-refused (is_none (header_of (transfer_of s 0 id)), InvalidTransferId) (data-rest (header_of (transfer_of s 0 id)) counter (length bytes)) (done-none reply.Done (refusal s 0 (call.TransferData id counter bytes) (verdict_for read s 0 (call.TransferData id counter bytes))) d)).0 in
-      let found : (j : ℕ) → transfer_of (with_block s id bytes) 0 j ≡ option_map (changed id (λ t. record t { header = grown (length bytes) t.header; bytes = t.bytes ++ bytes })) (transfer_of s 0 j) = λ j. found-changed 0 j id (λ t. record t { header = grown (length bytes) t.header; bytes = t.bytes ++ bytes }) (block-names bytes) s.transfers in (
-        ap (λ t. received_in t id) e ∙ (ap (λ o. option_map_or (λ (y : Transfer). y.bytes) o []) (found id) ∙ grows (transfer_of s 0 id) refl there),
-        λ other n. ap (λ t. received_in t other) e ∙ (ap (λ o. option_map_or (λ (y : Transfer). y.bytes) o []) (found other) ∙ bytes-other id other (λ t. record t { header = grown (length bytes) t.header; bytes = t.bytes ++ bytes }) 0 s.transfers n (transfer_of s 0 other) refl),
-      )
-    where
-      grows : (o : Option Transfer) → transfer_of s 0 id ≡ o → is_none (option_map (λ (t : Transfer). t.header) o) ≡ false → option_map_or (λ (y : Transfer). y.bytes) (option_map (changed id (λ t. record t { header = grown (length bytes) t.header; bytes = t.bytes ++ bytes })) o) [] ≡ option_map_or (λ (y : Transfer). y.bytes) o [] ++ bytes
-      grows None q f = absurd (cc f)
-      grows (Some t) q f =
-          let is : (t.header.id == id) ≡ true = (and-true (t.header.id == id) (t.header.client == 0) (find-passes (λ (y : Transfer). is_of 0 id y.header) s.transfers t q)).0 in
-          ap (λ (b : Bool). (if b then record t { header = grown (length bytes) t.header; bytes = t.bytes ++ bytes } else t).bytes) is
+      grind (arith, nat_tests, done-accepted, not-refused, done-none, found-changed, block-names, received_in, bytes-other, and-true, find-passes)
 
   -- TransferStart
   start-is : (s : NodeState) (size id : ℕ) → (judged_in read s (TransferStart size)).1 ≡ Started id → ((judged_in read s (TransferStart size)).0 ≡ started s 0 size) × (id ≡ s.next_id)
@@ -159,43 +144,13 @@ module _ (read : Reading) (clusters : List (Cluster Bytes)) where
       at (y ∷ ys) q (suc i) lt e = at ys q.1 i (omega arith) e
 
   pub start_transfers : (s : NodeState) (size id : ℕ) → IsConsistent s → (judged_in read s (TransferStart size)).1 ≡ Started id → (Contains (ids_of s 0) id → ⊥) × (ids_of (judged_in read s (TransferStart size)).0 0 ≡ ids_of s 0 ++ id ∷ [])
-  start_transfers s size id v e =
-      let b = start-is s size id e in (
-        λ c. not-below s.next_id (ids_of s 0) (ids-below s.next_id s.transfers v.transfers.each) (subst (λ n. Contains (ids_of s 0) n) b.1 c),
-        ap (λ t. ids_of t 0) b.0
-            ∙ (ap (λ l. map (λ (t : Transfer). t.header.id) l) (filter-append (λ (t : Transfer). t.header.client == 0) s.transfers (record { header = fresh s.next_id 0 size; bytes = []; parts = [] } ∷ []))
-            ∙ (map-append (λ (t : Transfer). t.header.id) (filter (λ (t : Transfer). t.header.client == 0) s.transfers) (record { header = fresh s.next_id 0 size; bytes = []; parts = [] } ∷ [])
-            ∙ ap (λ (n : ℕ). ids_of s 0 ++ n ∷ []) (sym b.1))),
-      )
+  start_transfers s size id v e = grind (arith, nat_tests, start-is, not-below, ids-below, filter-append, map-append)
 
   none-found : (next : ℕ) (ts : List Transfer) → AllByRecursion (IsSound next) ts → find (λ (t : Transfer). is_of 0 next t.header) ts ≡ None
   none-found next ts a = grind (arith, nat_tests, find-all, eqb-true, and-true, find-passes) steps 500000
 
   pub start_received : (s : NodeState) (size id : ℕ) → IsConsistent s → (judged_in read s (TransferStart size)).1 ≡ Started id → (received_in (judged_in read s (TransferStart size)).0 id ≡ []) × ((other : ℕ) → other ≢ id → received_in (judged_in read s (TransferStart size)).0 other ≡ received_in s other)
-  start_received s size id v e =
-      let b = start-is s size id e in (
-        ap (λ t. received_in t id) b.0 ∙ (ap (λ (n : ℕ). received_in (started s 0 size) n) b.1 ∙ (ap (λ o. option_map_or (λ (t : Transfer). t.bytes) o []) (find-append (λ (t : Transfer). is_of 0 s.next_id t.header) s.transfers (record { header = fresh s.next_id 0 size; bytes = []; parts = [] } ∷ []))
-            ∙ (ap (λ o. option_map_or (λ (t : Transfer). t.bytes) (option_or o (find (λ (t : Transfer). is_of 0 s.next_id t.header) (record { header = fresh s.next_id 0 size; bytes = []; parts = [] } ∷ []))) []) (none-found s.next_id s.transfers v.transfers.each) ∙ new ((s.next_id == s.next_id) && true)))),
-        λ other n.
-            ap (λ t. received_in t other) b.0
-            ∙ (ap (λ o. option_map_or (λ (t : Transfer). t.bytes) o []) (find-append (λ (t : Transfer). is_of 0 other t.header) s.transfers (record { header = fresh s.next_id 0 size; bytes = []; parts = [] } ∷ []))
-            ∙ old (transfer_of s 0 other) (find (λ (t : Transfer). is_of 0 other t.header) (record { header = fresh s.next_id 0 size; bytes = []; parts = [] } ∷ [])) (other-none other (λ q. n (sym q ∙ sym b.1)))),
-      )
-    where
-      new : (b : Bool) → option_map_or (λ (t : Transfer). t.bytes) (cond b (Some (record { header = fresh s.next_id 0 size; bytes = []; parts = [] })) None) [] ≡ []
-      new true = refl
-      new false = refl
-
-      other-none : (other : ℕ) → s.next_id ≢ other → find (λ (t : Transfer). is_of 0 other t.header) (record { header = fresh s.next_id 0 size; bytes = []; parts = [] } ∷ []) ≡ None
-      other-none other n = go (s.next_id == other) refl
-        where
-          go : (b : Bool) → (s.next_id == other) ≡ b → ◌≡◌ {A = Option Transfer} (cond (b && true) (Some (record { header = fresh s.next_id 0 size; bytes = []; parts = [] })) None) None
-          go true q = absurd (n (eqb-true s.next_id other q))
-          go false q = refl
-
-      old : (o p : Option Transfer) → p ≡ None → option_map_or (λ (t : Transfer). t.bytes) (option_or o p) [] ≡ option_map_or (λ (t : Transfer). t.bytes) o []
-      old None p q = ap (λ y. option_map_or (λ (t : Transfer). t.bytes) y []) q
-      old (Some t) p q = refl
+  start_received s size id v e = grind (arith, nat_tests, start-is, received_in, find-append, none-found, eqb-true)
 
   -- units
   process-transfers : (s : NodeState) (x : Session) (id : ℕ) → KeepsTransfers (real read clusters) s (process_unit s x id)

@@ -45,16 +45,10 @@ unit-is s passed x t e q = grind (arith, nat_tests) steps 500000
 
 -- what no unit touches
 process-last : (s : NodeState) (x : Session) (o : Option ℕ) (t : NodeState) → option_and_then (λ id. Some (process_unit s x id)) o ≡ Some t → t.last ≡ s.last
-process-last s x None t e = absurd (cc e)
-process-last s x (Some id) t e = grind (arith, nat_tests) steps 500000
+process-last s x y t e = grind (arith, nat_tests) steps 1500000
 
 unit-last : (s : NodeState) (x : Session) (passed : Bool) (st : Status) (t : NodeState) → unit_of s x passed st ≡ Some t → t.last ≡ s.last
-unit-last s x passed Processing t e = process-last s x x.processing t e
-unit-last s x passed Activating t e = grind (arith, nat_tests) steps 500000
-unit-last s x passed Verifying t e = grind (arith, nat_tests) steps 500000
-unit-last s x passed RollingBack t e = grind (arith, nat_tests) steps 500000
-unit-last s x passed CleaningUp t e = grind (arith, nat_tests) steps 500000
-unit-last s x passed _ t e = absurd (cc e)
+unit-last s x passed y t e = grind (arith, nat_tests, process-last) steps 1500000
 
 pub unit_last : (s : NodeState) (passed : Bool) → (last_in (unit_in s passed) ≡ last_in s) × (kept_in (unit_in s passed) ≡ kept_in s)
 unit_last s passed = grind (arith, nat_tests, unit_in, unit-cases, unit-last, zero_no) steps 500000
@@ -99,8 +93,7 @@ cleaning_new s passed tag v mine st out =
     grind (arith, nat_tests, mine-some, unit-is, at-status, runs, planned_in, names-of, unit_in, runs-new, planned-run, run_parts) steps 500000
 
 pub cleaning_old : (s : NodeState) (passed : Bool) (tag : ℕ) → IsConsistent s → mine_in s ≡ Some tag → s.status ≡ CleaningUp → outcome_in s ≡ Some Old → LeavesIn s (unit_in s passed)
-cleaning_old s passed tag v mine st out =
-    grind (arith, nat_tests, mine-some, unit-is, at-status, runs, unit_in) steps 500000
+cleaning_old s passed tag v mine st out = grind (arith, nat_tests, mine-some, unit-is, at-status, runs, unit_in)
 
 pub processing_id : (s : NodeState) (tag : ℕ) → IsConsistent s → s.status ≡ Processing → (id : ℕ) × (id_in_processing s ≡ Some id)
 processing_id s tag v st = grind (arith, nat_tests) steps 500000

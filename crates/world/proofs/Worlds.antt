@@ -33,10 +33,7 @@ kept-current : (f : Fold) (e : MasterEvent) → HasStarted f → (c : Current) �
 kept-current f e h c q = grind (arith, nat_tests) steps 500000
 
 started-after : (f : Fold) (e : MasterEvent) → refusal_of f e ≡ None → HasStarted f → HasStarted (after_event f e)
-started-after f (Start epoch) r h = grind (arith, nat_tests, eqb-true) steps 500000
-started-after f (Begin k named) r h = grind (arith, nat_tests, leb-true, and_parts) steps 500000
-started-after f (Enter x) r h = λ c q. absurd (cc)
-started-after f x r h = kept-current f x h
+started-after f y r h = grind (arith, nat_tests, eqb-true, leb-true, and_parts, kept-current) steps 1500000
 
 nth-has : (P : Message → Type 0) (ms : List Message) (i : ℕ) (m : Message) → AllByRecursion P ms → nth_sent ms i ≡ Some m → P m
 nth-has P [] i m h e = absurd (cc)
@@ -44,8 +41,7 @@ nth-has P (x ∷ ms) zero m h e = let same : x ≡ m = cc e in subst P same h.0
 nth-has P (x ∷ ms) (suc i) m h e = nth-has P ms i m h.1 e
 
 next-epoch : (epoch : ℕ) (ms : List Message) → (next_number epoch ms).epoch ≡ epoch
-next-epoch epoch [] = refl
-next-epoch epoch (m ∷ ms) = refl
+next-epoch epoch x = grind (arith, nat_tests) steps 1500000
 
 module _ (read : Reading) (keeps : KeepsNode read []) (packages : Packages) (numbers : List ℕ) where
   -- an event of the rules that does what one of the tables does
@@ -103,10 +99,7 @@ module _ (read : Reading) (keeps : KeepsNode read []) (packages : Packages) (num
       positive (Some c) e m = h.started c e
 
   evidence : (w : World) (v : engine.World (fit read [] keeps)) (e : MasterEvent) → SameWorld read keeps w v → HasEvidence packages numbers w e → engine.Evidence (fit read [] keeps) packages numbers v e
-  evidence w v (Begin k named) h has = has
-  evidence w v (VoteOf n vote) h has = subst (VoteEvidence vote) (sym (h.node n).told) has
-  evidence w v (EndedAt n o) h has = grind (arith, nat_tests) steps 500000
-  evidence w v _ h has = tt
+  evidence w v x h has = grind (arith, nat_tests) steps 1500000
 
   same-recorded : (w : World) (v : engine.World (fit read [] keeps)) (e : MasterEvent) → SameWorld read keeps w v → HasStarted (after_event v.fold e) → SameWorld read keeps (recorded w e) (engine.recorded (fit read [] keeps) v e)
   same-recorded w v e h started = grind (arith, nat_tests, fold-append, fit) steps 500000
