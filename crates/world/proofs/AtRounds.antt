@@ -150,25 +150,7 @@ module _ (N : NodeRules) (laws : NodeLaws N) where
     where
       go : (block rest : List ℕ) → block ++ rest ≡ b ∷ bs → rest ≡ drop 4096 (b ∷ bs) → IsLed s (TransferData id counter block) k ps (At_data ids id counter (b ∷ bs) left)
       go block rest e is =
-          elim (laws.data_replies s id counter block) [
-            | inl d ↦ led-to s (TransferData id counter block) k ps (At_data ids id counter (b ∷ bs) left) Done d (subst (λ l. Fills N (N.judge s (TransferData id counter block)).0 ids id l left ps) is (more d))
-            | inr r ↦ led-refused s (TransferData id counter block) k ps (At_data ids id counter (b ∷ bs) left) r.0 r.1
-          ]
-        where
-          more : (N.judge s (TransferData id counter block)).1 ≡ Done → Fills N (N.judge s (TransferData id counter block)).0 ids id rest left ps
-          more d =
-              let same = laws.data_transfers s id counter block in
-              let r = laws.data_received s id counter block d in
-              record {
-                done = h.done;
-                whole = h.whole;
-                all = h.all;
-                none = (laws.data_session s id counter block).mine ∙ h.none;
-                hold = hold-apart s (N.judge s (TransferData id counter block)).0 id (λ x c. subst (λ l. Contains l x) (sym same) c) r.1 ids h.done h.apart h.hold;
-                there = subst (λ l. Contains l id) (sym same) h.there;
-                apart = h.apart;
-                so_far = ap (λ l. l ++ rest) r.0 ∙ (append_assoc (N.received s id) block rest ∙ (ap (λ l. N.received s id ++ l) e ∙ h.so_far));
-              }
+          grind (arith, nat_tests, laws.data_replies, led-to, led-refused, laws.data_transfers, laws.data_received, laws.data_session, hold-apart, append_assoc) steps 500000
 
   led-exit : (s : N.State) (k : ℕ) (ps : List (List ℕ)) (ids : List ℕ) (id counter : ℕ) (left : List (List ℕ)) → IsAt N s k ps (At_data ids id counter [] left) → IsLed s (TransferExit id) k ps (At_data ids id counter [] left)
   led-exit s k ps ids id counter left h =

@@ -77,11 +77,7 @@ module _ (N : NodeRules) (laws : NodeLaws N) (k : ℕ) (changes : List N.Change)
       shut_spans b o e z = subst (λ c. (if ((spans N k moves).is_open && c) then z else spans N k moves) ≡ z) (sym e) (subst (λ c. (if (c && true) then z else spans N k moves) ≡ z) (sym o) refl)
 
       waiting : N.status (after N moves) ≡ Activated → IsWaiting (Unit_done passed ∷ moves)
-      waiting a =
-          let same : N.unit (after N moves) passed ≡ after N moves = laws.unit_still (after N moves) passed (rw a refl) in
-          let no_close : is_status (N.status (after N moves)) CleaningUp ≡ false = rw a refl in
-          let e = still_spans (is_status (N.status (after N moves)) CleaningUp) w.is_open no_close (record { is_open = false; ended = record { outcome = N.outcome (after N moves); before = after N moves; left = N.unit (after N moves) passed } ∷ (spans N k moves).ended }) in
-          record { waits = subst (λ t. Waits t) (sym same) w.waits; is_open = ap (λ y. y.is_open) e ∙ w.is_open; none = ap (λ y. y.ended) e ∙ w.none }
+      waiting a = grind (arith, nat_tests, after, laws.unit_still, spans) steps 500000
 
       ends : N.status (after N moves) ≡ CleaningUp → N.outcome (after N moves) ≡ Some New → IsNew N k changes (Unit_done passed ∷ moves)
       ends c o =

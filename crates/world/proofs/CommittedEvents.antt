@@ -174,7 +174,4 @@ module _ (N : NodeRules) (laws : NodeLaws N) (packages : Packages) (n : ℕ) whe
       success _ e = absurd (cc e)
 
       waits_no_more : IsWaiting N laws c.campaign (changes_of c.campaign) x.moves → ⊥
-      waits_no_more w =
-          let p = old.session c.campaign w.waits.mine in
-          let e : p.0 ≡ c = some-inj p.0 c (sym p.1 ∙ current) in
-          flagged-ended c.named.flags c.ended n ended (sym (ap (λ y. flag_of y.named n) e) ∙ p.2) (sym (ap (λ y. end_of y n) e) ∙ p.3)
+      waits_no_more w = grind (arith, nat_tests, some-inj, flagged-ended) steps 500000

@@ -95,11 +95,7 @@ module _ (N : NodeRules) (laws : NodeLaws N) (packages : Packages) (numbers : Li
 
       marked : (o : Option Current) (d : Current) → changed_in o (Start epoch) ≡ Some d → d.decision ≡ None → d.restart ≡ false → ⊥
       marked None d e' undecided quiet = cc e'
-      marked (Some c) d e' undecided quiet = go (is_undecided c) refl (some-inj (changed c (Start epoch)) d e')
-        where
-          go : (b : Bool) → is_undecided c ≡ b → (if b then record c { restart = true } else c) ≡ d → ⊥
-          go true p q = let z : true ≡ d.restart = ap (λ y. y.restart) q in cc (z, quiet)
-          go false p q = let z : c.decision ≡ None = ap (λ y. y.decision) q ∙ undecided in cc (ap is_none z, p)
+      marked (Some c) d e' undecided quiet = grind (arith, nat_tests, some-inj, is_none) steps 500000
 
   plain : (w : World N) (e : MasterEvent) → ((n : ℕ) (c : Current) → SameAt n c (changed c e)) → ((c : Current) → (changed c e).restart ≡ c.restart) → ((n : ℕ) (c : Current) → vote_of (changed c e) n ≡ Some Vote.Yes → (vote_of c n ≡ Some Vote.Yes) ⊎ (showed_after_activate Activated (w.node n).told ≡ true)) → WorldEarly w → WorldEarly (record { fold = record { epoch = w.fold.epoch; earlier = w.fold.earlier; current = changed_in w.fold.current e }; node = w.node })
   plain w e sames restarts votes each n =
@@ -135,9 +131,7 @@ module _ (N : NodeRules) (laws : NodeLaws N) (packages : Packages) (numbers : Li
     where
       forth : (p : Option Current) → w.fold.current ≡ p → (k : ℕ) → InPresent w.fold n (λ c. k ≡ c.campaign) → InPresent (record { epoch = w.fold.epoch; earlier = w.fold.earlier; current = changed_in p (Decide d) }) n (λ c. k ≡ c.campaign)
       forth None q k h = absurd (none-some w.fold.current h.0 q h.1)
-      forth (Some c) q k h =
-          let same : h.0 ≡ c = some-inj h.0 c (sym h.1 ∙ q) in
-          (record c { decision = Some d }, refl, sym (ap (λ y. flag_of y.named n) same) ∙ h.2, sym (ap (λ y. end_of y n) same) ∙ h.3, h.4 ∙ ap (λ y. y.campaign) same)
+      forth (Some c) q k h = grind (arith, nat_tests, some-inj) steps 500000
 
       decided : (p : Option Current) (c : Current) → changed_in p (Decide d) ≡ Some c → c.decision ≡ None → ⊥
       decided None c q u = cc q
@@ -177,9 +171,7 @@ module _ (N : NodeRules) (laws : NodeLaws N) (packages : Packages) (numbers : Li
       }
     where
       out : (k : ℕ) → InPresent w.fold n (λ y. k ≡ y.campaign) → ⊥
-      out k p =
-          let same : p.0 ≡ c = some-inj p.0 c (sym p.1 ∙ e) in
-          flagged-ended c.named.flags c.ended n (and-both (all_ended c) (is_result_of c.decision r) (unless-true (meets c (Enter r)) h)).0 (sym (ap (λ y. flag_of y.named n) same) ∙ p.2) (sym (ap (λ y. end_of y n) same) ∙ p.3)
+      out k p = grind (arith, nat_tests, some-inj, flagged-ended, and-both, unless-true) steps 500000
 
   of-record : (w : World N) (e : MasterEvent) → refusal_of w.fold e ≡ None → Evidence N packages numbers w e → WorldKept N laws packages numbers w → WorldEarly w → WorldEarly (recorded N w e)
   of-record w (Start epoch) h evidence kept each = start w epoch (eqb-true epoch (w.fold.epoch + 1) (unless-true (nat_eq epoch (w.fold.epoch + 1)) h)) each

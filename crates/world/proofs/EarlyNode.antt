@@ -176,11 +176,7 @@ module _ (N : NodeRules) (laws : NodeLaws N) where
         })
       where
         before : (e : ClientEntry) → InEntries e es → IsBelow e.message.at m.at
-        before e i =
-            elim (h.last e i) [
-              | inl b ↦ below-trans e.message.at (N.last s) m.at b below
-              | inr b ↦ subst (λ y. IsBelow y m.at) (sym b.0) below
-            ]
+        before e i = grind (arith, nat_tests, below-trans) steps 500000
 
     -- a foreign call
     pub early-foreign : (s : N.State) (call : N.ForeignCall) (es : List ClientEntry) (ended : List (Span N)) (sent : List Message) (told : List Told) → EarlyAt N epoch k ps s es ended sent told → EarlyAt N epoch k ps (N.foreign s call) es ended sent told
@@ -224,45 +220,17 @@ module _ (N : NodeRules) (laws : NodeLaws N) where
 
         -- an entry with the last number has this reply
         reply-is : (e : ClientEntry) → InEntries e es → m.at ≡ e.message.at → e.reply ≡ r
-        reply-is e i same =
-            elim (h.last e i) [
-              | inl b ↦ absurd (below-irrefl (N.last s) (subst (λ y. IsBelow y (N.last s)) (sym same ∙ at) b))
-              | inr b ↦ b.1 ∙ kept
-            ]
+        reply-is e i same = grind (arith, nat_tests, below-irrefl) steps 500000
 
         more : (e : ClientEntry) → InEntries e es → told_reply told e.message.at ≡ Some e.reply → told_reply (Answered m r ∷ told) e.message.at ≡ Some e.reply
-        more e i t = go (no_eq m.at e.message.at) refl
-          where
-            go : (b : Bool) → no_eq m.at e.message.at ≡ b → (if b then Some r else told_reply told e.message.at) ≡ Some e.reply
-            go true p = ap Some (sym (reply-is e i (same-no m.at e.message.at p)))
-            go false p = t
+        more e i t = grind (arith, nat_tests, same-no) steps 500000
 
         entry : (e : ClientEntry) → InEntries e es → (r' : Reply) (b : Bool) → no_eq m.at e.message.at ≡ b → (if b then Some r else told_reply told e.message.at) ≡ Some r' → r' ≡ e.reply
         entry e i r' true p t = let x : r ≡ r' = cc t in sym x ∙ sym (reply-is e i (same-no m.at e.message.at p))
         entry e i r' false p t = h.told_entry e i r' t
 
         new : m.call ≡ Activate → r ≡ Done → stage_after ps es ≡ Over
-        new call done =
-            elim h.sends [
-              | inl d ↦ found sent d.0 q
-              | inr w ↦ waiting sent w.0 q
-            ]
-          where
-            campaign : m.campaign ≡ k
-            campaign = here (λ z. cc (call, z))
-
-            found : (some : List Message) → AllDone k es some → InSent m some → stage_after ps es ≡ Over
-            found some all i =
-                let d = in-done k ps es some m all i campaign in
-                activate-over k ps es d.0 h.follows d.1 (ap (λ z. z.call) d.2 ∙ call) (reply-is d.0 d.1 (sym (ap (λ z. z.at) d.2)) ∙ done)
-
-            waiting : (some : List Message) → OneWaits N s k ps es some → InSent m some → stage_after ps es ≡ Over
-            waiting [] w i = absurd w
-            waiting (y ∷ ys) w i =
-                elim i [
-                  | inl e ↦ absurd (below-irrefl (N.last s) (subst (λ z. IsBelow (N.last s) z) (sym (ap (λ z. z.at) e) ∙ at) w.3))
-                  | inr i' ↦ found ys w.4 i'
-                ]
+        new call done = grind (arith, nat_tests, stage_after, in-done, activate-over, below-irrefl) steps 500000
 
     -- a status that is told
     pub early-showed : (s : N.State) (es : List ClientEntry) (ended : List (Span N)) (sent : List Message) (told : List Told) (x : Status) → N.status s ≡ x → EarlyAt N epoch k ps s es ended sent told → EarlyAt N epoch k ps s es ended sent (Showed x ∷ told)

@@ -139,11 +139,7 @@ module _ (N : NodeRules) (laws : NodeLaws N) (f : Fold) (n : ℕ) where
   event-foreign x call fold kept = kept-step x (Foreign call) fold kept steps
     where
       mine-back : (tag : ℕ) → N.mine (N.foreign (state_of N x) call) ≡ Some tag → N.mine (state_of N x) ≡ Some tag
-      mine-back tag e = go (N.mine (state_of N x)) refl
-        where
-          go : (o : Option ℕ) → N.mine (state_of N x) ≡ o → N.mine (state_of N x) ≡ Some tag
-          go None q = absurd (cc (laws.foreign_none (state_of N x) call q, e))
-          go (Some t) q = sym (laws.foreign_session (state_of N x) call t q).mine ∙ e
+      mine-back tag e = grind (arith, nat_tests, state_of, laws.foreign_none, laws.foreign_session) steps 500000
 
       steps : Steps x (Foreign call)
       steps =
@@ -258,9 +254,7 @@ module _ (N : NodeRules) (laws : NodeLaws N) (f : Fold) (n : ℕ) where
       no_process early a b id tag e = early m sent (kept.tags m sent id tag e).1 (fresh_exec a b)
 
       back : (m' : Message) → InSent m' x.sent → Executable N (delivered N (state_of N x) m.at m.call) m' → Executable N (state_of N x) m'
-      back m' s' exec =
-          delivered-cases N laws (state_of N x) m.at m.call (λ t. Executable N t m' → Executable N (state_of N x) m') (λ e. e) (λ a b e.
-          below-trans (N.last (state_of N x)) m.at m'.at (fresh_exec a b) (subst (λ l. IsBelow l m'.at) (laws.keep_last (N.judge (state_of N x) m.call).0 m.at m.call (N.judge (state_of N x) m.call).1) e)) exec
+      back m' s' exec = grind (arith, nat_tests, delivered-cases, state_of, below-trans, laws.keep_last) steps 500000
 
       none : NoneEarly N (state_of N x) x.sent → N.mine (state_of N x) ≡ None → N.mine (delivered N (state_of N x) m.at m.call) ≡ None
       none early e =

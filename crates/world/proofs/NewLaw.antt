@@ -104,9 +104,7 @@ module _ (N : NodeRules) (laws : NodeLaws N) (packages : Packages) (numbers : Li
       }
     where
       not_yet : (c : Current) → Some (begun k named) ≡ Some c → c.decision ≡ Some Commit → ⊥
-      not_yet c current commit =
-          let q : (begun k named).decision ≡ Some Commit = ap (λ y. y.decision) (some-inj (begun k named) c current) ∙ commit in
-          cc q
+      not_yet c current commit = grind (arith, nat_tests, some-inj) steps 500000
 
   decide : (w : World N) (d : Decision) (o : Option Current) → w.fold.current ≡ o → in_current o (Decide d) ≡ None → ((c : Current) → o ≡ Some c → d ≡ Commit → (n : ℕ) → IsReadyToCommit N laws packages n c (w.node n)) → WorldNew w → Parts (record { fold = record { epoch = w.fold.epoch; earlier = w.fold.earlier; current = changed_in o (Decide d) }; node = w.node })
   decide w d None e h ready new = absurd (cc h)

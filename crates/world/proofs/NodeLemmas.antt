@@ -62,11 +62,7 @@ module _ (N : NodeRules) (laws : NodeLaws N) where
           let p = laws.unit_processing s passed tag (laws.processing_id s tag e i).0 e i (laws.processing_id s tag e i).1 in
           elim p.2 [ inl h ↦ other Processing (λ q. cc) h.0 | inr h ↦ other Ready (λ q. cc) h.0 ]
       at_status tag e Activating i = other Verifying (λ q. cc) (laws.unit_activating s passed tag e i).1
-      at_status tag e Verifying i =
-          elim (laws.unit_verifying s passed tag e i).1 [
-            | inl h ↦ other Verifying (λ q. cc) h
-            | inr h ↦ elim h [ inl a ↦ other Activated (λ q. cc) a | inr b ↦ other RollingBack (λ q. cc) b ]
-          ]
+      at_status tag e Verifying i = grind (arith, nat_tests, laws.unit_verifying) steps 500000
       at_status tag e RollingBack i = other RolledBack (λ q. cc) (laws.unit_rolling s passed tag e i).1
       at_status tag e CleaningUp i = ends_old-none (N.unit s passed) (cleaned s passed tag e i)
       at_status tag e x i = rw (still s passed x i refl) old

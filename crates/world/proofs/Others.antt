@@ -144,18 +144,7 @@ module _ (read : Reading) (clusters : List (Cluster Bytes)) where
       none = v.processing.status ∙ ap (λ (y : Status). status_code y == 2) st
 
       each : (t : Transfer) → IsPlannedWhole x t t.header.phase → is_in BeingProcessed t.header ≡ some_passes (λ (i : ℕ). i == t.header.id) (id_in_processing s) → (t.header.client == 0) ≡ true → not (is_in BeingProcessed t.header || is_in Processed t.header) ≡ true
-      each t whole being own = go t.header.phase refl whole
-        where
-          not-being : is_in BeingProcessed t.header ≡ false
-          not-being = being ∙ no-id (id_in_processing s) none t.header.id
-
-          go : (phase : Phase) → t.header.phase ≡ phase → IsPlannedWhole x t phase → not (is_in BeingProcessed t.header || is_in Processed t.header) ≡ true
-          go BeingProcessed q w = absurd (let z : is_in BeingProcessed t.header ≡ true = ap (λ (y : Phase). is_in BeingProcessed (record t.header { phase = y })) q in cc (z, not-being))
-          go Processed q w =
-              let same : t.header.client ≡ x.owner = w.0 in
-              let z : (x.owner == 0) ≡ true = ap (λ (n : ℕ). n == 0) (sym same) ∙ own in
-              absurd (cc (z, owner))
-          go _ q w = ap (λ (y : Phase). not (is_in BeingProcessed (record t.header { phase = y }) || is_in Processed (record t.header { phase = y }))) q
+      each t whole being own = grind (arith, nat_tests) steps 500000
 
   -- a unit without a session of client 0
   abbrev Nothing0 : NodeState → NodeState → Type 0
@@ -168,11 +157,7 @@ module _ (read : Reading) (clusters : List (Cluster Bytes)) where
       some-is a b q = cc q
 
       not-mine : (x : Session) → s.session ≡ Some x → (x.owner == 0) ≡ false
-      not-mine x e = own (x.owner == 0) refl
-        where
-          own : (b : Bool) → (x.owner == 0) ≡ b → (x.owner == 0) ≡ false
-          own true q = absurd (let z : Some x.tag ≡ None = sym (ap (λ b. tag_if b x.tag) q) ∙ (sym (ap (λ o. option_and_then (λ (y : Session). tag_if (y.owner == 0) y.tag) o) e) ∙ none) in cc z)
-          own false q = q
+      not-mine x e = grind (arith, nat_tests, tag_if) steps 500000
 
       over : (a t : NodeState) → Some a ≡ Some t → Nothing0 s a → Nothing0 s (with_entry (UnitAfter t.status) t)
       over a t q k = let e = some-is a t q in subst (λ y. Nothing0 s (with_entry (UnitAfter y.status) y)) e (k.0, k.1, record { transfers = k.2.transfers; received = k.2.received })

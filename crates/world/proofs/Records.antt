@@ -188,9 +188,7 @@ module _ (N : NodeRules) (laws : NodeLaws N) (n : ℕ) where
       back k h = record { above = h.above; other = λ c' current' q. h.other (record c { decision = Some d }) refl (ap (λ y. y.campaign) (some-inj c c' (sym current ∙ current')) ∙ q) }
 
       forth : (P : ℕ → Type 0) → InPresent f n (λ y. P y.campaign) → InPresent (record { epoch = f.epoch; earlier = f.earlier; current = Some (record c { decision = Some d }) }) n (λ y. P y.campaign)
-      forth P h =
-          let e : h.0 ≡ c = some-inj h.0 c (sym h.1 ∙ current) in
-          (record c { decision = Some d }, refl, sym (ap (λ y. flag_of y.named n) e) ∙ h.2, sym (ap (λ y. end_of y n) e) ∙ h.3, subst P (ap (λ y. y.campaign) e) h.4)
+      forth P h = grind (arith, nat_tests, some-inj) steps 500000
 
       no_finish : (m : Message) → InSent m x.sent → m.call ≡ Finish → Executable N (state_of N x) m → ⊥
       no_finish m h call exec = go m.decided refl
@@ -291,18 +289,7 @@ module _ (N : NodeRules) (laws : NodeLaws N) (n : ℕ) where
       }
     where
       out : (P : ℕ → Type 0) → InPresent f n (λ y. P y.campaign) → ⊥
-      out P h =
-          let e : h.0 ≡ c = some-inj h.0 c (sym h.1 ∙ current) in
-          flagged-ended c.named.flags c.ended n ended (sym (ap (λ y. flag_of y.named n) e) ∙ h.2) (sym (ap (λ y. end_of y n) e) ∙ h.3)
+      out P h = grind (arith, nat_tests, some-inj, flagged-ended) steps 500000
 
       back : (k : ℕ) → all_below k (f.earlier ++ (c.campaign, r) ∷ []) ≡ true → IsFresh f k
-      back k h =
-          let q = below-append k f.earlier (c.campaign, r) h in
-          record {
-            above = q.0;
-            other = λ c' current' e.
-                let s : c ≡ c' = some-inj c c' (sym current ∙ current') in
-                let lt : c.campaign < k = q.1 in
-                let same : c.campaign ≡ k = ap (λ y. y.campaign) s ∙ e in
-                (omega arith);
-          }
+      back k h = grind (arith, nat_tests, below-append, some-inj) steps 500000

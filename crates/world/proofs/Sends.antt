@@ -118,9 +118,7 @@ module _ (N : NodeRules) (laws : NodeLaws N) (packages : Packages) (f : Fold) (n
       undecided_of m e d = none-of c.decision (sym (ap (λ y. y.decided) e) ∙ d)
 
       round : c.decision ≡ None → IsRoundCall c.campaign call
-      round q =
-          let by : MaySendEarly packages n c x.told x.sent call = subst (λ o. MaySendBy packages f.epoch n c o x.told x.sent call) q may.by in
-          round-calls c.campaign (stage_of (packages c.campaign n) At_sync (replies_of c.campaign x.told x.sent)) call by.next
+      round q = grind (arith, nat_tests, round-calls) steps 500000
 
       late : (d : Decision) → c.decision ≡ Some d → MaySendLate f.epoch n c d x.told call
       late d q = subst (λ o. MaySendBy packages f.epoch n c o x.told x.sent call) q may.by
@@ -138,23 +136,13 @@ module _ (N : NodeRules) (laws : NodeLaws N) (packages : Packages) (f : Fold) (n
       new_early m e d q = (round (undecided_of m e d)).0 (sym (ap (λ y. y.call) e) ∙ q)
 
       new_decided : (m : Message) → m ≡ record { at = next_number f.epoch x.sent; call = call; campaign = c.campaign; decided = is_some c.decision } → m.decided ≡ true → (c' : Current) → f.current ≡ Some c' → c'.decision ≢ None
-      new_decided m e d c' current' q =
-          let w : c.decision ≡ None = sym (ap (λ y. y.decision) (same_current c' current')) ∙ q in
-          cc (ap (λ y. y.decided) e, d, ap is_some w)
+      new_decided m e d c' current' q = grind (arith, nat_tests, is_some) steps 500000
 
       not_ended : end_of c n ≡ None
-      not_ended = go c.decision refl
-        where
-          go : (o : Option Decision) → c.decision ≡ o → end_of c n ≡ None
-          go None w = fold.undecided c current w n
-          go (Some d) w = (late d w).not_ended
+      not_ended = grind (arith, nat_tests) steps 500000
 
       last_rolled : (c' : Current) (cause : Cause) → f.current ≡ Some c' → c'.decision ≡ Some (Abort cause) → call ≡ Finish → last_status c'.campaign f.epoch x.told ≡ Some RolledBack
-      last_rolled c' cause current' abort q =
-          let e = same_current c' current' in
-          let w : c.decision ≡ Some (Abort cause) = sym (ap (λ y. y.decision) e) ∙ abort in
-          let r = late-finish cause (last_status c.campaign f.epoch x.told) (last_shown c.campaign f.epoch x.told) (subst (λ y. (is_sync y || (end_call_at (Abort cause) (last_status c.campaign f.epoch x.told) y || delete_at (last_shown c.campaign f.epoch x.told) y)) ≡ true) q (late (Abort cause) w).allowed) in
-          subst (λ k. last_status k f.epoch x.told ≡ Some RolledBack) (sym (ap (λ y. y.campaign) e)) r
+      last_rolled c' cause current' abort q = grind (arith, nat_tests, late-finish) steps 500000
 
       none_early : (c' : Current) (cause : Cause) → f.current ≡ Some c' → c'.decision ≡ Some (Abort cause) → NoneEarly N (state_of N x) x.sent → NoneEarly N (state_of N x) (record { at = next_number f.epoch x.sent; call = call; campaign = c.campaign; decided = is_some c.decision } ∷ x.sent)
       none_early c' cause current' abort old m h d exec =

@@ -67,12 +67,8 @@ with-at c cs name =
     go : (e : Bool) → bytes_eq c.name name ≡ e → (l : Bool) → name_lt name c.name ≡ l → option_or (cond l (cluster_at cs name) None) (cond e (Some c) (cond (name_lt c.name name) (cluster_at cs name) None)) ≡ cond e (Some c) (cluster_at cs name)
     go true p true q = absurd (let z = lt-not_eq name c.name (eq-swap name c.name ∙ p) in cc (z, q))
     go true p false q = refl
-    go false p true q =
-        let z : name_lt c.name name ≡ false = lt-other name c.name (eq-swap name c.name ∙ p) ∙ ap not q in
-        ap (λ x. option_or (cluster_at cs name) (cond x (cluster_at cs name) None)) z ∙ or-none (cluster_at cs name)
-    go false p false q =
-        let z : name_lt c.name name ≡ true = lt-other name c.name (eq-swap name c.name ∙ p) ∙ ap not q in
-        ap (λ x. cond x (cluster_at cs name) None) z
+    go false p true q = grind (arith, nat_tests, lt-other, eq-swap) steps 500000
+    go false p false q = grind (arith, nat_tests, lt-other, eq-swap) steps 500000
 
 without-at : (n : List ℕ) (cs : List (Cluster Bytes)) (name : List ℕ) → cluster_at (without n cs) name ≡ cond (bytes_eq n name) None (cluster_at cs name)
 without-at n cs name = found-by_name (λ m. not (bytes_eq m n)) name cs ∙ (ap (λ x. cond (not x) (cluster_at cs name) None) (eq-swap name n) ∙ go (bytes_eq n name))

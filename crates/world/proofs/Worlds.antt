@@ -89,10 +89,7 @@ module _ (read : Reading) (keeps : KeepsNode read []) (packages : Packages) (num
   )
     where
       may : InCurrent v.fold.current (λ c. MaySend packages v.fold.epoch n c (v.node n).told (v.node n).sent call)
-      may =
-          subst (λ (f : Fold). InCurrent f.current (λ c. MaySend packages f.epoch n c (v.node n).told (v.node n).sent call)) (sym h.fold)
-          (subst (λ ts. InCurrent (fold_of w).current (λ c. MaySend packages (fold_of w).epoch n c ts (v.node n).sent call)) (sym (h.node n).told)
-          (subst (λ ms. InCurrent (fold_of w).current (λ c. MaySend packages (fold_of w).epoch n c (w.node n).told ms call)) (sym (h.node n).sent) allowed))
+      may = grind (arith, nat_tests) steps 500000
 
       positive : (o : Option Current) → v.fold.current ≡ o → InCurrent o (λ c. MaySend packages v.fold.epoch n c (v.node n).told (v.node n).sent call) → 0 < v.fold.epoch
       positive None e m = absurd m
