@@ -76,12 +76,12 @@ pub record KeepsNames (f : Transfer → Transfer) : Type 0 where
 
 pub ids-changed : (id : ℕ) (f : Transfer → Transfer) → KeepsNames f → (ts : List Transfer) → ids (map (changed id f) ts) ≡ ids ts
 ids-changed id f k [] = refl
-ids-changed id f k (t ∷ ts) = grind (arith, nat_tests, ids-changed id f k ts) steps 500000
+ids-changed id f k (t ∷ ts) = grind (arith, ids-changed id f k ts) steps 500000
 
 pub found-changed : (owner n id : ℕ) (f : Transfer → Transfer) → KeepsNames f → (ts : List Transfer) → found owner n (map (changed id f) ts) ≡ option_map (changed id f) (found owner n ts)
 found-changed owner n id f k [] = refl
-found-changed owner n id f k (t ∷ ts) = grind (arith, nat_tests, found-changed owner n id f k ts) steps 500000
+found-changed owner n id f k (t ∷ ts) = grind (arith, found-changed owner n id f k ts) steps 500000
 
 -- the parts of what is found, where the change leaves them
 pub parts-changed : (id : ℕ) (f : Transfer → Transfer) → ((t : Transfer) → (f t).parts ≡ t.parts) → (o : Option Transfer) → parts_of (option_map (changed id f) o) ≡ parts_of o
-parts-changed id f k x = grind (arith, nat_tests) steps 1500000
+parts-changed id f k x = grind arith steps 1500000

@@ -88,7 +88,7 @@ differ-kept running changes parts e h k = differ-append _ _ h k (swap changes pa
 -- a running cluster's name
 running-name : (clusters : List (Cluster Bytes)) (name : List ℕ) → has_cluster clusters name ≡ true → has_name (names_of clusters) name ≡ true
 running-name [] name h = absurd (cc)
-running-name (c ∷ cs) name h = grind (arith, nat_tests, names_of, name-swap, running-name cs name) steps 500000
+running-name (c ∷ cs) name h = grind (arith, name-swap, running-name cs name) steps 500000
 
 -- with a part more the names are those before and the part's
 with-part : (running : List (Cluster Bytes)) (changes : List (Change Bytes)) (before : List (Part Bytes)) (part : Part Bytes)

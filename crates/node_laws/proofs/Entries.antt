@@ -50,7 +50,7 @@ lines-kept entries ls h v =
 
 -- other numbers and replies that are kept, and other entries and lines
 noted-fit : (read : Reading) (s : NodeState) (last : List (Option Kept)) (entries : ℕ) (lines : List Line) → IsFit read s → length last ≡ length s.last → InPlace entries lines → IsFit read (record s { last = last; entries = entries; lines = lines })
-noted-fit read s last entries lines fit same place = grind (arith, nat_tests) steps 500000
+noted-fit read s last entries lines fit same place = grind arith steps 500000
 
 -- the lines of a fit state are in their places
 in-place : (read : Reading) (s : NodeState) → IsFit read s → InPlace s.entries s.lines

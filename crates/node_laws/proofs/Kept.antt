@@ -39,7 +39,7 @@ use Rattle.node_laws.proofs.Entries.{kept-fit, entry-fit}
 
 -- a formatted node with clusters in order, of at most 16 names
 formatted-fit : (read : Reading) (clusters : List (Cluster Bytes)) → IsInstalled clusters → IsFit read (formatted clusters)
-formatted-fit read clusters installed = grind (arith, nat_tests) steps 500000
+formatted-fit read clusters installed = grind arith steps 500000
 
 module _ (read : Reading) (reading : IsReading read) where
   -- a call that isn't refused

@@ -101,7 +101,7 @@ begun-fit read s x id u fit v e phase accepted = record {
     own-id = (found-is x.owner id s.transfers u e).0
 
     other-id : (t : Transfer) → (t.header.id == id) ≡ false → false ≡ (id == t.header.id)
-    other-id t n = grind (arith, nat_tests, n)
+    other-id t n = grind arith
 
     sound : IsWholeFromTransferred u Transferred
     sound = subst (IsWholeFromTransferred u) phase (found-has (λ t. is_of x.owner id t.header) _ s.transfers u b.held.each e).1.whole
@@ -159,7 +159,7 @@ ready-waits s x v = record {
 
 -- and so does a new session
 idle-waits : (s : NodeState) (client tag : ℕ) → client < client_limit → (tag == 0) ≡ not (client == 0) → Base s → Free s → Waits s (new_session s client tag)
-idle-waits s client tag low own b f = grind (arith, nat_tests, each-imp) steps 500000
+idle-waits s client tag low own b f = grind (arith, each-imp) steps 500000
 
 own-tag : (a b : Bool) → (if a then b else not b) ≡ false → b ≡ not a
 own-tag true b e = e
@@ -168,7 +168,7 @@ own-tag false false e = absurd (cc)
 
 -- the table takes a package in Idle and in Ready
 process-status : (a : Status) (id tag : ℕ) → is_none (status_table a (ProcessSwPackage id tag)) ≡ false → ((a ≡ Idle) ⊎ (a ≡ Ready)) × (status_table a (ProcessSwPackage id tag) ≡ Some (To Processing))
-process-status x id tag e = grind (arith, nat_tests) steps 1500000
+process-status x id tag e = grind arith steps 1500000
 
 -- a package is taken into processing
 pub process-fit : (read : Reading) (s : NodeState) (client id tag : ℕ) → client < client_limit → IsFit read s
@@ -257,13 +257,13 @@ stopped read s x id u to o fit v e due runs plans working leaves outcome = recor
     phase = is-processing u.header ((found-has (λ t. is_of x.owner id t.header) _ s.transfers u v.each e).1 ∙ eq-eqb _ _ (sym (found-is x.owner id s.transfers u e).0))
 
     other-id : (t : Transfer) → (t.header.id == id) ≡ false → (id == t.header.id) ≡ false
-    other-id t n = grind (arith, nat_tests, n)
+    other-id t n = grind arith
 
 passes-some : (o : Option ℕ) (n : ℕ) → some_passes (λ i. i == n) o ≡ true → o ≡ Some n
-passes-some x n e = grind (arith, nat_tests, eqb-true) steps 1500000
+passes-some x n e = grind arith steps 1500000
 
 cancel-status : (a : Status) (id : ℕ) → is_none (status_table a (Cancel id)) ≡ false → (a ≡ Processing) × (status_table a (Cancel id) ≡ Some Resume)
-cancel-status x id e = grind (arith, nat_tests) steps 1500000
+cancel-status x id e = grind arith steps 1500000
 
 -- a package is not processed after all
 pub cancel-fit : (read : Reading) (s : NodeState) (client id : ℕ) → IsFit read s

@@ -48,10 +48,10 @@ pub data IsLate : Phase → Type 0 where
 
 -- in each of them the same is said of a transfer
 pub whole-in : (t : Transfer) (p q : Phase) → IsLate p → IsLate q → IsWholeFromTransferred t p → IsWholeFromTransferred t q
-whole-in t p q a b h = grind (arith, nat_tests) steps 500000
+whole-in t p q a b h = grind arith steps 500000
 
 read-in : (read : Reading) (t : Transfer) (p q : Phase) → IsLate p → IsLate q → IsRead read t p → IsRead read t q
-read-in read t p q a b h = grind (arith, nat_tests) steps 500000
+read-in read t p q a b h = grind arith steps 500000
 
 -- the transfers with one of them in another late phase
 module _ (s : NodeState) (client id : ℕ) (u : Transfer) (p : Phase) (q : Phase) (e : found client id s.transfers ≡ Some u) (phase : u.header.phase ≡ p) (a : IsLate p) (b : IsLate q) where
@@ -85,7 +85,7 @@ some-units (part ∷ parts) h =
 -- a unit that isn't the last
 pub more-fit : (read : Reading) (s : NodeState) (x : Session) (id : ℕ) → IsFit read s → Busy (record s { status = Processing }) (record x { processing = Some id }) → nat_lt (x.units_done + 1) (all_units (parts_of_id s x id)) ≡ true
     → IsFit read (record s { status = Processing; session = Some (record x { processing = Some id; units_done = x.units_done + 1 }) })
-more-fit read s x id fit v more = grind (arith, nat_tests, moved-fit, base-of, moved, ltb-true) steps 500000
+more-fit read s x id fit v more = grind arith steps 500000
 
 filter-none : {X : Type 0} (p : X → Bool) (xs : List X) → AllByRecursion (λ x. p x ≡ false) xs → filter p xs ≡ []
 filter-none p [] h = refl
@@ -111,16 +111,16 @@ names-of-parts (c ∷ cs) = ap (λ ns. cluster_of c.part ∷ ns) (names-of-parts
 -- a processed transfer isn't the one in processing
 not-planned : (id n : ℕ) (ts : List Transfer) → InProcessing (Some id) ts → is_processed ts n ≡ true → (n == id) ≡ false
 not-planned id n [] h k = absurd (cc)
-not-planned id n (t ∷ ts) h k = grind (arith, nat_tests, and_parts, eqb-true, not-planned id n ts h.1) steps 500000
+not-planned id n (t ∷ ts) h k = grind (arith, eqb-true, not-planned id n ts h.1) steps 500000
 
 -- a test that holds stays so where it does at each transfer
 any-still : (p : Transfer → Bool) (g : Transfer → Transfer) (ts : List Transfer) → AllByRecursion (λ t. p t ≡ true → p (g t) ≡ true) ts → list_any p ts ≡ true → list_any p (map g ts) ≡ true
 any-still p g [] h k = k
-any-still p g (t ∷ ts) h k = grind (arith, nat_tests, any-still p g ts h.1) steps 500000
+any-still p g (t ∷ ts) h k = grind (arith, any-still p g ts h.1) steps 500000
 
 any-found : (p q : Transfer → Bool) (g : Transfer → Transfer) (ts : List Transfer) (u : Transfer) → find q ts ≡ Some u → p (g u) ≡ true → list_any p (map g ts) ≡ true
 any-found p q g [] u e h = absurd (cc)
-any-found p q g (t ∷ ts) u e h = grind (arith, nat_tests, any-found p q g ts u) steps 500000
+any-found p q g (t ∷ ts) u e h = grind (arith, any-found p q g ts u) steps 500000
 
 -- the session after the last unit of a package
 abbrev later : Session → ℕ → List (Part Bytes) → Session
@@ -169,7 +169,7 @@ last-fit read s x id u fit v e = record {
     own-id = eq-eqb _ _ (found-is x.owner id s.transfers u e).0
 
     other-id : (t : Transfer) → (t.header.id == id) ≡ false → (id == t.header.id) ≡ false
-    other-id t n = grind (arith, nat_tests, n)
+    other-id t n = grind arith
 
     same : map (λ change. change.part) x.changes ++ parts_of (found x.owner id s.transfers) ≡ map (λ change. change.part) (x.changes ++ changes_of id u.parts) ++ []
     same =

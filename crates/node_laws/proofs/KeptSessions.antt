@@ -34,11 +34,11 @@ pub moved : (s : NodeState) (x : Session) (a b : Status) (running : List (Cluste
     → length (names_among {D = Bytes} (running ++ x.saved) [] (parts_in s x)) ≤ cluster_limit
     → Busy (record s { status = b; running = running }) (record x { units_done = done; verified = verified; outcome = o })
 moved s x a b running done verified o v due runs plans working unfinished leaves outcome names =
-    grind (arith, nat_tests) steps 500000
+    grind arith steps 500000
 
 pub moved-fit : (read : Reading) (s : NodeState) (x : Session) (b : Status) (running : List (Cluster Bytes)) → IsFit read s → names_rise (names_of running) ≡ true → Busy (record s { status = b; running = running }) x
     → IsFit read (record s { status = b; running = running; session = Some x })
-moved-fit read s x b running fit rise v = grind (arith, nat_tests, base-of, busy-is) steps 500000
+moved-fit read s x b running fit rise v = grind arith steps 500000
 
 pub or-true : (b : Bool) → (b || true) ≡ true
 or-true true = refl

@@ -29,7 +29,7 @@ held-started : (next client size : ℕ) (ts : List Transfer) → client < client
 held-started next client size ts low h small few room = record {
   each = each-append _ ts _ (each-imp _ _ later ts h.each) (own, tt);
   rise = ap numbers_rise (map-append (λ (t : Transfer). t.header.id) ts _) ∙ rise-append (ids ts) next h.rise (each-map _ _ ts (each-imp _ _ (λ t k. k.id.1) ts h.each));
-  next_id = (omega arith, grind (arith, nat_tests, h.next_id.1));
+  next_id = (omega arith, grind arith);
   few = rw (length-append ts) (omega (arith, leb-false _ _ few));
   sizes = each-append _ ts _ h.sizes ((ltb-false _ _ small, low), tt);
 }
@@ -55,7 +55,7 @@ start-fit read s client size low fit r =
 pub held-changed : (next client id : ℕ) (ts : List Transfer) (u : Transfer) (f : Transfer → Transfer) → Held next ts → KeepsNames f → found client id ts ≡ Some u
     → ((t : Transfer) → (f t).header.size ≡ t.header.size) → (IsSound next u → IsSound next (f u)) → Held next (map (changed id f) ts)
 held-changed next client id ts u f h k e size sound =
-    grind (arith, nat_tests, all-changed, ids-changed, length-map) steps 500000
+    grind (arith, all-changed, ids-changed, length-map) steps 500000
 
 pub changed-fit : (read : Reading) (s : NodeState) (client id : ℕ) (u : Transfer) (f : Transfer → Transfer) → IsFit read s → KeepsNames f → ((t : Transfer) → (f t).header.size ≡ t.header.size) → transfer_of s client id ≡ Some u
     → IsEarly u.header.phase → IsEarly (f u).header.phase → (IsSound s.next_id u → IsSound s.next_id (f u)) → IsRead read (f u) (f u).header.phase → IsFit read (record s { transfers = map (changed id f) s.transfers })
@@ -94,7 +94,7 @@ data-fit read s client id counter bytes fit r =
     sound u phase size some k = record {
       bytes = rw (length-append u.bytes) (ap (λ n. n + length bytes) k.bytes);
       size = size;
-      counter = (omega arith, grind (arith, nat_tests, k.counter.1, some));
+      counter = (omega arith, grind arith);
       whole = subst (IsWholeFromTransferred (block bytes u)) (sym phase) (subst (IsWholeFromTransferred u) phase k.whole);
       id = k.id;
     }

@@ -83,11 +83,11 @@ names-of-running s x running h few =
 -- the planned clusters run, and none is verified
 pub activate-fit : (read : Reading) (s : NodeState) (x : Session) → IsFit read s → Busy (record s { status = Activating }) x → IsFit read (activate_unit s x)
 activate-fit read s x fit v =
-    grind (arith, nat_tests, ltb-true, or-false, moved-fit, planned-rise, moved, names-of-running, planned-within) steps 500000
+    grind (arith, or-false, planned-rise, names-of-running, planned-within) steps 500000
 
 -- one change more is verified, or the node turns back
 pub verify-fit : (read : Reading) (s : NodeState) (x : Session) (passed : Bool) → IsFit read s → s.session ≡ Some x → Busy (record s { status = Verifying }) x → IsFit read (verify_unit s x passed)
-verify-fit read s x false fit e v = grind (arith, nat_tests, to-fit, moved) steps 500000
+verify-fit read s x false fit e v = grind arith steps 500000
 verify-fit read s x true fit e v = go (nat_lt (x.verified + 1) (length x.changes)) refl
   where
     rise : names_rise (names_of s.running) ≡ true
@@ -102,7 +102,7 @@ verify-fit read s x true fit e v = go (nat_lt (x.verified + 1) (length x.changes
 -- the saved clusters run again
 pub roll_back-fit : (read : Reading) (s : NodeState) (x : Session) → IsFit read s → s.session ≡ Some x → Busy (record s { status = RollingBack }) x → IsFit read (roll_back_unit s x)
 roll_back-fit read s x fit e v =
-    grind (arith, nat_tests, moved-fit, moved, names-of-running, within-left, names_of, changed_names, within-self) steps 500000
+    grind (arith, moved, names-of-running, within-left, names_of, changed_names, within-self) steps 500000
 
 -- the session is over
 pub clean_up-fit : (read : Reading) (s : NodeState) (x : Session) → IsFit read s → Busy (record s { status = CleaningUp }) x → IsFit read (clean_up_unit s x)

@@ -33,39 +33,39 @@ each-unmap P f (x ∷ xs) h = (h.0, each-unmap P f xs h.1)
 
 pub each-filter : {X : Type 0} (P : X → Type 0) (p : X → Bool) (xs : List X) → AllByRecursion P xs → AllByRecursion P (filter p xs)
 each-filter P p [] h = tt
-each-filter P p (x ∷ xs) h = grind (arith, nat_tests, each-filter P p xs h.1) steps 500000
+each-filter P p (x ∷ xs) h = grind (arith, each-filter P p xs h.1) steps 500000
 
 -- what passes a filter passes its test
 pub each-passes : {X : Type 0} (p : X → Bool) (xs : List X) → AllByRecursion (λ x. p x ≡ true) (filter p xs)
 each-passes p [] = tt
-each-passes {X} p (x ∷ xs) = grind (arith, nat_tests, each-passes p xs) steps 500000
+each-passes {X} p (x ∷ xs) = grind (arith, each-passes p xs) steps 500000
 
 pub length-filter : {X : Type 0} (p : X → Bool) (xs : List X) → length (filter p xs) ≤ length xs
 length-filter p [] = omega arith
-length-filter p (x ∷ xs) = grind (arith, nat_tests, length-filter p xs) steps 500000
+length-filter p (x ∷ xs) = grind (arith, length-filter p xs) steps 500000
 
 -- what a search finds passes its test and has each element's fact
 pub found-has : {X : Type 0} (p : X → Bool) (P : X → Type 0) (xs : List X) (x : X) → AllByRecursion P xs → find p xs ≡ Some x → (p x ≡ true) × P x
 found-has p P [] x h e = absurd (cc)
-found-has {X} p P (y ∷ ys) x h e = grind (arith, nat_tests, found-has p P ys x h.1) steps 500000
+found-has {X} p P (y ∷ ys) x h e = grind (arith, found-has p P ys x h.1) steps 500000
 
 -- a search goes through a filter that lets all that it looks for pass
 pub find-filter : {X : Type 0} (p q : X → Bool) → ((x : X) → p x ≡ true → q x ≡ true) → (xs : List X) → find p (filter q xs) ≡ find p xs
 find-filter p q f [] = refl
-find-filter {X} p q f (x ∷ xs) = grind (arith, nat_tests, find-filter p q f xs) steps 500000
+find-filter {X} p q f (x ∷ xs) = grind (arith, find-filter p q f xs) steps 500000
 
 -- and so does the test that some element passes
 pub any-filter : {X : Type 0} (p q : X → Bool) (xs : List X) → AllByRecursion (λ x. p x ≡ true → q x ≡ true) xs → list_any p xs ≡ true → list_any p (filter q xs) ≡ true
 any-filter p q [] f h = h
-any-filter {X} p q (x ∷ xs) f h = grind (arith, nat_tests, any-filter p q xs f.1) steps 500000
+any-filter {X} p q (x ∷ xs) f h = grind (arith, any-filter p q xs f.1) steps 500000
 
 pub any-more : {X : Type 0} (p : X → Bool) (xs ys : List X) → list_any p xs ≡ true → list_any p (xs ++ ys) ≡ true
 any-more p [] ys h = absurd (cc)
-any-more p (x ∷ xs) ys h = grind (arith, nat_tests, any-more p xs ys) steps 500000
+any-more p (x ∷ xs) ys h = grind (arith, any-more p xs ys) steps 500000
 
 -- numbers that rise
 pub rise-tail : (a : ℕ) (ns : List ℕ) → numbers_rise (a ∷ ns) ≡ true → numbers_rise ns ≡ true
-rise-tail a x r = grind (arith, nat_tests, and_parts) steps 1500000
+rise-tail a x r = grind arith steps 1500000
 
 pub rise-above : (a : ℕ) (ns : List ℕ) → numbers_rise (a ∷ ns) ≡ true → AllByRecursion (λ n. a < n) ns
 rise-above a [] r = tt
@@ -75,11 +75,11 @@ rise-above a (b ∷ ns) r =
     (first, each-imp _ _ (λ n h. omega (arith, first, h)) ns (rise-above b ns parts.1))
 
 rise-onto : (a : ℕ) (ns : List ℕ) → AllByRecursion (λ n. a < n) ns → numbers_rise ns ≡ true → numbers_rise (a ∷ ns) ≡ true
-rise-onto a x h r = grind (arith, nat_tests, lt-ltb) steps 1500000
+rise-onto a x h r = grind arith steps 1500000
 
 pub rise-append : (ns : List ℕ) (n : ℕ) → numbers_rise ns ≡ true → AllByRecursion (λ m. m < n) ns → numbers_rise (ns ++ n ∷ []) ≡ true
 rise-append [] n r b = refl
-rise-append (a ∷ []) n r b = grind (arith, nat_tests, b.0)
+rise-append (a ∷ []) n r b = grind arith
 rise-append (a ∷ c ∷ ns) n r b =
     let parts = and_parts (nat_lt a c) (numbers_rise (c ∷ ns)) r in
     both_true parts.0 (rise-append (c ∷ ns) n parts.1 b.1)

@@ -22,7 +22,7 @@ pub eq-name : (a b : List ℕ) → a ≡ b → bytes_eq a b ≡ true
 eq-name a b e = (bytes_eq-Decides a b).1 e
 
 pub name-swap : (a b : List ℕ) → bytes_eq a b ≡ bytes_eq b a
-name-swap a b = grind (arith, nat_tests, eq-name, name-eq) steps 500000
+name-swap a b = grind (arith, eq-name, name-eq) steps 500000
 
 -- all names of one list are in another
 abbrev pub Within : List (List ℕ) → List (List ℕ) → Type 0
@@ -47,7 +47,7 @@ within-self (x ∷ xs) = (has-self x xs, within-more xs xs x (within-self xs))
 
 pub has-append : (xs ys : List (List ℕ)) (n : List ℕ) → has_name (xs ++ ys) n ≡ (has_name xs n || has_name ys n)
 has-append [] ys n = refl
-has-append (x ∷ xs) ys n = grind (arith, nat_tests, has-append xs ys n) steps 500000
+has-append (x ∷ xs) ys n = grind (arith, has-append xs ys n) steps 500000
 
 pub within-left : (zs xs ys : List (List ℕ)) → Within zs xs → Within zs (xs ++ ys)
 within-left zs xs ys h = each-imp _ _ (λ z k. has-append xs ys z ∙ ap (λ b. b || has_name ys z) k) zs h
@@ -81,7 +81,7 @@ still-has n x (y ∷ ys) e = go (bytes_eq n y) refl (still-has n x ys e)
 
 apart-none : (n : List ℕ) (ys : List (List ℕ)) → has_name ys n ≡ false → apart_from n ys ≡ ys
 apart-none n [] e = refl
-apart-none n (y ∷ ys) e = grind (arith, nat_tests, apart-none n ys) steps 500000
+apart-none n (y ∷ ys) e = grind (arith, apart-none n ys) steps 500000
 
 abbrev CountsOnce : List ℕ → List (List ℕ) → Type 0
 CountsOnce n ys = length (different_names ys) ≡ 1 + length (different_names (apart_from n ys))
@@ -90,11 +90,11 @@ CountsOnce n ys = length (different_names ys) ≡ 1 + length (different_names (a
 one-less : (n : List ℕ) (ys : List (List ℕ)) → has_name ys n ≡ true → CountsOnce n ys
 one-less n [] e = absurd (cc)
 one-less n (y ∷ ys) e =
-    grind (arith, nat_tests, name-eq, apart-none, still-has, name-swap, one-less n ys) steps 500000
+    grind (arith, name-eq, apart-none, still-has, name-swap, one-less n ys) steps 500000
 
 none-is : (xs : List (List ℕ)) (n : List ℕ) → has_name xs n ≡ false → AllByRecursion (λ x. bytes_eq x n ≡ false) xs
 none-is [] n e = tt
-none-is (x ∷ xs) n e = grind (arith, nat_tests, name-swap, none-is xs n) steps 500000
+none-is (x ∷ xs) n e = grind (arith, name-swap, none-is xs n) steps 500000
 
 -- names that are all in another list are not more
 pub fewer-within : (xs ys : List (List ℕ)) → Within xs ys → length (different_names xs) ≤ length (different_names ys)
@@ -110,7 +110,7 @@ fewer-within (x ∷ xs) ys h = go (has_name xs x) refl (fewer-within xs ys h.1) 
 
 -- one name more is at most one more
 pub one-more : (xs : List (List ℕ)) (n : List ℕ) → length (different_names (n ∷ xs)) ≤ length (different_names xs) + 1
-one-more xs n = grind (arith, nat_tests) steps 500000
+one-more xs n = grind arith steps 500000
 
 -- the order of names
 pub lt-trans : (a b c : List ℕ) → name_lt a b ≡ true → name_lt b c ≡ true → name_lt a c ≡ true
@@ -125,7 +125,7 @@ abbrev pub Behind : List ℕ → List (List ℕ) → Type 0
 Behind a ns = AllByRecursion (λ n. name_lt a n ≡ true) ns
 
 pub names-tail : (a : List ℕ) (ns : List (List ℕ)) → names_rise (a ∷ ns) ≡ true → names_rise ns ≡ true
-names-tail a x r = grind (arith, nat_tests, and_parts) steps 1500000
+names-tail a x r = grind arith steps 1500000
 
 pub names-behind : (a : List ℕ) (ns : List (List ℕ)) → names_rise (a ∷ ns) ≡ true → Behind a ns
 names-behind a [] r = tt
@@ -134,13 +134,13 @@ names-behind a (b ∷ ns) r =
     (parts.0, each-imp _ _ (λ n h. lt-trans a b n parts.0 h) ns (names-behind b ns parts.1))
 
 pub names-onto : (a : List ℕ) (ns : List (List ℕ)) → Behind a ns → names_rise ns ≡ true → names_rise (a ∷ ns) ≡ true
-names-onto a x h r = grind (arith, nat_tests) steps 1500000
+names-onto a x h r = grind arith steps 1500000
 
 -- names before one, that one, and names behind it
 pub names-around : (xs : List (List ℕ)) (n : List ℕ) (ys : List (List ℕ)) → names_rise xs ≡ true → AllByRecursion (λ x. name_lt x n ≡ true) xs → names_rise (n ∷ ys) ≡ true → names_rise (xs ++ n ∷ ys) ≡ true
 names-around [] n ys r h k = k
 names-around (x ∷ xs) n ys r h k =
-    grind (arith, nat_tests, names-onto, each-append, names-behind, each-imp, lt-trans, names-tail, names-around xs n ys (names-tail x xs r) h.1 k) steps 500000
+    grind (arith, each-append, each-imp, names-tail, names-around xs n ys (names-tail x xs r) h.1 k) steps 500000
 
 pub names-filter : {X : Type 0} (f : X → List ℕ) (p : X → Bool) (xs : List X) → names_rise (map f xs) ≡ true → names_rise (map f (filter p xs)) ≡ true
 names-filter f p [] r = refl

@@ -31,7 +31,7 @@ with-rise c cs r =
     (names-onto c.name (names_of behind) (each-map _ _ behind (each-passes _ cs)) (names-filter _ _ cs r))
 
 changed-rise : (part : Part Bytes) (cs : List (Cluster Bytes)) → names_rise (names_of cs) ≡ true → names_rise (names_of (changed_by part cs)) ≡ true
-changed-rise part cs r = grind (arith, nat_tests, names-filter, with-rise) steps 500000
+changed-rise part cs r = grind (arith, names-filter, with-rise) steps 500000
 
 pub planned-rise : (changes : List (Change Bytes)) (cs : List (Cluster Bytes)) → names_rise (names_of cs) ≡ true → names_rise (names_of (planned changes cs)) ≡ true
 planned-rise [] cs r = r

@@ -20,7 +20,7 @@ rows-clear ((false, r) ∷ rows) e = (refl, rows-clear rows e)
 rows-clear ((true, r) ∷ rows) e = absurd (cc)
 
 pub both-none : {X : Type 0} (o q : Option X) → option_or o q ≡ None → (o ≡ None) × (q ≡ None)
-both-none x q e = grind (arith, nat_tests) steps 1500000
+both-none x q e = grind arith steps 1500000
 
 pub neither : (a b : Bool) → (a || b) ≡ false → (a ≡ false) × (b ≡ false)
 neither false b e = (refl, e)
@@ -39,16 +39,16 @@ or-false true e = refl
 or-false false e = absurd (cc)
 
 pub some-header : (o : Option Transfer) → is_none (header_of o) ≡ false → (u : Transfer) × (o ≡ Some u)
-some-header x e = grind (arith, nat_tests) steps 1500000
+some-header x e = grind arith steps 1500000
 
 pub some-transfer : (o : Option Transfer) → is_none o ≡ false → (u : Transfer) × (o ≡ Some u)
-some-transfer x e = grind (arith, nat_tests) steps 1500000
+some-transfer x e = grind arith steps 1500000
 
 pub is-transferring : (h : Header) → is_in Transferring h ≡ true → h.phase ≡ Transferring
-is-transferring h e = grind (arith, nat_tests) steps 500000
+is-transferring h e = grind arith steps 500000
 
 pub is-transferred : (h : Header) → is_in Transferred h ≡ true → h.phase ≡ Transferred
-is-transferred h e = grind (arith, nat_tests) steps 500000
+is-transferred h e = grind arith steps 500000
 
 pub is-processing : (h : Header) → is_in BeingProcessed h ≡ true → h.phase ≡ BeingProcessed
-is-processing h e = grind (arith, nat_tests) steps 500000
+is-processing h e = grind arith steps 500000
