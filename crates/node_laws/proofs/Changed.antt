@@ -1,11 +1,10 @@
 -- One transfer changes, and the others stay.
-use Rattle.std.proofs.lemmas.Bool.Decides.{nat_tests}
 use Rattle.std.proofs.Common.{◌≡◌, refl, sym, subst, ap, ℕ, ◌<◌, Bool, true, false, List, [], ◌∷◌, cond, arith}
-use Rattle.std.specs.Prelude.{◌==◌, ◌||◌, if◌then◌else◌, option_map, Option, Some, None, find, map}
+use Rattle.std.specs.Prelude.{◌==◌, ◌||◌, if◌then◌else◌, option_map, Option, Some, find, map}
 use Rattle.std.specs.List.{list_any, AllByRecursion}
 use Rattle.std.proofs.lemmas.Bool.{and_parts, eqb-true}
 use Rattle.pm_types.specs.NodeState.{Transfer}
-use Rattle.pm_types.specs.Transfers.{is_of, parts_of}
+use Rattle.pm_types.specs.Transfers.{is_of}
 use Rattle.pm_types.specs.Validity.{numbers_rise}
 use Rattle.node_laws.proofs.Lists.{each-imp, each-both, each-map, each-unmap, found-has, rise-above, rise-tail}
 
@@ -81,7 +80,3 @@ ids-changed id f k (t ∷ ts) = grind (arith, ids-changed id f k ts) steps 50000
 pub found-changed : (owner n id : ℕ) (f : Transfer → Transfer) → KeepsNames f → (ts : List Transfer) → found owner n (map (changed id f) ts) ≡ option_map (changed id f) (found owner n ts)
 found-changed owner n id f k [] = refl
 found-changed owner n id f k (t ∷ ts) = grind (arith, found-changed owner n id f k ts) steps 500000
-
--- the parts of what is found, where the change leaves them
-pub parts-changed : (id : ℕ) (f : Transfer → Transfer) → ((t : Transfer) → (f t).parts ≡ t.parts) → (o : Option Transfer) → parts_of (option_map (changed id f) o) ≡ parts_of o
-parts-changed id f k x = grind arith steps 1500000

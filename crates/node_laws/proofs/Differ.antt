@@ -1,5 +1,4 @@
 -- A package that isn't refused leaves the names of planned parts different, and not too many.
-use Rattle.std.proofs.lemmas.Bool.Decides.{nat_tests}
 use Rattle.std.proofs.Common.{◌≡◌, refl, sym, subst, ap, ◌∙◌, ℕ, ◌≤◌, Bool, true, false, List, [], ◌∷◌, ◌++◌, length, append_assoc, arith}
 use Rattle.std.specs.Prelude.{not, ◌&&◌, ◌||◌, map, nat_le, None}
 use Rattle.std.specs.List.{list_any, AllByRecursion}
@@ -8,7 +7,7 @@ use Rattle.std.specs.Cmp.Derive.{both_true}
 use Rattle.std.proofs.lemmas.Bool.{and_parts, leb-false}
 use Rattle.std.proofs.lemmas.List.{map-append, append-nil}
 use Rattle.ucm_base.specs.declared.parts.Action.{Action}
-use Rattle.ucm_base.specs.declared.parts.Action.TheVariants.{Install, Update, Remove}
+use Rattle.ucm_base.specs.declared.parts.Action.TheVariants.{Install}
 use Rattle.ucm_base.specs.Limits.{cluster_limit}
 use Rattle.ucm_base.specs.Names.{all_differ, has_name, different_names}
 use Rattle.ucm_base.specs.Parts.{Bytes}

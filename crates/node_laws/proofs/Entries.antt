@@ -1,7 +1,6 @@
 -- A reply that is kept and an entry with its line leave a state fit.
-use Rattle.std.proofs.lemmas.Bool.Decides.{nat_tests}
-use Rattle.std.proofs.Common.{◌≡◌, refl, ◌∙◌, ℕ, zero, suc, ◌+◌, ◌-◌, ◌≤◌, true, List, [], ◌∷◌, ◌++◌, length, drop, length-append, length-drop, add-zero, arith}
-use Rattle.std.specs.Prelude.{◌==◌, min, Option, Some, None}
+use Rattle.std.proofs.Common.{◌≡◌, refl, ℕ, zero, suc, ◌+◌, ◌-◌, ◌≤◌, true, List, [], ◌∷◌, ◌++◌, length, drop, length-append, length-drop, add-zero, arith}
+use Rattle.std.specs.Prelude.{◌==◌, min, Option, Some}
 use Rattle.std.specs.Cmp.Derive.{both_true}
 use Rattle.std.proofs.Math.ListN.{length-set}
 use Rattle.std.proofs.lemmas.Bool.{and_parts, eq-eqb}
@@ -11,10 +10,10 @@ use Rattle.pm_types.specs.declared.history.Happened.{Happened}
 use Rattle.pm_types.specs.declared.history.Line.{Line}
 use Rattle.pm_types.specs.declared.replies.Reply.{Reply}
 use Rattle.pm_types.specs.declared.state.Kept.{Kept}
-use Rattle.pm_types.specs.NodeState.{NodeState, Session}
+use Rattle.pm_types.specs.NodeState.{NodeState}
 use Rattle.pm_types.specs.Steps.{newest, with_entry, with_kept}
 use Rattle.pm_types.specs.Histories.{Reading}
-use Rattle.pm_types.specs.Validity.{ChangesAreDue, places_from}
+use Rattle.pm_types.specs.Validity.{places_from}
 use Rattle.node_laws.specs.Fit.{IsFit}
 
 places-append : (place : ℕ) (ls : List Line) (l : Line) → places_from place ls ≡ true → l.place ≡ place + length ls → places_from place (ls ++ l ∷ []) ≡ true

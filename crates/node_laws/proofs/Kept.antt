@@ -1,9 +1,8 @@
 -- What a node does leaves its state fit.
-use Rattle.std.proofs.lemmas.Bool.Decides.{nat_tests}
 use Rattle.std.proofs.Common.{◌≡◌, refl, sym, subst, ap, ℕ, ◌+◌, ◌<◌, Bool, true, false, List, [], ◌∷◌, arith}
 use Rattle.std.specs.Prelude.{nat_lt, option_map, option_and_then, unwrap_or, if◌then◌else◌, Option, Some, None}
 use Rattle.std.specs.declared.cmp.Ordering.{Ordering}
-use Rattle.std.specs.declared.cmp.Ordering.TheVariants.{Less, Equal, Greater}
+use Rattle.std.specs.declared.cmp.Ordering.TheVariants.{Greater}
 use Rattle.ucm_base.specs.Limits.{client_limit}
 use Rattle.ucm_base.specs.Parts.{Bytes}
 use Rattle.ucm_base.specs.declared.ids.CallNo.{CallNo}
@@ -16,9 +15,9 @@ use Rattle.pm_types.specs.declared.history.Happened.TheVariants.{Unit as UnitLin
 use Rattle.pm_types.specs.declared.replies.Reached.TheVariants.{Done as Answered}
 use Rattle.pm_types.specs.declared.replies.Refusal.{Refusal}
 use Rattle.pm_types.specs.declared.replies.Reply.{Reply}
-use Rattle.pm_types.specs.declared.replies.Reply.TheVariants.{Done, Started, Synced, Refused}
+use Rattle.pm_types.specs.declared.replies.Reply.TheVariants.{Refused}
 use Rattle.pm_types.specs.declared.status.Status.{Status}
-use Rattle.pm_types.specs.declared.status.Status.TheVariants.{Idle, Ready, Processing, Activating, Verifying, Activated, RollingBack, RolledBack, CleaningUp}
+use Rattle.pm_types.specs.declared.status.Status.TheVariants.{Processing, Activating, Verifying, RollingBack, CleaningUp}
 use Rattle.pm_types.specs.declared.state.Kept.{Kept}
 use Rattle.pm_types.specs.NodeState.{NodeState, Session, of_client}
 use Rattle.pm_types.specs.Clusters.{all_units}

@@ -4,7 +4,6 @@ use Rattle.std.specs.Prelude.{◌==◌, ◌&&◌, ◌||◌, not, nat_lt, is_some
 use Rattle.std.specs.Option.{option_or, option_map_or}
 use Rattle.std.specs.List.{AllByRecursion}
 use Rattle.std.proofs.lemmas.Bool.{eqb-true, eq-eqb, lt-ltb}
-use Rattle.std.proofs.lemmas.Bool.Decides.{nat_tests}
 use Rattle.std.proofs.lemmas.List.{map-append, append-nil}
 use Rattle.ucm_base.specs.Limits.{client_limit, cluster_limit}
 use Rattle.ucm_base.specs.Names.{all_differ, names_rise}
@@ -17,7 +16,7 @@ use Rattle.pm_types.specs.declared.replies.Refusal.TheVariants.{OperationNotPerm
 use Rattle.pm_types.specs.declared.status.Outcome.{Outcome}
 use Rattle.pm_types.specs.declared.status.Outcome.TheVariants.{Old}
 use Rattle.pm_types.specs.declared.status.Phase.{Phase}
-use Rattle.pm_types.specs.declared.status.Phase.TheVariants.{Transferring, Transferred, Processing as BeingProcessed, Processed}
+use Rattle.pm_types.specs.declared.status.Phase.TheVariants.{Transferred, Processing as BeingProcessed, Processed}
 use Rattle.pm_types.specs.declared.status.Status.{Status}
 use Rattle.pm_types.specs.declared.status.Status.TheVariants.{Idle, Ready, Processing, CleaningUp}
 use Rattle.pm_types.specs.NodeState.{NodeState, Session, Transfer, is_in, has_status, some_passes, phase_code}

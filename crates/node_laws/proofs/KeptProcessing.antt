@@ -1,9 +1,8 @@
 -- Processing a package: the call that begins it, a unit of it, its last unit, and the call that stops it.
 use Rattle.std.proofs.Common.{◌≡◌, refl, sym, subst, ap, ◌∙◌, ℕ, ◌+◌, ◌<◌, ◌≤◌, Bool, true, false, List, [], ◌∷◌, ◌++◌, length, length-append, arith}
-use Rattle.std.specs.Prelude.{◌==◌, ◌&&◌, ◌||◌, nat_lt, cond, filter, find, map, IsSomeAnd, Option, Some, None}
+use Rattle.std.specs.Prelude.{◌==◌, ◌&&◌, ◌||◌, nat_lt, filter, find, map, Option, Some, None}
 use Rattle.std.specs.List.{list_any, AllByRecursion}
-use Rattle.std.proofs.lemmas.Bool.{and_parts, eqb-true, eq-eqb, ltb-true, lt-ltb}
-use Rattle.std.proofs.lemmas.Bool.Decides.{nat_tests}
+use Rattle.std.proofs.lemmas.Bool.{and_parts, eqb-true, eq-eqb, lt-ltb}
 use Rattle.std.specs.Cmp.Derive.{both_true}
 use Rattle.std.proofs.lemmas.List.{map-append, append-nil}
 use Rattle.std.proofs.lemmas.List.Sums.{sum_by-cons}
@@ -14,13 +13,13 @@ use Rattle.ucm_base.specs.Parts.{Bytes}
 use Rattle.pm_types.specs.declared.clusters.Change.{Change}
 use Rattle.pm_types.specs.declared.clusters.Part.{Part}
 use Rattle.pm_types.specs.declared.status.Phase.{Phase}
-use Rattle.pm_types.specs.declared.status.Phase.TheVariants.{Transferring, Transferred, Processing as BeingProcessed, Processed}
+use Rattle.pm_types.specs.declared.status.Phase.TheVariants.{Transferred, Processing as BeingProcessed, Processed}
 use Rattle.pm_types.specs.declared.status.Status.{Status}
 use Rattle.pm_types.specs.declared.status.Status.TheVariants.{Ready, Processing}
-use Rattle.pm_types.specs.NodeState.{NodeState, Session, Transfer, is_in, some_passes, phase_code}
+use Rattle.pm_types.specs.NodeState.{NodeState, Session, Transfer, is_in, some_passes}
 use Rattle.pm_types.specs.Clusters.{cluster_of, changes_of, units_of, all_units}
 use Rattle.pm_types.specs.Sessions.{names_among}
-use Rattle.pm_types.specs.Transfers.{is_of, transfer_of, parts_of, in_phase}
+use Rattle.pm_types.specs.Transfers.{is_of, parts_of, in_phase}
 use Rattle.pm_types.specs.Histories.{Reading}
 use Rattle.pm_types.specs.Validity.{IsSound, IsWholeFromTransferred, IsPlannedWhole, is_processed, PartsApply}
 use Rattle.pm_types.specs.Work.{processed, parts_of_id}
@@ -31,7 +30,6 @@ use Rattle.node_laws.proofs.Changed.{found, found-is, changed, each-changed, all
 use Rattle.node_laws.proofs.Refusals.{is-processing}
 use Rattle.node_laws.proofs.Sessions.{Held, Base, Busy, InProcessing, base-of, busy-is}
 use Rattle.node_laws.proofs.KeptTransfers.{held-changed}
-use Rattle.node_laws.proofs.KeptSessions.{moved, moved-fit}
 
 -- a transfer in another phase
 abbrev pub rephased : Phase → Transfer → Transfer

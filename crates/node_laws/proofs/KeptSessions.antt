@@ -1,5 +1,4 @@
 -- Calls that move a session from one status to another leave a state fit.
-use Rattle.std.proofs.lemmas.Bool.Decides.{nat_tests}
 use Rattle.std.proofs.Common.{◌≡◌, refl, sym, subst, ℕ, ◌≤◌, Bool, true, false, List, [], ◌++◌, length, arith}
 use Rattle.std.specs.Prelude.{◌||◌, nat_lt, is_some, is_none, option_map, IfSome, Option, Some, None}
 use Rattle.std.specs.Option.{option_map_or}
@@ -21,7 +20,7 @@ use Rattle.pm_types.specs.Validity.{SessionIsDue, should_run, LeavesOneToVerify,
 use Rattle.node_laws.specs.Fit.{IsFit}
 use Rattle.node_laws.proofs.Planned.{names_of}
 use Rattle.node_laws.proofs.Refusals.{rows-clear}
-use Rattle.node_laws.proofs.Sessions.{Busy, IsUnfinished, base-of, busy-of, busy-is}
+use Rattle.node_laws.proofs.Sessions.{Busy, IsUnfinished, base-of, busy-of}
 
 -- a state in a status, as it is
 pub at-status : (s : NodeState) (x : Session) (a : Status) → s.status ≡ a → Busy s x → Busy (record s { status = a }) x

@@ -1,6 +1,5 @@
 -- Units of work, beside those in Processing, leave a state fit.
-use Rattle.std.proofs.lemmas.Bool.Decides.{nat_tests}
-use Rattle.std.proofs.Common.{◌≡◌, refl, sym, subst, ap, ◌∙◌, ℕ, ◌+◌, ◌<◌, ◌≤◌, Bool, true, false, List, [], ◌∷◌, ◌++◌, length, arith}
+use Rattle.std.proofs.Common.{◌≡◌, refl, sym, subst, ap, ◌∙◌, ℕ, ◌+◌, ◌≤◌, Bool, true, false, List, [], ◌∷◌, ◌++◌, length, arith}
 use Rattle.std.specs.Prelude.{◌||◌, not, nat_lt, if◌then◌else◌, filter, map, slice_set, Some}
 use Rattle.std.proofs.Math.ListN.{length-set}
 use Rattle.std.proofs.lemmas.Bool.{ltb-true}
@@ -11,9 +10,9 @@ use Rattle.pm_types.specs.declared.clusters.Cluster.{Cluster}
 use Rattle.pm_types.specs.declared.clusters.Change.{Change}
 use Rattle.pm_types.specs.declared.clusters.Part.{Part}
 use Rattle.pm_types.specs.declared.status.Phase.TheVariants.{Processing as BeingProcessed, Processed}
-use Rattle.pm_types.specs.declared.status.Status.TheVariants.{Idle, Activating, Verifying, Activated, RollingBack, RolledBack, CleaningUp}
+use Rattle.pm_types.specs.declared.status.Status.TheVariants.{Idle, Activating, Verifying, Activated, RollingBack, CleaningUp}
 use Rattle.pm_types.specs.NodeState.{NodeState, Session, Transfer, is_in}
-use Rattle.pm_types.specs.Clusters.{cluster_of, planned}
+use Rattle.pm_types.specs.Clusters.{cluster_of}
 use Rattle.pm_types.specs.Sessions.{names_among}
 use Rattle.std.specs.Option.{option_map_or}
 use Rattle.ucm_base.specs.Names.{names_rise}
@@ -26,7 +25,7 @@ use Rattle.node_laws.proofs.NameLists.{Within, within-self, within-left, within-
 use Rattle.node_laws.proofs.Planned.{names_of, changed_names, planned-rise, planned-within}
 use Rattle.node_laws.proofs.Refusals.{neither, not-true, or-false}
 use Rattle.node_laws.proofs.Sessions.{Busy, base-of, free-is}
-use Rattle.node_laws.proofs.KeptSessions.{moved, moved-fit, to-fit}
+use Rattle.node_laws.proofs.KeptSessions.{moved, moved-fit}
 
 -- names of clusters and of further parts
 abbrev pub all_of : List (Cluster Bytes) → List (Part Bytes) → List (List ℕ)

@@ -1,7 +1,7 @@
 -- The history that calls make is legal.
 use Rattle.std.proofs.Common.{◌≡◌, ◌++◌, ◌∙◌, [], ◌∷◌, Option, Some, None, refl, ap}
 use Rattle.std.specs.declared.cmp.Ordering.{Ordering}
-use Rattle.std.specs.declared.cmp.Ordering.TheVariants.{Less, Equal, Greater}
+use Rattle.std.specs.declared.cmp.Ordering.TheVariants.{Greater}
 use Rattle.pm_types.specs.declared.replies.Reached.{Reached}
 use Rattle.pm_types.specs.declared.state.Kept.{Kept}
 use Rattle.pm_types.specs.NodeState.{NodeState, of_client}

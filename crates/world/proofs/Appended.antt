@@ -1,14 +1,12 @@
 -- One more entry of a history, and one more event of the master's list.
-use Rattle.std.proofs.Common.{arith}
-use Rattle.std.proofs.lemmas.Bool.Decides.{nat_tests}
-use Rattle.std.proofs.Common.{◌≡◌, refl, sym, ap, subst, ◌∙◌, inl, inr, ℕ, List, [], ◌∷◌, ◌++◌}
+use Rattle.std.proofs.Common.{arith, ◌≡◌, refl, sym, ap, subst, ◌∙◌, inl, inr, ℕ, List, [], ◌∷◌, ◌++◌}
 use Rattle.std.specs.Prelude.{option_map, Option, Some, None}
 use Rattle.pm_types.specs.declared.history.Entry.{Entry}
 use Rattle.pm_types.specs.NodeState.{NodeState}
 use Rattle.pm_types.specs.Histories.{Reading, after_entry, state_after}
 use Rattle.campaign_core.specs.declared.events.CampaignResult.{CampaignResult}
 use Rattle.campaign_core.specs.declared.events.MasterEvent.{MasterEvent}
-use Rattle.campaign_core.specs.declared.events.MasterEvent.TheVariants.{Start, Begin, PhaseTo, VoteOf, CancelAsked, Decide, EndedAt, Enter}
+use Rattle.campaign_core.specs.declared.events.MasterEvent.TheVariants.{Enter}
 use Rattle.campaign_core.specs.declared.fold.Current.{Current}
 use Rattle.campaign_core.specs.declared.fold.Fold.{Fold}
 use Rattle.campaign_core.specs.Campaign.{after_event, campaign_from, campaign, nothing_yet, entered}
@@ -43,7 +41,7 @@ in-last e (x ∷ xs) = inr (in-last e xs)
 
 -- an earlier campaign stays one
 stays : (f : Fold) (e : MasterEvent) (x : ℕ × CampaignResult) → InEarlier x f.earlier → InEarlier x (after_event f e).earlier
-stays f x y h = grind (arith, nat_tests, in-more) steps 1500000
+stays f x y h = grind (arith, in-more) steps 1500000
 
 all-stay : (f : Fold) (es : List MasterEvent) (x : ℕ × CampaignResult) → InEarlier x f.earlier → InEarlier x (campaign_from f es).earlier
 all-stay f [] x h = h

@@ -1,7 +1,5 @@
 -- What the node is at each stage of the rounds: kept by foreign calls and units, and led on by the stage's call. From the laws of a node alone.
-use Rattle.std.proofs.Common.{arith}
-use Rattle.std.proofs.lemmas.Bool.Decides.{nat_tests}
-use Rattle.std.proofs.Common.{◌≡◌, ◌≢◌, ◌⊎◌, inl, inr, ℕ, zero, suc, List, [], ◌∷◌, ◌++◌, length, take, drop, Some, None, Bool, refl, sym, ◌∙◌, ap, subst, append_assoc}
+use Rattle.std.proofs.Common.{arith, ◌≡◌, ◌≢◌, ◌⊎◌, inl, inr, ℕ, zero, suc, List, [], ◌∷◌, ◌++◌, length, take, drop, Some, None, Bool, refl, sym, ◌∙◌, ap, subst, append_assoc}
 use Rattle.std.specs.List.{Contains, flat_map}
 use Rattle.std.proofs.lemmas.List.{take-append-drop, append-nil}
 use Rattle.std.proofs.lemmas.List.Elements.{Contains-push, Contains-append_left}
@@ -20,7 +18,7 @@ use Rattle.world.proofs.EarlyFacts.{Hold, Apart, Has, Sends, Fills, Activates, I
 module _ (N : NodeRules) (laws : NodeLaws N) where
   hold-same : (s t : N.State) → KeepsTransfers N s t → (ids : List ℕ) (ps : List (List ℕ)) → Hold N s ids ps → Hold N t ids ps
   hold-same s t keeps [] [] h = tt
-  hold-same s t keeps (id ∷ ids) (p ∷ ps) h = grind (arith, nat_tests, hold-same s t keeps ids ps h.2) steps 500000
+  hold-same s t keeps (id ∷ ids) (p ∷ ps) h = grind (arith, hold-same s t keeps ids ps h.2) steps 500000
   hold-same s t keeps _ _ h = absurd h
 
   -- all that these transfers need is that they stay, and that no other than id changes
@@ -41,11 +39,11 @@ module _ (N : NodeRules) (laws : NodeLaws N) where
   hold-push s _ _ id p h there e = absurd h
 
   has-same : (s t : N.State) → KeepsTransfers N s t → KeepsSession N s t → (k : ℕ) (changes : List N.Change) → Has N s k changes → Has N t k changes
-  has-same s t transfers session k changes h = grind (arith, nat_tests) steps 500000
+  has-same s t transfers session k changes h = grind arith steps 500000
 
   -- a step that keeps client 0's transfers, and its session or that it has none
   pub at-same : (s t : N.State) → KeepsTransfers N s t → (N.mine s ≡ None → N.mine t ≡ None) → ((tag : ℕ) → N.mine s ≡ Some tag → KeepsSession N s t) → (k : ℕ) (ps : List (List ℕ)) (stage : Stage) → IsAt N s k ps stage → IsAt N t k ps stage
-  at-same s t transfers none session k ps x h = grind (arith, nat_tests, hold-same, has-same) steps 1500000
+  at-same s t transfers none session k ps x h = grind (arith, hold-same, has-same) steps 1500000
 
   pub at-foreign : (s : N.State) (call : N.ForeignCall) (k : ℕ) (ps : List (List ℕ)) (stage : Stage) → IsAt N s k ps stage → IsAt N (N.foreign s call) k ps stage
   at-foreign s call = at-same s (N.foreign s call) (laws.foreign_transfers s call) (laws.foreign_none s call) (laws.foreign_session s call)
@@ -55,7 +53,7 @@ module _ (N : NodeRules) (laws : NodeLaws N) where
 
   -- where client 0 has a session at a stage, it is not being cleaned up
   pub at-not_cleaning : (s : N.State) (k tag : ℕ) (ps : List (List ℕ)) (stage : Stage) → IsAt N s k ps stage → N.mine s ≡ Some tag → N.status s ≢ CleaningUp
-  at-not_cleaning s k tag ps x h mine e = grind (arith, nat_tests) steps 1500000
+  at-not_cleaning s k tag ps x h mine e = grind arith steps 1500000
 
   -- a unit
   has-unit : (s : N.State) (passed : Bool) (k : ℕ) (changes : List N.Change) → Has N s k changes → Has N (N.unit s passed) k changes × KeepsTransfers N s (N.unit s passed)
@@ -80,7 +78,7 @@ module _ (N : NodeRules) (laws : NodeLaws N) where
       ]
 
   at-none_unit : (s : N.State) (passed : Bool) (k : ℕ) (ps : List (List ℕ)) (stage : Stage) → N.mine s ≡ None → IsAt N s k ps stage → IsAt N (N.unit s passed) k ps stage
-  at-none_unit s passed k ps stage none = grind (arith, nat_tests, laws.unit_none, at-same) steps 500000
+  at-none_unit s passed k ps stage none = grind (arith, at-same) steps 500000
 
   pub at-unit : (s : N.State) (passed : Bool) (k : ℕ) (ps : List (List ℕ)) (stage : Stage) → IsAt N s k ps stage → IsAt N (N.unit s passed) k ps stage
   at-unit s passed k ps At_sync h = at-none_unit s passed k ps At_sync h h
@@ -112,13 +110,13 @@ module _ (N : NodeRules) (laws : NodeLaws N) where
   IsLed s call k ps stage = (onward ps stage (N.judge s call).1 ≡ Refused_once) ⊎ IsAt N (N.judge s call).0 k ps (onward ps stage (N.judge s call).1)
 
   led-refused : (s : N.State) (call : Call) (k : ℕ) (ps : List (List ℕ)) (stage : Stage) (why : Refusal) → (N.judge s call).1 ≡ Refused why → IsLed s call k ps stage
-  led-refused s call k ps stage why e = grind (arith, nat_tests) steps 500000
+  led-refused s call k ps stage why e = grind arith steps 500000
 
   led-to : (s : N.State) (call : Call) (k : ℕ) (ps : List (List ℕ)) (stage : Stage) (r : Reply) → (N.judge s call).1 ≡ r → IsAt N (N.judge s call).0 k ps (onward ps stage r) → IsLed s call k ps stage
   led-to s call k ps stage r e h = inr (subst (λ y. IsAt N (N.judge s call).0 k ps (onward ps stage y)) (sym e) h)
 
   led-sync : (s : N.State) (k : ℕ) (ps : List (List ℕ)) → IsAt N s k ps At_sync → IsLed s Sync k ps At_sync
-  led-sync s k ps h = grind (arith, nat_tests, led-to, laws.sync_reply, laws.sync_state) steps 500000
+  led-sync s k ps h = grind arith steps 500000
 
   led-start : (s : N.State) (k : ℕ) (ps : List (List ℕ)) (ids : List ℕ) (p : List ℕ) (left : List (List ℕ)) → IsAt N s k ps (At_start ids (p ∷ left)) → IsLed s (TransferStart (length p)) k ps (At_start ids (p ∷ left))
   led-start s k ps ids p left h =
@@ -150,7 +148,7 @@ module _ (N : NodeRules) (laws : NodeLaws N) where
     where
       go : (block rest : List ℕ) → block ++ rest ≡ b ∷ bs → rest ≡ drop 4096 (b ∷ bs) → IsLed s (TransferData id counter block) k ps (At_data ids id counter (b ∷ bs) left)
       go block rest e is =
-          grind (arith, nat_tests, laws.data_replies, led-to, led-refused, laws.data_transfers, laws.data_received, laws.data_session, hold-apart, append_assoc) steps 500000
+          grind (arith, led-to, led-refused, laws.data_transfers, laws.data_received, laws.data_session, hold-apart, append_assoc) steps 500000
 
   led-exit : (s : N.State) (k : ℕ) (ps : List (List ℕ)) (ids : List ℕ) (id counter : ℕ) (left : List (List ℕ)) → IsAt N s k ps (At_data ids id counter [] left) → IsLed s (TransferExit id) k ps (At_data ids id counter [] left)
   led-exit s k ps ids id counter left h =
@@ -159,9 +157,6 @@ module _ (N : NodeRules) (laws : NodeLaws N) where
         | inr r ↦ led-refused s (TransferExit id) k ps (At_data ids id counter [] left) r.0 r.1
       ]
     where
-      t : N.State
-      t = (N.judge s (TransferExit id)).0
-
       sends : (qs : List (List ℕ)) → left ≡ qs → Sends N (N.judge s (TransferExit id)).0 (ids ++ id ∷ []) qs ps
       sends qs e =
           record {
@@ -228,7 +223,7 @@ module _ (N : NodeRules) (laws : NodeLaws N) where
 
   led-activate : (s : N.State) (k : ℕ) (ps : List (List ℕ)) → IsAt N s k ps At_activate → IsLed s Activate k ps At_activate
   led-activate s k ps h =
-      grind (arith, nat_tests, laws.six_replies, laws.activate_mine, laws.activate, led-to, led-refused) steps 500000
+      grind arith steps 500000
 
   pub at-judge : (s : N.State) (k : ℕ) (ps : List (List ℕ)) (stage : Stage) (call : Call) → call_at k stage ≡ Some call → IsAt N s k ps stage → IsLed s call k ps stage
   at-judge s k ps At_sync call e h = let q : Sync ≡ call = cc e in subst (λ c. IsLed s c k ps At_sync) q (led-sync s k ps h)

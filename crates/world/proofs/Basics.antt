@@ -1,7 +1,7 @@
 -- Laws of the real node: what is kept, what a refusal leaves, Sync, and the calls on a session.
 use Rattle.std.proofs.lemmas.Bool.Decides.{nat_tests}
-use Rattle.std.proofs.Common.{◌≡◌, ◌≢◌, ◌⊎◌, inl, inr, ℕ, ◌<◌, List, [], ◌∷◌, length, Option, Some, None, Bool, true, false, refl, sym, ◌∙◌, ap, subst, arith}
-use Rattle.std.specs.Prelude.{◌==◌, not, option_map, option_and_then, map, if◌then◌else◌}
+use Rattle.std.proofs.Common.{◌≡◌, ◌⊎◌, inl, inr, ℕ, List, [], ◌∷◌, Option, Some, None, Bool, true, false, refl, sym, ◌∙◌, ap, arith}
+use Rattle.std.specs.Prelude.{◌==◌, not, option_map, option_and_then, if◌then◌else◌}
 use Rattle.std.specs.Option.{option_or, option_map_or}
 use Rattle.std.proofs.lemmas.Bool.{eqb-true}
 use Rattle.std.proofs.lemmas.List.{get_or-set_same}
@@ -9,26 +9,22 @@ use Rattle.ucm_base.specs.declared.ids.CallNo.{CallNo}
 use Rattle.ucm_base.specs.Parts.{Bytes}
 use Rattle.pm_types.specs.declared.calls.Call.TheVariants as call
 use Rattle.pm_types.specs.declared.replies.Reply.TheVariants as reply
-use Rattle.pm_types.specs.declared.status.Outcome.TheVariants.{Old}
-use Rattle.pm_types.specs.declared.replies.EndMark.{EndMark}
 use Rattle.pm_types.specs.declared.replies.SessionMark.{SessionMark}
 use Rattle.pm_types.specs.declared.replies.Refusal.{Refusal}
-use Rattle.pm_types.specs.declared.clusters.Change.{Change}
 use Rattle.pm_types.specs.declared.clusters.Cluster.{Cluster}
 use Rattle.pm_types.specs.declared.status.Status.{Status}
-use Rattle.pm_types.specs.declared.status.Status.TheVariants.{Idle, Ready, Processing, Activating, Verifying, Activated, RollingBack, RolledBack, CleaningUp}
+use Rattle.pm_types.specs.declared.status.Status.TheVariants.{Idle}
 use Rattle.pm_types.specs.declared.state.Kept.{Kept}
 use Rattle.pm_types.specs.NodeState.{NodeState, Session, of_client}
 use Rattle.pm_types.specs.Refusals.{first_refusal}
-use Rattle.pm_types.specs.Sessions.{Goal, To, CleanUp, Resume, status_table, changes_in, arrive, led_by, clean_up, begin_processing, stop_processing}
 use Rattle.pm_types.specs.Transfers.{Verdict, ids_of}
-use Rattle.pm_types.specs.Steps.{judge, reply_to, after_reply, refusal, accepted, refused_or}
+use Rattle.pm_types.specs.Steps.{judge, reply_to, refusal, accepted, refused_or}
 use Rattle.pm_types.specs.Histories.{Reading, verdict_for, formatted}
 use Rattle.pm_types.specs.Validity.{IsConsistent, SessionIsDue}
 use Rattle.pm_types.specs.declared.calls.Call.{Call}
 use Rattle.pm_types.specs.declared.replies.Synced.{Synced as Shown}
 use Rattle.pm_types.specs.declared.replies.Reply.{Reply}
-use Rattle.pm_types.specs.declared.calls.Call.TheVariants.{Sync, TransferStart, TransferData, TransferExit, DeleteTransfer, ProcessSwPackage, Activate, Finish, Rollback, RevertProcessedSwPackages as Revert, Cancel}
+use Rattle.pm_types.specs.declared.calls.Call.TheVariants.{Sync, TransferStart, TransferData, TransferExit, DeleteTransfer, ProcessSwPackage, Activate, Finish, Rollback, RevertProcessedSwPackages as Revert}
 use Rattle.pm_types.specs.declared.replies.Reply.TheVariants.{Done, Started, Synced, Refused}
 use Rattle.world.specs.Messages.{is_status}
 use Rattle.world.proofs.Rules.{shown_of as seen_of, shown_session, KeepsSession, KeepsTransfers}
@@ -36,29 +32,29 @@ use Rattle.world.proofs.Instance.{zero_no, last_in, kept_in, tag_if, mine_in, en
 
 -- a judgment that is refused, or done
 pub judged-by : (s : NodeState) (client : ℕ) (c : Call) (v : Verdict) (P : NodeState → Type 0) → P s → P (accepted s client c v) → P (judge s client c v).0
-judged-by s client c v P here there = grind (arith, nat_tests) steps 500000
+judged-by s client c v P here there = grind arith steps 500000
 
 pub refused-leaves : (s : NodeState) (client : ℕ) (c : Call) (v : Verdict) (why : Refusal) → (reply_to s client c v) ≡ Refused why → (judge s client c v).0 ≡ s
-refused-leaves s client c v why e = grind (arith, nat_tests) steps 500000
+refused-leaves s client c v why e = grind arith steps 500000
 
 pub done-accepted : (s : NodeState) (client : ℕ) (c : Call) (v : Verdict) → (reply_to s client c v) ≡ Done → (judge s client c v).0 ≡ accepted s client c v
-done-accepted s client c v e = grind (arith, nat_tests) steps 500000
+done-accepted s client c v e = grind arith steps 500000
 
 pub done-none : (r : Reply) (o : Option Refusal) → (refused_or r o) ≡ Done → o ≡ None
-done-none r x e = grind (arith, nat_tests) steps 1500000
+done-none r x e = grind arith steps 1500000
 
 pub done-or-refused : (r : Reply) (o : Option Refusal) → r ≡ Done → ((refused_or r o) ≡ Done) ⊎ ((why : Refusal) × ((refused_or r o) ≡ Refused why))
-done-or-refused r x e = grind (arith, nat_tests) steps 1500000
+done-or-refused r x e = grind arith steps 1500000
 
 pub or-none : {A : Type 0} (a b : Option A) → option_or a b ≡ None → (a ≡ None) × (b ≡ None)
-or-none x b e = grind (arith, nat_tests) steps 1500000
+or-none x b e = grind arith steps 1500000
 
 pub not-refused : (row : Bool × Refusal) (rows : List (Bool × Refusal)) → first_refusal (row ∷ rows) ≡ None → (row.0 ≡ false) × (first_refusal rows ≡ None)
-not-refused x rows e = grind (arith, nat_tests) steps 1500000
+not-refused x rows e = grind arith steps 1500000
 
 -- what is kept
 pub last-kept : (s : NodeState) (at : CallNo) (c : Call) (r : Reply) → IsConsistent s → of_client (kept_after s at c r).last 0 ≡ Some (record { no = at; reply = r })
-last-kept s at c r v = grind (arith, nat_tests, get_or-set_same) steps 500000
+last-kept s at c r v = grind (arith, get_or-set_same) steps 500000
 
 pub keep_last : (s : NodeState) (at : CallNo) (c : Call) (r : Reply) → IsConsistent s → last_in (kept_after s at c r) ≡ at
 keep_last s at c r v = ap (λ o. option_map_or (λ (k : Kept). k.no) o zero_no) (last-kept s at c r v)
@@ -76,12 +72,12 @@ seen owner tag st false true p q r i = let z : tag ≡ 0 = eqb-true tag 0 q in a
 seen owner tag st false false p q r i = absurd (cc r)
 
 session-shown : (o : Option Session) (st : Status) → SessionIsDue st o → option_map (mark_of st) o ≡ seen_of (option_map_or (λ (x : Session). x.owner) o 0) st (option_and_then (λ (x : Session). tag_if (x.owner == 0) x.tag) o)
-session-shown x y h = grind (arith, nat_tests, seen) steps 1500000
+session-shown x y h = grind arith steps 1500000
 
 module _ (read : Reading) (clusters : List (Cluster Bytes)) where
   -- a step that leaves the session and the status
   pub keeps-of : (s t : NodeState) → t.session ≡ s.session → t.status ≡ s.status → KeepsSession (real read clusters) s t
-  keeps-of s t e q = grind (arith, nat_tests, tag_if) steps 500000
+  keeps-of s t e q = grind arith steps 500000
 
   pub keep_session : (s : NodeState) (at : CallNo) (c : Call) (r : Reply) → KeepsSession (real read clusters) s (kept_after s at c r)
   keep_session s at c r = keeps-of s (kept_after s at c r) refl refl
@@ -101,12 +97,8 @@ module _ (read : Reading) (clusters : List (Cluster Bytes)) where
   pub formatted_last : last_in (formatted clusters) ≡ record { epoch = 0; number = 0 }
   formatted_last = refl
 
-  -- no call ends a session
-  led-ended : (c : Call) (s : NodeState) → (led_by c s).ended ≡ s.ended
-  led-ended c s = grind (arith, nat_tests) steps 500000
-
   pub judge_ended : (s : NodeState) (c : Call) → ended_in (judged_in read s c).0 ≡ ended_in s
-  judge_ended s c = grind (arith, nat_tests, judged-by, led-ended)
+  judge_ended s c = grind arith
 
   pub refused : (s : NodeState) (c : Call) (why : Refusal) → (judged_in read s c).1 ≡ Refused why → (judged_in read s c).0 ≡ s
   refused s c why e = refused-leaves s 0 (c) (verdict_for read s 0 (c)) why e
@@ -119,7 +111,7 @@ module _ (read : Reading) (clusters : List (Cluster Bytes)) where
 
   -- each of the six calls is done or refused
   pub six_replies : (s : NodeState) (c : Call) → (c ≡ Activate) ⊎ ((c ≡ Finish) ⊎ ((c ≡ Rollback) ⊎ (c ≡ Revert))) → ((judged_in read s c).1 ≡ Done) ⊎ ((why : Refusal) × ((judged_in read s c).1 ≡ Refused why))
-  six_replies s c h = grind (arith, nat_tests, judged_in, done-or-refused) steps 500000
+  six_replies s c h = grind (arith, nat_tests) steps 500000
 
   pub process_replies : (s : NodeState) (id tag : ℕ) → ((judged_in read s (ProcessSwPackage id tag)).1 ≡ Done) ⊎ ((why : Refusal) × ((judged_in read s (ProcessSwPackage id tag)).1 ≡ Refused why))
   process_replies s id tag = done-or-refused reply.Done (refusal s 0 (call.ProcessSwPackage id tag) (verdict_for read s 0 (call.ProcessSwPackage id tag))) refl
@@ -138,7 +130,7 @@ module _ (read : Reading) (clusters : List (Cluster Bytes)) where
       go (Some why) = inr (why, refl)
 
   pub synced_only : (s : NodeState) (c : Call) (x : Shown) → (judged_in read s c).1 ≡ Synced x → c ≡ Sync
-  synced_only s c x e = grind (arith, nat_tests, judged_in) steps 500000
+  synced_only s c x e = grind arith steps 500000
 
   -- transfers don't touch the session
   pub start_session : (s : NodeState) (size : ℕ) → KeepsSession (real read clusters) s (judged_in read s (TransferStart size)).0

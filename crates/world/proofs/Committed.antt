@@ -1,21 +1,18 @@
 -- From the decision Commit on: a session that is Activated for the campaign ends as New, once.
-use Rattle.std.proofs.Common.{arith}
-use Rattle.std.proofs.lemmas.Bool.Decides.{nat_tests}
-use Rattle.std.proofs.Common.{◌≡◌, ◌⊎◌, inl, inr, if◌then◌else◌, ◌&&◌, ◌||◌, ℕ, List, [], ◌∷◌, Option, Some, None, Bool, true, false, refl, sym, ◌∙◌, ap, subst}
+use Rattle.std.proofs.Common.{arith, ◌≡◌, ◌⊎◌, inl, inr, if◌then◌else◌, ◌&&◌, ◌||◌, ℕ, List, [], ◌∷◌, Option, Some, Bool, true, false, refl, sym, ◌∙◌, ap, subst}
 use Rattle.pm_types.specs.declared.status.Outcome.TheVariants.{New}
 use Rattle.pm_types.specs.declared.status.Status.{Status}
 use Rattle.pm_types.specs.declared.status.Status.TheVariants.{Activated, CleaningUp}
 use Rattle.campaign_core.specs.declared.events.Decision.TheVariants.{Commit}
 use Rattle.pm_types.specs.declared.calls.Call.{Call}
-use Rattle.pm_types.specs.declared.calls.Call.TheVariants.{Sync, TransferStart, TransferData, TransferExit, DeleteTransfer, ProcessSwPackage, Activate, Finish, Rollback, RevertProcessedSwPackages as Revert, Cancel}
-use Rattle.world.specs.Messages.{is_status}
+use Rattle.pm_types.specs.declared.calls.Call.TheVariants.{Sync, DeleteTransfer, Finish}
+use Rattle.world.specs.Messages.{is_status, Message, is_sync}
 use Rattle.world.proofs.Rules.{NodeRules, NodeLaws, KeepsSession}
-use Rattle.world.specs.Messages.{Message, is_sync}
 use Rattle.world.proofs.RulesWorld.{Move, Delivered, Foreign, Unit_done, after}
 use Rattle.world.specs.Sends.{end_call_at, delete_at}
 use Rattle.world.proofs.RulesLaw.{Spans, spans, begins_span, IsNew}
 use Rattle.world.proofs.Invariant.{Executable}
-use Rattle.world.proofs.NodeLemmas.{refused-or, delivered-cases}
+use Rattle.world.proofs.NodeLemmas.{refused-or}
 use Rattle.world.proofs.Events.{above-last}
 
 -- a call that is sent after Commit
@@ -23,7 +20,7 @@ abbrev pub IsCalm : Call → Type 0
 IsCalm call = (call ≡ Sync) ⊎ ((call ≡ Finish) ⊎ ((id : ℕ) × (call ≡ DeleteTransfer id)))
 
 pub late-commit : (call : Call) (o : Option Status) (shown : Option _) → (is_sync call || (end_call_at Commit o call || delete_at shown call)) ≡ true → IsCalm call
-late-commit x y shown e = grind (arith, nat_tests) steps 1500000
+late-commit x y shown e = grind arith steps 1500000
 
 module _ (N : NodeRules) (laws : NodeLaws N) (k : ℕ) (changes : List N.Change) where
   -- the campaign's session waits for Finish, or is being cleaned up after it
@@ -38,7 +35,7 @@ module _ (N : NodeRules) (laws : NodeLaws N) (k : ℕ) (changes : List N.Change)
     pub none : (spans N k moves).ended ≡ []
 
   pub waits-keeps : (s t : N.State) → KeepsSession N s t → Waits s → Waits t
-  waits-keeps s t keeps w = grind (arith, nat_tests) steps 500000
+  waits-keeps s t keeps w = grind arith steps 500000
 
   pub waits-judge : (s : N.State) (call : Call) → IsCalm call → Waits s → Waits (N.judge s call).0
   waits-judge s call calm w =
@@ -60,24 +57,21 @@ module _ (N : NodeRules) (laws : NodeLaws N) (k : ℕ) (changes : List N.Change)
           ])
 
   pub waiting-foreign : (moves : List (Move N)) (call : N.ForeignCall) → IsWaiting moves → IsWaiting (Foreign call ∷ moves)
-  waiting-foreign moves call w = grind (arith, nat_tests, waits-keeps, after, laws.foreign_session)
+  waiting-foreign moves call w = grind arith
 
   pub waiting-delivered : (moves : List (Move N)) (m : Message) → (Executable N (after N moves) m → IsCalm m.call) → IsWaiting moves → IsWaiting (Delivered m ∷ moves)
   waiting-delivered moves m calm w =
-      grind (arith, nat_tests, delivered-cases, after, waits-keeps, laws.keep_session, waits-judge, above-last, begins_span)
+      grind (arith, after, waits-keeps, laws.keep_session, waits-judge, above-last, begins_span)
 
   -- a unit goes on waiting, or ends the one span as New
   pub waiting-unit : (moves : List (Move N)) (passed : Bool) → IsWaiting moves → IsWaiting (Unit_done passed ∷ moves) ⊎ IsNew N k changes (Unit_done passed ∷ moves)
   waiting-unit moves passed w = elim w.waits.status [ inl a ↦ inl (waiting a) | inr c ↦ inr (ends c.0 c.1) ]
     where
-      still_spans : (b : Bool) → (spans N k moves).is_open ≡ true → b ≡ false → (z : Spans N) → (if ((spans N k moves).is_open && b) then z else spans N k moves) ≡ spans N k moves
-      still_spans b o e z = subst (λ c. (if ((spans N k moves).is_open && c) then z else spans N k moves) ≡ spans N k moves) (sym e) (subst (λ c. (if (c && false) then z else spans N k moves) ≡ spans N k moves) (sym o) refl)
-
       shut_spans : (b : Bool) → (spans N k moves).is_open ≡ true → b ≡ true → (z : Spans N) → (if ((spans N k moves).is_open && b) then z else spans N k moves) ≡ z
       shut_spans b o e z = subst (λ c. (if ((spans N k moves).is_open && c) then z else spans N k moves) ≡ z) (sym e) (subst (λ c. (if (c && true) then z else spans N k moves) ≡ z) (sym o) refl)
 
       waiting : N.status (after N moves) ≡ Activated → IsWaiting (Unit_done passed ∷ moves)
-      waiting a = grind (arith, nat_tests, after, laws.unit_still, spans) steps 500000
+      waiting a = grind arith steps 500000
 
       ends : N.status (after N moves) ≡ CleaningUp → N.outcome (after N moves) ≡ Some New → IsNew N k changes (Unit_done passed ∷ moves)
       ends c o =

@@ -1,30 +1,25 @@
 -- What every event keeps of the half for successful campaigns, from the decision Commit on.
-use Rattle.std.proofs.Common.{arith}
+use Rattle.std.proofs.Common.{arith, ◌≡◌, ◌≢◌, ◌⊎◌, inl, inr, ◌&&◌, ◌++◌, ℕ, ◌≤◌, List, [], ◌∷◌, Option, Some, None, Bool, true, false, is_some, refl, sym, ◌∙◌, ap, subst}
 use Rattle.std.proofs.lemmas.Bool.Decides.{nat_tests}
-use Rattle.std.proofs.Common.{◌≡◌, ◌≢◌, ◌⊎◌, inl, inr, if◌then◌else◌, ◌&&◌, ◌++◌, ℕ, ◌≤◌, List, [], ◌∷◌, Option, Some, None, Bool, true, false, is_some, refl, sym, ◌∙◌, ap, subst}
 use Rattle.std.specs.List.{flat_map}
 use Rattle.pm_types.specs.declared.status.Status.TheVariants.{Idle}
 use Rattle.campaign_core.specs.declared.events.Decision.{Decision}
-use Rattle.campaign_core.specs.declared.events.Decision.TheVariants.{Commit, Abort}
+use Rattle.campaign_core.specs.declared.events.Decision.TheVariants.{Commit}
 use Rattle.campaign_core.specs.declared.events.CampaignResult.{CampaignResult}
 use Rattle.campaign_core.specs.declared.events.CampaignResult.TheVariants.{Successful}
 use Rattle.campaign_core.specs.declared.fold.Fold.{Fold}
 use Rattle.campaign_core.specs.declared.fold.Current.{Current}
 use Rattle.campaign_core.specs.Nodes.{flag_of}
-use Rattle.campaign_core.specs.Campaign.{end_of, all_ended, is_result_of}
+use Rattle.campaign_core.specs.Campaign.{all_ended, is_result_of}
 use Rattle.pm_types.specs.declared.calls.Call.{Call}
-use Rattle.pm_types.specs.declared.replies.Reached.TheVariants.{Stale, Again, Done as Fresh}
-use Rattle.world.specs.Messages.{IsBelow, no_lt, no_eq, is_status}
+use Rattle.world.specs.Messages.{IsBelow, is_status, Message, Told, InSent}
 use Rattle.world.proofs.Rules.{NodeRules, NodeLaws, reached, delivered}
-use Rattle.world.specs.Messages.{Message, Told, InSent}
 use Rattle.world.proofs.RulesWorld.{Delivered, Foreign, Unit_done, NodeWorld, state_of}
 use Rattle.world.specs.Sends.{Packages, last_status, last_shown, next_number, MaySend, MaySendBy, MaySendLate}
-use Rattle.world.proofs.RulesLaw.{begins_span, is_fresh_done, IsNew}
+use Rattle.world.proofs.RulesLaw.{begins_span, is_fresh_done, IsNew, InEarlier}
 use Rattle.world.specs.Spans.{has_tag}
 use Rattle.world.proofs.Invariant.{Executable, KeptOld, KeptFold}
-use Rattle.world.proofs.RulesLaw.{InEarlier}
-use Rattle.world.proofs.NodeLemmas.{delivered-cases}
-use Rattle.world.proofs.Events.{below-trans, above-last, begins-mine, and-left}
+use Rattle.world.proofs.Events.{begins-mine, and-left}
 use Rattle.world.proofs.Parts.{flagged-ended}
 use Rattle.world.proofs.Records.{SameFold, some-inj, in-append}
 use Rattle.world.proofs.Committed.{IsCalm, late-commit, IsWaiting, waiting-foreign, waiting-delivered, waiting-unit, new-foreign, new-unit, new-delivered}
@@ -34,7 +29,7 @@ bool-cases true f = absurd (f refl)
 bool-cases false f = refl
 
 has-tag-process : (k : ℕ) (call : Call) → IsCalm call → has_tag k call ≡ false
-has-tag-process k call x = grind (arith, nat_tests) steps 1500000
+has-tag-process k call x = grind arith steps 1500000
 
 module _ (N : NodeRules) (laws : NodeLaws N) (packages : Packages) (n : ℕ) where
   abbrev pub changes_of : ℕ → List N.Change
@@ -47,10 +42,10 @@ module _ (N : NodeRules) (laws : NodeLaws N) (packages : Packages) (n : ℕ) whe
 
   -- an executed delivery was executable
   fresh-exec : (s : N.State) (m : Message) → is_fresh_done (reached N s m.at m.call) ≡ true → Executable N s m
-  fresh-exec s m e = grind (arith, nat_tests, is_fresh_done, above-last) steps 500000
+  fresh-exec s m e = grind (arith, nat_tests) steps 500000
 
   exec-back : (s : N.State) (m m' : Message) → Executable N (delivered N s m.at m.call) m' → Executable N s m'
-  exec-back s m m' = grind (arith, nat_tests, delivered-cases, below-trans, above-last, laws.keep_last) steps 500000
+  exec-back s m m' = grind (arith, nat_tests) steps 500000
 
   calm-begins : (k : ℕ) (s : N.State) (m : Message) → (Executable N s m → IsCalm m.call) → begins_span N k s m ≡ false
   calm-begins k s m calm =
@@ -174,4 +169,4 @@ module _ (N : NodeRules) (laws : NodeLaws N) (packages : Packages) (n : ℕ) whe
       success _ e = absurd (cc e)
 
       waits_no_more : IsWaiting N laws c.campaign (changes_of c.campaign) x.moves → ⊥
-      waits_no_more w = grind (arith, nat_tests, some-inj, flagged-ended) steps 500000
+      waits_no_more w = grind (arith, flagged-ended) steps 500000

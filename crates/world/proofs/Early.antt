@@ -1,6 +1,5 @@
 -- Before the decision: every event of the world keeps it, and at Decide Commit each named node is ready.
-use Rattle.std.proofs.lemmas.Bool.Decides.{nat_tests}
-use Rattle.std.proofs.Common.{◌≡◌, ◌≢◌, ◌⊎◌, inl, inr, if◌then◌else◌, ◌&&◌, ◌||◌, not, ◌+◌, ℕ, List, [], ◌∷◌, Option, Some, None, Bool, true, false, is_some, is_none, nat_eq, nat_le, refl, sym, ◌∙◌, ap, subst, arith}
+use Rattle.std.proofs.Common.{◌≡◌, ◌≢◌, ◌⊎◌, inl, inr, if◌then◌else◌, not, ◌+◌, ℕ, List, [], ◌∷◌, Option, Some, None, Bool, true, false, is_some, is_none, nat_eq, nat_le, refl, sym, ◌∙◌, ap, subst, arith}
 use Rattle.std.proofs.lemmas.Bool.{eqb-true}
 use Rattle.std.proofs.lemmas.Bool.Decides.{eqb_tells}
 use Rattle.ucm_base.specs.declared.ids.NodeId.{NodeId}
@@ -12,11 +11,11 @@ use Rattle.campaign_core.specs.declared.events.Decision.{Decision}
 use Rattle.campaign_core.specs.declared.events.Decision.TheVariants.{Commit}
 use Rattle.campaign_core.specs.declared.events.CampaignResult.{CampaignResult}
 use Rattle.campaign_core.specs.declared.events.MasterEvent.{MasterEvent}
-use Rattle.campaign_core.specs.declared.events.MasterEvent.TheVariants.{Start, Begin, PhaseTo, VoteOf, CancelAsked, Decide, EndedAt, Enter}
+use Rattle.campaign_core.specs.declared.events.MasterEvent.TheVariants.{Start, Begin, VoteOf, Decide, EndedAt, Enter}
 use Rattle.campaign_core.specs.declared.fold.Fold.{Fold}
 use Rattle.campaign_core.specs.declared.fold.Current.{Current}
 use Rattle.campaign_core.specs.Nodes.{flag_of}
-use Rattle.campaign_core.specs.Campaign.{nothing_yet, vote_of, end_of, all_yes, is_marked, is_undecided, may_decide, all_ended, is_result_of, is_new_of, all_below, may_begin, meets, in_current, refusal_of, changed, changed_in, after_event, entered, begun}
+use Rattle.campaign_core.specs.Campaign.{nothing_yet, vote_of, end_of, is_new_of, all_below, may_begin, meets, in_current, refusal_of, changed, changed_in, after_event, entered, begun}
 use Rattle.world.proofs.Parts.{part-other, part-with, flagged-ended}
 use Rattle.pm_types.specs.declared.calls.Call.{Call}
 use Rattle.pm_types.specs.declared.replies.Reply.{Reply}
@@ -45,7 +44,7 @@ module _ (N : NodeRules) (laws : NodeLaws N) (packages : Packages) (numbers : Li
   WorldEarly w = (n : ℕ) → EachEarly n w.fold (w.node n)
 
   one-node : (w : World N) (n : ℕ) (x : NodeWorld N) → WorldEarly w → EachEarly n w.fold x → WorldEarly (with_node N w n x)
-  one-node w n x each new k = grind (arith, nat_tests, nat_eq, eqb-true) steps 500000
+  one-node w n x each new k = grind arith steps 500000
 
   answered : (f : Fold) (n : ℕ) (x : NodeWorld N) (m : Message) → InSent m x.sent → (a : Reached) → ((r : Reply) → (a ≡ Again r) ⊎ (a ≡ Fresh r) → (m.at ≡ N.last (state_of N x)) × (N.kept (state_of N x) ≡ r)) → EachEarly n f x → EachEarly n f (record { moves = x.moves; sent = x.sent; told = answer_of m a x.told })
   answered f n x m sent (Stale last) facts h = h
@@ -95,7 +94,7 @@ module _ (N : NodeRules) (laws : NodeLaws N) (packages : Packages) (numbers : Li
 
       marked : (o : Option Current) (d : Current) → changed_in o (Start epoch) ≡ Some d → d.decision ≡ None → d.restart ≡ false → ⊥
       marked None d e' undecided quiet = cc e'
-      marked (Some c) d e' undecided quiet = grind (arith, nat_tests, some-inj, is_none) steps 500000
+      marked (Some c) d e' undecided quiet = grind arith steps 500000
 
   plain : (w : World N) (e : MasterEvent) → ((n : ℕ) (c : Current) → SameAt n c (changed c e)) → ((c : Current) → (changed c e).restart ≡ c.restart) → ((n : ℕ) (c : Current) → vote_of (changed c e) n ≡ Some Vote.Yes → (vote_of c n ≡ Some Vote.Yes) ⊎ (showed_after_activate Activated (w.node n).told ≡ true)) → WorldEarly w → WorldEarly (record { fold = record { epoch = w.fold.epoch; earlier = w.fold.earlier; current = changed_in w.fold.current e }; node = w.node })
   plain w e sames restarts votes each n =
@@ -131,7 +130,7 @@ module _ (N : NodeRules) (laws : NodeLaws N) (packages : Packages) (numbers : Li
     where
       forth : (p : Option Current) → w.fold.current ≡ p → (k : ℕ) → InPresent w.fold n (λ c. k ≡ c.campaign) → InPresent (record { epoch = w.fold.epoch; earlier = w.fold.earlier; current = changed_in p (Decide d) }) n (λ c. k ≡ c.campaign)
       forth None q k h = absurd (none-some w.fold.current h.0 q h.1)
-      forth (Some c) q k h = grind (arith, nat_tests, some-inj) steps 500000
+      forth (Some c) q k h = grind arith steps 500000
 
       decided : (p : Option Current) (c : Current) → changed_in p (Decide d) ≡ Some c → c.decision ≡ None → ⊥
       decided None c q u = cc q
@@ -171,7 +170,7 @@ module _ (N : NodeRules) (laws : NodeLaws N) (packages : Packages) (numbers : Li
       }
     where
       out : (k : ℕ) → InPresent w.fold n (λ y. k ≡ y.campaign) → ⊥
-      out k p = grind (arith, nat_tests, some-inj, flagged-ended, and-both, unless-true) steps 500000
+      out k p = grind (arith, flagged-ended, and-both, unless-true) steps 500000
 
   of-record : (w : World N) (e : MasterEvent) → refusal_of w.fold e ≡ None → Evidence N packages numbers w e → WorldKept N laws packages numbers w → WorldEarly w → WorldEarly (recorded N w e)
   of-record w (Start epoch) h evidence kept each = start w epoch (eqb-true epoch (w.fold.epoch + 1) (unless-true (nat_eq epoch (w.fold.epoch + 1)) h)) each
@@ -213,7 +212,7 @@ module _ (N : NodeRules) (laws : NodeLaws N) (packages : Packages) (numbers : Li
 
   ready : (w : World N) (c : Current) → w.fold.current ≡ Some c → refusal_of w.fold (Decide Commit) ≡ None → WorldKept N laws packages numbers w → WorldEarly w → (n : ℕ) → IsReadyToCommit N laws packages n c (w.node n)
   ready w c current h kept each n =
-      grind (arith, nat_tests, none-some, some-inj, unless-true, and-both, not, ready-node, is_none) steps 500000
+      grind (arith, some-inj, unless-true, and-both, not, ready-node, is_none) steps 500000
 
   pub early-opened : (openings : ℕ → N.ForeignCall) → WorldEarly (opened_world N openings)
   early-opened openings n =

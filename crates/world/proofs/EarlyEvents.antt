@@ -1,8 +1,6 @@
 -- Before the decision: what each event at a node keeps.
-use Rattle.std.proofs.lemmas.Bool.Decides.{nat_tests}
-use Rattle.std.proofs.Common.{◌≡◌, ◌≢◌, ◌⊎◌, inl, inr, if◌then◌else◌, ◌&&◌, ◌||◌, not, ◌+◌, ℕ, zero, suc, ◌<◌, List, [], ◌∷◌, Option, Some, None, Bool, true, false, is_some, nat_eq, refl, sym, ◌∙◌, ap, subst, arith}
+use Rattle.std.proofs.Common.{◌≡◌, ◌≢◌, ◌⊎◌, inl, inr, ◌&&◌, ◌||◌, not, ℕ, List, [], ◌∷◌, Option, Some, None, Bool, true, false, is_some, nat_eq, refl, sym, ◌∙◌, ap, subst, arith}
 use Rattle.std.proofs.lemmas.Bool.{eqb-true, eq-eqb}
-use Rattle.ucm_base.specs.declared.ids.CallNo.{CallNo}
 use Rattle.pm_types.specs.declared.status.Status.{Status}
 use Rattle.pm_types.specs.declared.status.Status.TheVariants.{Activated, CleaningUp}
 use Rattle.ucm_base.specs.declared.ids.NodeSet.{NodeSet}
@@ -14,19 +12,18 @@ use Rattle.campaign_core.specs.Campaign.{vote_of, all_yes, all_below, begun}
 use Rattle.world.proofs.Parts.{part-none, flagged-yes}
 use Rattle.pm_types.specs.declared.calls.Call.{Call}
 use Rattle.pm_types.specs.declared.replies.Reply.{Reply}
-use Rattle.pm_types.specs.declared.calls.Call.TheVariants.{Sync, TransferStart, TransferData, TransferExit, DeleteTransfer, ProcessSwPackage, Activate, Finish, Rollback, RevertProcessedSwPackages as Revert, Cancel}
-use Rattle.pm_types.specs.declared.replies.Reached.TheVariants.{Stale, Again, Done as Fresh}
-use Rattle.world.specs.Messages.{IsBelow, no_lt, no_eq, is_status}
+use Rattle.pm_types.specs.declared.calls.Call.TheVariants.{Sync}
+use Rattle.pm_types.specs.declared.replies.Reached.TheVariants.{Again, Done as Fresh}
+use Rattle.world.specs.Messages.{IsBelow, is_status, Message, Told, Answered, Showed, InSent, InTold, is_sync, is_told}
 use Rattle.world.proofs.Rules.{NodeRules, NodeLaws, reached, delivered}
 use Rattle.world.specs.Rounds.{Over}
-use Rattle.world.specs.Messages.{Message, Told, Answered, Showed, InSent, InTold, is_sync, is_told}
 use Rattle.world.proofs.RulesWorld.{Delivered, Foreign, Unit_done, NodeWorld, state_of}
 use Rattle.world.specs.Sends.{Packages, is_end_sync, activate_done, showed_after_activate, may_follow, MaySend, MaySendBy, MaySendEarly, next_number}
 use Rattle.world.specs.Evidence.{EndEvidence}
 use Rattle.world.proofs.RulesLaw.{spans}
 use Rattle.world.proofs.Invariant.{Executable, InPresent, IsFresh, KeptOld, Falling}
 use Rattle.world.proofs.EarlyFacts.{ClientEntry, with_entry, round_entries, InEntries, stage_after, IsAt, Activates, EarlyAt, KeptEarly, KeptLive}
-use Rattle.world.proofs.Events.{below-trans, eq-tests, span-ended, is-cleaning}
+use Rattle.world.proofs.Events.{below-trans, span-ended, is-cleaning}
 use Rattle.world.proofs.Sends.{next-above, next-epoch}
 use Rattle.world.proofs.Records.{some-inj, none-some, and-both}
 use Rattle.world.proofs.CommittedEvents.{IsReadyToCommit}
@@ -42,22 +39,22 @@ or-right true b e = refl
 or-right false b e = e
 
 sync-is : (call : Call) → is_sync call ≡ true → call ≡ Sync
-sync-is x e = grind (arith, nat_tests) steps 1500000
+sync-is x e = grind arith steps 1500000
 
 -- what the message before a new one of an undecided campaign is
 told-before : (a b d e g : Bool) → a ≡ true → d ≡ true → g ≡ false → (not a || (b || (not d || (e && g)))) ≡ true → b ≡ true
 told-before a true d e g p q r h = refl
-told-before a false d e g p q r h = grind (arith, nat_tests, not) steps 500000
+told-before a false d e g p q r h = grind arith steps 500000
 
 module _ (N : NodeRules) (laws : NodeLaws N) (packages : Packages) (numbers : List ℕ) where
   -- the number of a delivered message that was not Stale is the last one
   pub last-facts : (s : N.State) (m : Message) (r : Reply) → (reached N s m.at m.call ≡ Again r) ⊎ (reached N s m.at m.call ≡ Fresh r) → m.at ≡ N.last (delivered N s m.at m.call)
-  last-facts s m r h = grind (arith, nat_tests, eq-tests, laws.keep_last) steps 500000
+  last-facts s m r h = grind arith steps 500000
 
   module _ (n : ℕ) where
     -- the last number is below the next
     pub next-exec : (f : Fold) (x : NodeWorld N) → KeptOld N f n x → KeptLive N f n x → IsBelow (N.last (state_of N x)) (next_number f.epoch x.sent)
-    next-exec f x old live = grind (arith, nat_tests, next-above, nat_eq) steps 500000
+    next-exec f x old live = grind (arith, next-above, nat_eq) steps 500000
 
     -- what always holds
     pub live-deliver : (f : Fold) (x : NodeWorld N) (m : Message) → InSent m x.sent → KeptOld N f n x → KeptLive N f n x → KeptLive N f n (record { moves = Delivered m ∷ x.moves; sent = x.sent; told = x.told })
@@ -91,10 +88,10 @@ module _ (N : NodeRules) (laws : NodeLaws N) (packages : Packages) (numbers : Li
             entry k e _ _ p h = live.entry_sent k e h
 
     pub live-foreign : (f : Fold) (x : NodeWorld N) (call : N.ForeignCall) → KeptLive N f n x → KeptLive N f n (record { moves = Foreign call ∷ x.moves; sent = x.sent; told = x.told })
-    live-foreign f x call live = grind (arith, nat_tests, laws.foreign_last, state_of) steps 500000
+    live-foreign f x call live = grind arith steps 500000
 
     pub live-unit : (f : Fold) (x : NodeWorld N) (passed : Bool) → KeptLive N f n x → KeptLive N f n (record { moves = Unit_done passed ∷ x.moves; sent = x.sent; told = x.told })
-    live-unit f x passed live = grind (arith, nat_tests, laws.unit_last, state_of) steps 500000
+    live-unit f x passed live = grind arith steps 500000
 
     pub live-told : (f : Fold) (x : NodeWorld N) (told : List Told) → KeptLive N f n x → KeptLive N f n (record { moves = x.moves; sent = x.sent; told = told })
     live-told f x told live = record { last_sent = live.last_sent; live = live.live; entry_sent = live.entry_sent }
@@ -218,7 +215,7 @@ module _ (N : NodeRules) (laws : NodeLaws N) (packages : Packages) (numbers : Li
 
     -- the records
     pub early-fold : (f g : Fold) (x : NodeWorld N) → g.epoch ≡ f.epoch → ((d : Current) → g.current ≡ Some d → (c : Current) × (f.current ≡ Some c) × (d.campaign ≡ c.campaign) × (d.decision ≡ c.decision) × (d.restart ≡ c.restart) × (vote_of d n ≡ Some Vote.Yes → (vote_of c n ≡ Some Vote.Yes) ⊎ (showed_after_activate Activated x.told ≡ true))) → KeptEarly N packages f n x → KeptEarly N packages g n x
-    early-fold f g x epoch back early = grind (arith, nat_tests, state_of, round_entries, spans) steps 500000
+    early-fold f g x epoch back early = grind arith steps 500000
 
     pub early-no : (g : Fold) (x : NodeWorld N) → ((d : Current) → g.current ≡ Some d → d.decision ≡ None → d.restart ≡ false → ⊥) → KeptEarly N packages g n x
     early-no g x never = record { at = λ d current undecided quiet. absurd (never d current undecided quiet); yes = λ d current undecided quiet. absurd (never d current undecided quiet) }

@@ -8,11 +8,10 @@ use Rattle.campaign_core.specs.Campaign.{vote_of}
 use Rattle.pm_types.specs.declared.replies.Reply.{Reply}
 use Rattle.pm_types.specs.declared.replies.Reached.{Reached}
 use Rattle.pm_types.specs.declared.calls.Call.TheVariants.{Sync}
-use Rattle.pm_types.specs.declared.replies.Reached.TheVariants.{Stale, Again, Done as Fresh}
-use Rattle.world.specs.Messages.{IsBelow}
+use Rattle.pm_types.specs.declared.replies.Reached.TheVariants.{Done as Fresh}
+use Rattle.world.specs.Messages.{IsBelow, Message, Told, InSent, told_reply}
 use Rattle.world.proofs.Rules.{NodeRules, reached}
 use Rattle.world.specs.Rounds.{Stage, At_sync, At_start, At_data, At_process, At_activate, Over, Refused_once, call_at, onward}
-use Rattle.world.specs.Messages.{Message, Told, InSent, told_reply}
 use Rattle.world.proofs.RulesWorld.{Move, Delivered, Foreign, Unit_done, NodeWorld, after, state_of}
 use Rattle.world.specs.Sends.{Packages, activate_done, showed_after_activate}
 use Rattle.world.proofs.RulesLaw.{Span, spans}

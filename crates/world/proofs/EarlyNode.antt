@@ -3,31 +3,24 @@ use Rattle.std.proofs.lemmas.Bool.Decides.{nat_tests}
 use Rattle.std.proofs.Common.{arith, ◌≡◌, ◌≢◌, ◌⊎◌, inl, inr, if◌then◌else◌, ◌&&◌, ◌||◌, not, ◌++◌, ℕ, List, [], ◌∷◌, Option, Some, None, Bool, true, false, is_some, nat_eq, refl, sym, ◌∙◌, ap, subst}
 use Rattle.std.proofs.lemmas.Bool.{eqb-true, eq-eqb}
 use Rattle.ucm_base.specs.declared.ids.CallNo.{CallNo}
-use Rattle.pm_types.specs.declared.replies.Refusal.{Refusal}
 use Rattle.pm_types.specs.declared.status.Status.{Status}
-use Rattle.pm_types.specs.declared.status.Status.TheVariants.{Idle, Ready, Processing, Activating, Verifying, Activated, RollingBack, RolledBack, CleaningUp}
+use Rattle.pm_types.specs.declared.status.Status.TheVariants.{Activated}
 use Rattle.pm_types.specs.declared.calls.Call.{Call}
 use Rattle.pm_types.specs.declared.replies.Reply.{Reply}
-use Rattle.pm_types.specs.declared.calls.Call.TheVariants.{Sync, TransferStart, TransferData, TransferExit, DeleteTransfer, ProcessSwPackage, Activate, Finish, Rollback, RevertProcessedSwPackages as Revert, Cancel}
-use Rattle.pm_types.specs.declared.replies.Reply.TheVariants.{Done, Started, Synced, Refused}
-use Rattle.pm_types.specs.declared.replies.Reached.TheVariants.{Stale, Again, Done as Fresh}
-use Rattle.world.specs.Messages.{IsBelow, no_lt, no_eq, is_status}
-use Rattle.pm_types.specs.NodeState.{is_working}
+use Rattle.pm_types.specs.declared.calls.Call.TheVariants.{Sync, Activate}
+use Rattle.pm_types.specs.declared.replies.Reply.TheVariants.{Done}
+use Rattle.world.specs.Messages.{IsBelow, no_eq, Message, Told, Answered, Showed, InSent, InTold, told_reply, is_told, is_activate, is_done}
 use Rattle.world.proofs.Rules.{NodeRules, NodeLaws, reached, delivered}
-use Rattle.world.specs.Rounds.{Stage, At_sync, At_start, At_data, At_process, At_activate, Over, Refused_once, call_at, onward, stage_of}
-use Rattle.world.specs.Messages.{Message, Told, Answered, Showed, InSent, InTold, told_reply, is_told, is_activate, is_done}
+use Rattle.world.specs.Rounds.{Stage, At_sync, At_activate, Over, Refused_once, call_at, onward, stage_of}
 use Rattle.world.specs.Sends.{one_if, replies_of, activate_done, showed_after_activate}
 use Rattle.world.proofs.RulesLaw.{Span}
 use Rattle.world.proofs.Invariant.{Executable}
 use Rattle.world.proofs.EarlyFacts.{ClientEntry, judged, with_entry, InEntries, stage_after, Follows, IsAt, AllDone, OneWaits, AllTold, OlderTold, EarlyAt}
-use Rattle.world.proofs.Events.{below-trans, below-irrefl, above-last}
+use Rattle.world.proofs.Events.{below-irrefl}
 use Rattle.world.proofs.AtRounds.{at-foreign, at-unit, at-keep, at-judge}
 
-no-join : (a b c d : ℕ) → a ≡ c → b ≡ d → ◌≡◌ {A = CallNo} (record { epoch = a; number = b }) (record { epoch = c; number = d })
-no-join a b c d p q = cc
-
 pub same-no : (a b : CallNo) → no_eq a b ≡ true → a ≡ b
-same-no a b e = grind (arith, nat_tests, nat_eq, no-join, eqb-true) steps 500000
+same-no a b e = grind arith steps 500000
 
 -- what told has for a number is an answer to a message of this number
 pub told-in : (ts : List Told) (at : CallNo) (r : Reply) → told_reply ts at ≡ Some r → (m : Message) × InTold (Answered m r) ts × (m.at ≡ at)
@@ -41,17 +34,14 @@ told-in (Answered m q ∷ ts) at r e = go (no_eq m.at at) refl e (λ z. told-in 
 
 pub showed-done : (x : Status) (ts : List Told) → showed_after_activate x ts ≡ true → activate_done ts ≡ true
 showed-done x [] e = absurd (cc e)
-showed-done x (Answered m r ∷ ts) e = grind (arith, nat_tests, showed-done x ts e) steps 500000
-showed-done x (Showed s ∷ ts) e = grind (arith, nat_tests, showed-done x ts) steps 500000
-
-is-activated : (x : Status) → is_status x Activated ≡ true → x ≡ Activated
-is-activated x e = grind (arith, nat_tests) steps 1500000
+showed-done x (Answered m r ∷ ts) e = grind (arith, showed-done x ts e) steps 500000
+showed-done x (Showed s ∷ ts) e = grind (arith, showed-done x ts) steps 500000
 
 call-activate : (call : Call) → is_activate call ≡ true → call ≡ Activate
-call-activate x e = grind (arith, nat_tests) steps 1500000
+call-activate x e = grind arith steps 1500000
 
 reply-done : (r : Reply) → is_done r ≡ true → r ≡ Done
-reply-done x e = grind (arith, nat_tests) steps 1500000
+reply-done x e = grind arith steps 1500000
 
 -- the replies that are told lead to the same stage as the entries
 stage-push : (ps : List (List ℕ)) (stage : Stage) (rs : List Reply) (r : Reply) → stage_of ps stage (rs ++ r ∷ []) ≡ onward ps (stage_of ps stage rs) r
@@ -74,7 +64,7 @@ module _ (k : ℕ) (ps : List (List ℕ)) where
   told-stage ts [] sent done told = ap (stage_of ps At_sync) (replies-none ts sent done)
   told-stage ts (e ∷ es) [] done told = absurd done
   told-stage ts (e ∷ es) (m ∷ ms) done told =
-      grind (arith, nat_tests, nat_eq, not, flag-true, stage_after, stage-push, told-stage ts es ms done.3 told.1) steps 500000
+      grind (arith, not, flag-true, stage_after, stage-push, told-stage ts es ms done.3 told.1) steps 500000
 
   at-activate : (stage : Stage) → call_at k stage ≡ Some Activate → stage ≡ At_activate
   at-activate stage e = grind arith
@@ -111,20 +101,20 @@ all-told ts us [] f h = tt
 all-told ts us (e ∷ es) f h = (f e (inl refl) h.0, all-told ts us es (λ y q. f y (inr q)) h.1)
 
 older-told : (ts us : List Told) (es : List ClientEntry) → ((e : ClientEntry) → InEntries e es → told_reply ts e.message.at ≡ Some e.reply → told_reply us e.message.at ≡ Some e.reply) → OlderTold ts es → OlderTold us es
-older-told ts us x f h = grind (arith, nat_tests, all-told) steps 1500000
+older-told ts us x f h = grind (arith, all-told) steps 1500000
 
 module _ (N : NodeRules) (laws : NodeLaws N) where
   -- a delivery is nothing, or an executable call that is judged, kept and answered
   pub judged-cases : (s : N.State) (m : Message) (P : N.State → Option Reply → Type 0) → P s None → (Executable N s m → P (N.keep (N.judge s m.call).0 m.at m.call (N.judge s m.call).1) (Some (N.judge s m.call).1)) → P (delivered N s m.at m.call) (judged (reached N s m.at m.call))
-  judged-cases s m P here there = grind (arith, nat_tests, judged, above-last) steps 500000
+  judged-cases s m P here there = grind (arith, nat_tests) steps 500000
 
   module _ (epoch k : ℕ) (ps : List (List ℕ)) where
     -- a judged message is not executable
     entry-done : (s : N.State) (es : List ClientEntry) (ended : List (Span N)) (sent : List Message) (told : List Told) → EarlyAt N epoch k ps s es ended sent told → (e : ClientEntry) → InEntries e es → IsBelow (N.last s) e.message.at → ⊥
-    entry-done s es ended sent told h e q below = grind (arith, nat_tests, below-irrefl, below-trans) steps 500000
+    entry-done s es ended sent told h e q below = grind arith steps 500000
 
     sent-done : (s : N.State) (es : List ClientEntry) (ended : List (Span N)) (sent : List Message) (told : List Told) → EarlyAt N epoch k ps s es ended sent told → (some : List Message) → AllDone k es some → (m : Message) → InSent m some → m.campaign ≡ k → IsBelow (N.last s) m.at → ⊥
-    sent-done s es ended sent told h some all m q c below = grind (arith, nat_tests, in-done, entry-done) steps 500000
+    sent-done s es ended sent told h some all m q c below = grind (arith, in-done, entry-done) steps 500000
 
     -- an executable message of the campaign is the one that waits
     pub is-next : (s : N.State) (es : List ClientEntry) (ended : List (Span N)) (sent : List Message) (told : List Told) → EarlyAt N epoch k ps s es ended sent told → (m : Message) → InSent m sent → m.campaign ≡ k → IsBelow (N.last s) m.at → (m.decided ≡ false) × (call_at k (stage_after ps es) ≡ Some m.call) × AllTold told es × AllDone k (record { message = m; reply = (N.judge s m.call).1 } ∷ es) sent
@@ -176,17 +166,17 @@ module _ (N : NodeRules) (laws : NodeLaws N) where
         })
       where
         before : (e : ClientEntry) → InEntries e es → IsBelow e.message.at m.at
-        before e i = grind (arith, nat_tests, below-trans) steps 500000
+        before e i = grind arith steps 500000
 
     -- a foreign call
     pub early-foreign : (s : N.State) (call : N.ForeignCall) (es : List ClientEntry) (ended : List (Span N)) (sent : List Message) (told : List Told) → EarlyAt N epoch k ps s es ended sent told → EarlyAt N epoch k ps (N.foreign s call) es ended sent told
     early-foreign s call es ended sent told h =
-        grind (arith, nat_tests, laws.foreign_last, at-foreign, stage_after, showed-done, laws.foreign_session) steps 500000
+        grind (arith, at-foreign, stage_after, showed-done, laws.foreign_session) steps 500000
 
     -- a unit, which leaves the spans that ended unless the session is being cleaned up
     pub early-unit : (s : N.State) (passed : Bool) (es : List ClientEntry) (ended ended' : List (Span N)) (sent : List Message) (told : List Told) → (IsAt N s k ps (stage_after ps es) → ended ≡ [] → ended' ≡ []) → EarlyAt N epoch k ps s es ended sent told → EarlyAt N epoch k ps (N.unit s passed) es ended' sent told
     early-unit s passed es ended ended' sent told stays h =
-        grind (arith, nat_tests, laws.unit_last, at-unit, stage_after, laws.unit_still) steps 500000
+        grind (arith, at-unit, stage_after, laws.unit_still) steps 500000
 
     -- an answer that is told: its message is the last one that was judged
     pub early-answered : (s : N.State) (es : List ClientEntry) (ended : List (Span N)) (sent : List Message) (told : List Told) (m : Message) (r : Reply) → InSent m sent → m.at ≡ N.last s → N.kept s ≡ r → (m.call ≢ Sync → m.campaign ≡ k) → EarlyAt N epoch k ps s es ended sent told → EarlyAt N epoch k ps s es ended sent (Answered m r ∷ told)
@@ -220,21 +210,21 @@ module _ (N : NodeRules) (laws : NodeLaws N) where
 
         -- an entry with the last number has this reply
         reply-is : (e : ClientEntry) → InEntries e es → m.at ≡ e.message.at → e.reply ≡ r
-        reply-is e i same = grind (arith, nat_tests, below-irrefl) steps 500000
+        reply-is e i same = grind arith steps 500000
 
         more : (e : ClientEntry) → InEntries e es → told_reply told e.message.at ≡ Some e.reply → told_reply (Answered m r ∷ told) e.message.at ≡ Some e.reply
-        more e i t = grind (arith, nat_tests, same-no) steps 500000
+        more e i t = grind (arith, nat_tests) steps 500000
 
         entry : (e : ClientEntry) → InEntries e es → (r' : Reply) (b : Bool) → no_eq m.at e.message.at ≡ b → (if b then Some r else told_reply told e.message.at) ≡ Some r' → r' ≡ e.reply
         entry e i r' true p t = let x : r ≡ r' = cc t in sym x ∙ sym (reply-is e i (same-no m.at e.message.at p))
         entry e i r' false p t = h.told_entry e i r' t
 
         new : m.call ≡ Activate → r ≡ Done → stage_after ps es ≡ Over
-        new call done = grind (arith, nat_tests, stage_after, in-done, activate-over, below-irrefl) steps 500000
+        new call done = grind (arith, in-done, activate-over, below-irrefl) steps 500000
 
     -- a status that is told
     pub early-showed : (s : N.State) (es : List ClientEntry) (ended : List (Span N)) (sent : List Message) (told : List Told) (x : Status) → N.status s ≡ x → EarlyAt N epoch k ps s es ended sent told → EarlyAt N epoch k ps s es ended sent (Showed x ∷ told)
-    early-showed s es ended sent told x status h = grind (arith, nat_tests, older-told, all-told, is-activated)
+    early-showed s es ended sent told x status h = grind arith
 
     -- before a new message all entries were told
     pub all-answered : (s : N.State) (es : List ClientEntry) (ended : List (Span N)) (sent : List Message) (told : List Told) → ((m : Message) (r : Reply) → InTold (Answered m r) told → IsBelow (N.last s) m.at → ⊥) → ((m : Message) (ms : List Message) → sent ≡ m ∷ ms → m.campaign ≡ k → is_told told m.at ≡ true) → EarlyAt N epoch k ps s es ended sent told → AllDone k es sent × AllTold told es
@@ -264,19 +254,4 @@ module _ (N : NodeRules) (laws : NodeLaws N) where
             known a.0 r.0 a.1 (subst (λ z. IsBelow (N.last s) z) (sym a.2) w.3)
 
     pub early-sent : (s : N.State) (es : List ClientEntry) (ended : List (Span N)) (sent : List Message) (told : List Told) (m : Message) → m.campaign ≡ k → m.decided ≡ false → m.at.epoch ≡ epoch → IsBelow (N.last s) m.at → call_at k (stage_of ps At_sync (replies_of k told sent)) ≡ Some m.call → AllDone k es sent × AllTold told es → EarlyAt N epoch k ps s es ended sent told → EarlyAt N epoch k ps s es ended (m ∷ sent) told
-    early-sent s es ended sent told m c d e below call all h = grind (arith, nat_tests, told-stage) steps 500000
-
--- of the entries of the rounds none is refused but possibly the newest
-onward-refused : (ps : List (List ℕ)) (stage : Stage) (why : Refusal) → onward ps stage (Refused why) ≡ Refused_once
-onward-refused ps x why = grind (arith, nat_tests) steps 1500000
-
-refused-stage : (k : ℕ) (ps : List (List ℕ)) (es : List ClientEntry) (y : ClientEntry) (why : Refusal) → Follows k ps es → InEntries y es → y.reply ≡ Refused why → stage_after ps es ≡ Refused_once
-refused-stage k ps [] y why f h e = absurd h
-refused-stage k ps (z ∷ zs) y why f h e =
-    elim h [
-      | inl q ↦ ap (onward ps (stage_after ps zs)) (sym (ap (λ x. x.reply) q) ∙ e) ∙ onward-refused ps (stage_after ps zs) why
-      | inr h' ↦ absurd (refused-none k ps (stage_after ps zs) z.message.call (refused-stage k ps zs y why f.1 h' e) f.0)
-    ]
-
-pub refused-newest : (k : ℕ) (ps : List (List ℕ)) (z : ClientEntry) (zs : List ClientEntry) (y : ClientEntry) (why : Refusal) → Follows k ps (z ∷ zs) → InEntries y zs → y.reply ≢ Refused why
-refused-newest k ps z zs y why f h e = refused-none k ps (stage_after ps zs) z.message.call (refused-stage k ps zs y why f.1 h e) f.0
+    early-sent s es ended sent told m c d e below call all h = grind (arith, told-stage) steps 500000

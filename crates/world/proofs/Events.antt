@@ -1,23 +1,20 @@
 -- What deliveries, foreign calls and units keep of the invariant.
 use Rattle.std.proofs.Common.{◌≡◌, ◌≢◌, ◌⊎◌, inl, inr, if◌then◌else◌, ◌&&◌, ◌||◌, ℕ, ◌<◌, List, [], ◌∷◌, Option, Some, None, Bool, true, false, is_some, nat_eq, nat_lt, refl, sym, ◌∙◌, ap, subst, arith}
-use Rattle.std.proofs.lemmas.Bool.{eqb-true}
 use Rattle.std.proofs.lemmas.Bool.Decides.{nat_tests}
 use Rattle.ucm_base.specs.declared.ids.CallNo.{CallNo}
 use Rattle.pm_types.specs.declared.status.Status.{Status}
-use Rattle.pm_types.specs.declared.status.Status.TheVariants.{Idle, Ready, Processing, Activating, Verifying, Activated, RollingBack, RolledBack, CleaningUp}
+use Rattle.pm_types.specs.declared.status.Status.TheVariants.{Idle, Processing, Activating, Verifying, RollingBack, RolledBack, CleaningUp}
 use Rattle.campaign_core.specs.declared.events.Decision.{Decision}
 use Rattle.campaign_core.specs.declared.events.Decision.TheVariants.{Commit, Abort}
 use Rattle.campaign_core.specs.declared.fold.Fold.{Fold}
 use Rattle.campaign_core.specs.declared.fold.Current.{Current}
 use Rattle.pm_types.specs.declared.calls.Call.{Call}
 use Rattle.pm_types.specs.declared.replies.Reply.{Reply}
-use Rattle.pm_types.specs.declared.calls.Call.TheVariants.{Sync, TransferStart, TransferData, TransferExit, DeleteTransfer, ProcessSwPackage, Activate, Finish, Rollback, RevertProcessedSwPackages as Revert, Cancel}
-use Rattle.pm_types.specs.declared.replies.Reply.TheVariants.{Done, Started, Synced, Refused}
-use Rattle.pm_types.specs.declared.replies.Reached.TheVariants.{Stale, Again, Done as Fresh}
-use Rattle.world.specs.Messages.{IsBelow, no_lt, no_eq, is_status}
+use Rattle.pm_types.specs.declared.calls.Call.TheVariants.{ProcessSwPackage, Finish}
+use Rattle.pm_types.specs.declared.replies.Reply.TheVariants.{Synced}
+use Rattle.world.specs.Messages.{IsBelow, no_lt, no_eq, is_status, Message, Told, Answered, Showed, InSent, InTold}
 use Rattle.pm_types.specs.NodeState.{is_working}
 use Rattle.world.proofs.Rules.{NodeRules, NodeLaws, delivered, reached}
-use Rattle.world.specs.Messages.{Message, Told, Answered, Showed, InSent, InTold, is_sync, is_done}
 use Rattle.world.proofs.RulesWorld.{Move, Delivered, Foreign, Unit_done, NodeWorld, step, state_of}
 use Rattle.world.specs.Sends.{session_status, is_end_sync, shown_if, or_else, status_if, status_of_shown, last_shown, last_status}
 use Rattle.world.proofs.RulesLaw.{Span, Spans, spans, is_fresh_done, begins_span, EachEnded}
@@ -27,19 +24,16 @@ use Rattle.world.proofs.NodeLemmas.{rolled-keeps, ends_old-keeps, rolled-foreign
 
 -- order of numbers
 pub below-trans : (a b c : CallNo) → IsBelow a b → IsBelow b c → IsBelow a c
-below-trans a b c x y = grind (arith, nat_tests) steps 1500000
+below-trans a b c x y = grind arith steps 1500000
 
 pub below-irrefl : (a : CallNo) → IsBelow a a → ⊥
-below-irrefl a x = grind (arith, nat_tests) steps 1500000
+below-irrefl a x = grind arith steps 1500000
 
 below-tests : (a b c d : ℕ) → (nat_lt a c || (nat_eq a c && nat_lt b d)) ≡ false → (nat_eq a c && nat_eq b d) ≡ false → (c < a) ⊎ ((c ≡ a) × (d < b))
-below-tests a b c d p q = grind (arith, nat_tests)
+below-tests a b c d p q = grind arith
 
 pub above-last : (a b : CallNo) → no_lt a b ≡ false → no_eq a b ≡ false → IsBelow b a
 above-last a b p q = below-tests a.epoch a.number b.epoch b.number p q
-
-pub eq-tests : (a b c d : ℕ) → (nat_lt a c || (nat_eq a c && nat_lt b d)) ≡ false → (nat_eq a c && nat_eq b d) ≡ true → (a ≡ c) × (b ≡ d)
-eq-tests a b c d p q = grind (arith, nat_tests)
 
 -- what was told
 abbrev pub SyncTold : ℕ → ℕ → List Told → Type 0
@@ -60,7 +54,7 @@ shown-told k epoch (Answered m r ∷ ts) e = go (is_end_sync k epoch m) refl (λ
 pub status-told : (k epoch : ℕ) (ts : List Told) (x : Status) → last_status k epoch ts ≡ Some x → SyncTold k epoch ts
 status-told k epoch [] x e = absurd (cc e)
 status-told k epoch (Showed s ∷ ts) x e =
-    grind (arith, nat_tests, is_some, told-later, shown-told, status-told k epoch ts x) steps 500000
+    grind (arith, told-later, shown-told, status-told k epoch ts x) steps 500000
 status-told k epoch (Answered m r ∷ ts) x e = go (is_end_sync k epoch m) refl (λ q. status-told k epoch ts x q) e
   where
     go : (b : Bool) → is_end_sync k epoch m ≡ b → (last_status k epoch ts ≡ Some x → SyncTold k epoch ts) → or_else (status_of_shown (shown_if b r)) (last_status k epoch ts) ≡ Some x → SyncTold k epoch (Answered m r ∷ ts)
@@ -68,7 +62,7 @@ status-told k epoch (Answered m r ∷ ts) x e = go (is_end_sync k epoch m) refl 
     go false q rec e' = told-later k epoch (Answered m r) ts (rec e')
 
 pub end-sync-decided : (k epoch : ℕ) (m : Message) → is_end_sync k epoch m ≡ true → (m.decided ≡ true) × (m.campaign ≡ k)
-end-sync-decided k epoch m e = grind (arith, nat_tests, nat_eq, eqb-true) steps 500000
+end-sync-decided k epoch m e = grind arith steps 500000
 
 module _ (N : NodeRules) (laws : NodeLaws N) (f : Fold) (n : ℕ) where
   -- after an answer to a message of the decided campaign nothing from before the decision is executable
@@ -139,7 +133,7 @@ module _ (N : NodeRules) (laws : NodeLaws N) (f : Fold) (n : ℕ) where
   event-foreign x call fold kept = kept-step x (Foreign call) fold kept steps
     where
       mine-back : (tag : ℕ) → N.mine (N.foreign (state_of N x) call) ≡ Some tag → N.mine (state_of N x) ≡ Some tag
-      mine-back tag e = grind (arith, nat_tests, state_of, laws.foreign_none, laws.foreign_session) steps 500000
+      mine-back tag e = grind arith steps 500000
 
       steps : Steps x (Foreign call)
       steps =
@@ -170,17 +164,17 @@ module _ (N : NodeRules) (laws : NodeLaws N) (f : Fold) (n : ℕ) where
       at_status x i = inl (same x i refl)
 
   pub unit-back : (s : N.State) (passed : Bool) (tag : ℕ) → N.mine (N.unit s passed) ≡ Some tag → N.mine s ≡ Some tag
-  unit-back s passed tag e = grind (arith, nat_tests, laws.unit_none, unit-mine) steps 500000
+  unit-back s passed tag e = grind (arith, unit-mine) steps 500000
 
   pub is-cleaning : (x : Status) → is_status x CleaningUp ≡ true → x ≡ CleaningUp
-  is-cleaning x e = grind (arith, nat_tests) steps 1500000
+  is-cleaning x e = grind arith steps 1500000
 
   -- a span under a unit
   still-open : (y : Spans N) (b : Bool) (z : List (Span N)) → (if (y.is_open && b) then record { is_open = false; ended = z } else y).is_open ≡ true → (y.is_open ≡ true) × (b ≡ false)
-  still-open y b z e = grind (arith, nat_tests) steps 500000
+  still-open y b z e = grind arith steps 500000
 
   pub span-ended : (y : Spans N) (b : Bool) (z : List (Span N)) → ((if (y.is_open && b) then record { is_open = false; ended = z } else y).ended ≡ y.ended) ⊎ ((y.is_open ≡ true) × (b ≡ true) × ((if (y.is_open && b) then record { is_open = false; ended = z } else y).ended ≡ z))
-  span-ended y b z = grind (arith, nat_tests) steps 500000
+  span-ended y b z = grind arith steps 500000
 
   pub event-unit : (x : NodeWorld N) (passed : Bool) → KeptFold f → KeptOld N f n x → KeptOld N f n (record { moves = Unit_done passed ∷ x.moves; sent = x.sent; told = x.told })
   event-unit x passed fold kept = kept-step x (Unit_done passed) fold kept steps
@@ -221,23 +215,13 @@ module _ (N : NodeRules) (laws : NodeLaws N) (f : Fold) (n : ℕ) where
                 ];
           }
 
-  -- a delivery
-  pub done-is : (r : Reply) → is_done r ≡ true → r ≡ Done
-  done-is x e = grind (arith, nat_tests) steps 1500000
-
-  pub is-idle : (x : Status) → is_status x Idle ≡ true → x ≡ Idle
-  is-idle x e = grind (arith, nat_tests) steps 1500000
-
   pub and-left : (a b : Bool) → (a && b) ≡ true → (a ≡ true) × (b ≡ true)
   and-left true b e = (refl, e)
   and-left false b e = absurd (cc e)
 
-  idle-none : (s : N.State) → N.status s ≡ Idle → N.mine s ≡ None
-  idle-none s i = grind (arith, nat_tests, laws.session_status) steps 500000
-
   pub begins-mine : (k : ℕ) (s : N.State) (at : CallNo) (call : Call) → (has_tag k call && (is_status (N.status s) Idle && is_fresh_done (reached N s at call))) ≡ true → N.mine (delivered N s at call) ≡ Some k
   begins-mine k s at x e =
-      grind (arith, nat_tests, and-left, is_fresh_done, reached, nat_eq, is-idle, eqb-true, laws.process_idle, idle-none, done-is, laws.keep_session) steps 1500000
+      grind arith steps 1500000
 
   pub or-true : (a b : Bool) → (a || b) ≡ true → (a ≡ true) ⊎ (b ≡ true)
   or-true true b e = inl refl
@@ -254,7 +238,7 @@ module _ (N : NodeRules) (laws : NodeLaws N) (f : Fold) (n : ℕ) where
       no_process early a b id tag e = early m sent (kept.tags m sent id tag e).1 (fresh_exec a b)
 
       back : (m' : Message) → InSent m' x.sent → Executable N (delivered N (state_of N x) m.at m.call) m' → Executable N (state_of N x) m'
-      back m' s' exec = grind (arith, nat_tests, delivered-cases, state_of, below-trans, laws.keep_last) steps 500000
+      back m' s' exec = grind (arith, nat_tests) steps 500000
 
       none : NoneEarly N (state_of N x) x.sent → N.mine (state_of N x) ≡ None → N.mine (delivered N (state_of N x) m.at m.call) ≡ None
       none early e =

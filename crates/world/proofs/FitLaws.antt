@@ -1,7 +1,5 @@
 -- The node of the tables meets the world's laws, where every step keeps a state valid; and so the law of campaigns holds of it.
-use Rattle.std.proofs.Common.{arith}
-use Rattle.std.proofs.lemmas.Bool.Decides.{nat_tests}
-use Rattle.std.proofs.Common.{◌≡◌, ◌≢◌, ◌⊎◌, inl, inr, ℕ, List, [], ◌∷◌, ◌++◌, Some, None, Bool, true, false, refl, sym, ap, subst}
+use Rattle.std.proofs.Common.{arith, ◌≡◌, ◌≢◌, ◌⊎◌, inl, inr, ℕ, List, [], ◌∷◌, ◌++◌, Some, None, Bool, false, refl, sym, ap, subst}
 use Rattle.std.specs.List.{Contains}
 use Rattle.ucm_base.specs.Parts.{Bytes}
 use Rattle.pm_types.specs.declared.clusters.Cluster.{Cluster}
@@ -9,18 +7,15 @@ use Rattle.pm_types.specs.declared.replies.Refusal.{Refusal}
 use Rattle.pm_types.specs.declared.status.Outcome.{Outcome}
 use Rattle.pm_types.specs.declared.status.Outcome.TheVariants.{New, Old}
 use Rattle.pm_types.specs.declared.status.Status.TheVariants.{Idle, Ready, Processing, Activating, Verifying, Activated, RollingBack, RolledBack, CleaningUp}
-use Rattle.pm_types.specs.NodeState.{NodeState}
+use Rattle.pm_types.specs.NodeState.{NodeState, is_working}
 use Rattle.pm_types.specs.Transfers.{ids_of, parts_read}
 use Rattle.pm_types.specs.Histories.{Reading}
 use Rattle.pm_types.specs.Validity.{id_in_processing}
 use Rattle.pm_types.specs.declared.calls.Call.{Call}
 use Rattle.pm_types.specs.declared.replies.Reply.{Reply}
 use Rattle.pm_types.specs.declared.calls.Call.TheVariants.{TransferStart, TransferData, TransferExit, DeleteTransfer, ProcessSwPackage, Activate, Finish, Rollback, RevertProcessedSwPackages as Revert, Cancel}
-use Rattle.pm_types.specs.declared.replies.Reply.TheVariants.{Done, Started, Synced, Refused}
-use Rattle.pm_types.specs.NodeState.{is_working}
+use Rattle.pm_types.specs.declared.replies.Reply.TheVariants.{Done, Synced, Refused}
 use Rattle.world.proofs.Rules.{NodeRules, NodeLaws, KeepsSession, KeepsTransfers}
-use Rattle.world.proofs.RulesLaw.{CampaignLaw}
-use Rattle.world.proofs.WorldLaw.{world-law}
 use Rattle.world.proofs.Instance.{last_in, kept_in, mine_in, planned_in, outcome_in, BringsIn, LeavesIn, ended_in, received_in, judged_in, kept_after, Outside, Opens, Calls, opened_in, outside_in, unit_in, real}
 use Rattle.world.proofs.FitNode.{KeepsNode, FitState, fit_after, fit_unit, fit}
 use Rattle.world.proofs.Basics as basics
@@ -44,7 +39,7 @@ module _ (read : Reading) (clusters : List (Cluster Bytes)) (keeps : KeepsNode r
       go _ e = refl
 
   pub unit-is : (x : FitState read) (passed : Bool) → (fit_unit read clusters keeps x passed (is_working x.state.status)).state ≡ unit_in x.state passed
-  unit-is x passed = grind (arith, nat_tests, fit_unit, unit_in) steps 500000
+  unit-is x passed = grind arith steps 500000
 
   session-of : (x y : FitState read) (u : NodeState) → y.state ≡ u → KeepsSession (real read clusters) x.state u → KeepsSession (fit read clusters keeps) x y
   session-of x y u e k = let h = subst (λ z. KeepsSession (real read clusters) x.state z) (sym e) k in record { mine = h.mine; status = h.status; planned = h.planned; in_process = h.in_process; outcome = h.outcome }
@@ -177,7 +172,3 @@ module _ (read : Reading) (clusters : List (Cluster Bytes)) (keeps : KeepsNode r
         session_status = λ x tag mine. sessions.session_status x.state tag x.fit.consistent mine;
         cleaning_outcome = λ x tag mine st. units.cleaning_outcome x.state tag x.fit.consistent mine st;
       }
-
-  -- the law of campaigns, at the node of the tables
-  pub fit-campaigns : CampaignLaw (fit read clusters keeps)
-  fit-campaigns = world-law (fit read clusters keeps) fit-laws

@@ -15,9 +15,8 @@ use Rattle.pm_types.specs.declared.replies.Synced.{Synced as Shown}
 use Rattle.pm_types.specs.declared.replies.Reply.{Reply}
 use Rattle.pm_types.specs.declared.calls.Call.TheVariants.{ProcessSwPackage, Finish}
 use Rattle.pm_types.specs.declared.replies.Reply.TheVariants.{Synced}
-use Rattle.world.specs.Messages.{IsBelow}
+use Rattle.world.specs.Messages.{IsBelow, Message, Answered, InSent, InTold}
 use Rattle.world.proofs.Rules.{NodeRules}
-use Rattle.world.specs.Messages.{Message, Answered, InSent, InTold}
 use Rattle.world.proofs.RulesWorld.{NodeWorld, state_of}
 use Rattle.world.specs.Sends.{is_masters, session_status, last_status}
 use Rattle.world.proofs.RulesLaw.{spans, EachEnded, InEarlier}

@@ -19,7 +19,6 @@ pub mod EarlyNode
 pub mod EarlyEvents
 pub mod OpenSpans
 pub mod Early
-pub mod History
 pub mod WorldLaw
 pub mod RoundList
 pub mod WordLaws

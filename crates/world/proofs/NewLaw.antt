@@ -1,5 +1,4 @@
 -- With Enter Successful every named node is new, from an invariant of the time before the decision.
-use Rattle.std.proofs.lemmas.Bool.Decides.{nat_tests}
 use Rattle.std.proofs.Common.{◌≡◌, ◌≢◌, ◌⊎◌, if◌then◌else◌, ◌+◌, ℕ, ◌≤◌, List, [], ◌∷◌, Option, Some, None, Bool, true, false, is_none, nat_eq, nat_le, refl, sym, ◌∙◌, ap, subst, arith}
 use Rattle.std.specs.List.{flat_map}
 use Rattle.std.proofs.lemmas.Bool.{eqb-true}
@@ -11,23 +10,22 @@ use Rattle.campaign_core.specs.declared.events.Decision.TheVariants.{Commit}
 use Rattle.campaign_core.specs.declared.events.CampaignResult.{CampaignResult}
 use Rattle.campaign_core.specs.declared.events.CampaignResult.TheVariants.{Successful}
 use Rattle.campaign_core.specs.declared.events.MasterEvent.{MasterEvent}
-use Rattle.campaign_core.specs.declared.events.MasterEvent.TheVariants.{Start, Begin, PhaseTo, VoteOf, CancelAsked, Decide, EndedAt, Enter}
+use Rattle.campaign_core.specs.declared.events.MasterEvent.TheVariants.{Start, Begin, VoteOf, Decide, EndedAt, Enter}
 use Rattle.campaign_core.specs.declared.fold.Fold.{Fold}
 use Rattle.campaign_core.specs.declared.fold.Current.{Current}
 use Rattle.campaign_core.specs.Nodes.{flag_of}
 use Rattle.campaign_core.specs.Campaign.{all_ended, is_result_of, may_begin, meets, in_current, refusal_of, changed, changed_in, after_event, entered, begun}
 use Rattle.pm_types.specs.declared.calls.Call.{Call}
 use Rattle.world.proofs.Rules.{NodeRules, NodeLaws, reached}
-use Rattle.world.specs.Messages.{Message, Showed, InSent, nth_sent, answer_of}
+use Rattle.world.specs.Messages.{Message, Showed, InSent, answer_of}
 use Rattle.world.proofs.RulesWorld.{Delivered, Unit_done, NodeWorld, World, state_of, Event, Deliver, Foreign_calls, Unit_comes, Send, Record, Restart, Evidence, Allowed, emptied, deliver_to, recorded, happens, Makes, opened_world}
 use Rattle.world.specs.Sends.{Packages, MaySend, campaign_of, decided_of, next_number}
 use Rattle.world.specs.Evidence.{InCurrent, NamesOf}
-use Rattle.world.proofs.RulesLaw.{IsNew}
+use Rattle.world.proofs.RulesLaw.{IsNew, InEarlier}
 use Rattle.world.proofs.Invariant.{KeptOld, KeptFold}
-use Rattle.world.proofs.RulesLaw.{InEarlier}
 use Rattle.world.proofs.Events.{event-deliver}
 use Rattle.world.proofs.Records.{SameAt, SameFold, some-inj, and-both}
-use Rattle.world.proofs.OldLaw.{WorldKept, kept-event, kept-opened, nth-in, unless-true, start-same, same-fold, same-refl}
+use Rattle.world.proofs.OldLaw.{WorldKept, kept-event, nth-in, unless-true, start-same, same-fold, same-refl}
 use Rattle.world.proofs.Committed.{IsWaiting}
 use Rattle.world.proofs.CommittedEvents.{KeptCommitted, IsReadyToCommit, changes_of, committed-deliver, committed-foreign, committed-unit, committed-send, committed-told, committed-same, committed-decide, committed-enter}
 
@@ -49,7 +47,7 @@ module _ (N : NodeRules) (laws : NodeLaws N) (packages : Packages) (numbers : Li
     pub ready : (w : World N) (c : Current) → w.fold.current ≡ Some c → refusal_of w.fold (Decide Commit) ≡ None → WorldNew w → Holds w → (n : ℕ) → IsReadyToCommit N laws packages n c (w.node n)
 
   one-node : (w : World N) (n : ℕ) (x : NodeWorld N) → ((k : ℕ) → KeptCommitted N laws packages k w.fold (w.node k)) → KeptCommitted N laws packages n w.fold x → (k : ℕ) → KeptCommitted N laws packages k w.fold (if nat_eq k n then x else w.node k)
-  one-node w n x each new k = grind (arith, nat_tests, nat_eq, eqb-true) steps 500000
+  one-node w n x each new k = grind arith steps 500000
 
   names-same : (f g : Fold) → ((n : ℕ) → SameFold n f g) → IsNamed f → IsNamed g
   names-same f g same names d current n low high steps =
@@ -63,7 +61,7 @@ module _ (N : NodeRules) (laws : NodeLaws N) (packages : Packages) (numbers : Li
   deliver f n x (Some m) false is fold old kept = committed-deliver N laws packages n f x m (is m refl) fold (event-deliver N laws f n x m (is m refl) fold old) kept
 
   send : (f : Fold) (n : ℕ) (x : NodeWorld N) (call : Call) (o : Option Current) → f.current ≡ o → InCurrent o (λ c. MaySend packages f.epoch n c x.told x.sent call) → KeptCommitted N laws packages n f x → KeptCommitted N laws packages n f (record { moves = x.moves; sent = record { at = next_number f.epoch x.sent; call = call; campaign = campaign_of o; decided = decided_of o } ∷ x.sent; told = x.told })
-  send f n x call y e may kept = grind (arith, nat_tests, committed-send) steps 1500000
+  send f n x call y e may kept = grind (arith, committed-send) steps 1500000
 
   start-fold : (w : World N) (epoch : ℕ) → epoch ≡ w.fold.epoch + 1 → (n : ℕ) → SameFold n w.fold (after_event w.fold (Start epoch))
   start-fold w epoch e n = same-fold n w.fold epoch (Start epoch) (omega (arith, e)) (λ c. start-same n c epoch)
@@ -104,14 +102,14 @@ module _ (N : NodeRules) (laws : NodeLaws N) (packages : Packages) (numbers : Li
       }
     where
       not_yet : (c : Current) → Some (begun k named) ≡ Some c → c.decision ≡ Some Commit → ⊥
-      not_yet c current commit = grind (arith, nat_tests, some-inj) steps 500000
+      not_yet c current commit = grind arith steps 500000
 
   decide : (w : World N) (d : Decision) (o : Option Current) → w.fold.current ≡ o → in_current o (Decide d) ≡ None → ((c : Current) → o ≡ Some c → d ≡ Commit → (n : ℕ) → IsReadyToCommit N laws packages n c (w.node n)) → WorldNew w → Parts (record { fold = record { epoch = w.fold.epoch; earlier = w.fold.earlier; current = changed_in o (Decide d) }; node = w.node })
   decide w d None e h ready new = absurd (cc h)
-  decide w d (Some c) e h ready new = grind (arith, nat_tests, some-inj, committed-decide)
+  decide w d (Some c) e h ready new = grind (arith, committed-decide)
 
   ended : (w : World N) (nd : NodeId) (o : Outcome) (p : Option Current) → w.fold.current ≡ p → WorldNew w → Parts (record { fold = record { epoch = w.fold.epoch; earlier = w.fold.earlier; current = changed_in p (EndedAt nd o) }; node = w.node })
-  ended w nd o None e new = grind (arith, nat_tests) steps 500000
+  ended w nd o None e new = grind arith steps 500000
   ended w nd o (Some c) e new =
       record {
         names = λ c' current n low high steps.
@@ -155,14 +153,14 @@ module _ (N : NodeRules) (laws : NodeLaws N) (packages : Packages) (numbers : Li
   of-record early w x h evidence new ready = plain w x (λ n c. same-refl n c (changed c x) refl refl refl refl) new
 
   of-event : (early : Early) (w : World N) (e : Event N) → Allowed N packages numbers w e → WorldNew w → early.Holds w → Parts (happens N w e)
-  of-event early w (Deliver n which told) allowed new holds = grind (arith, nat_tests, one-node, deliver, nth-in)
-  of-event early w (Foreign_calls n call) allowed new holds = grind (arith, nat_tests, one-node, committed-foreign)
+  of-event early w (Deliver n which told) allowed new holds = grind (arith, one-node, deliver, nth-in)
+  of-event early w (Foreign_calls n call) allowed new holds = grind (arith, one-node, committed-foreign)
   of-event early w (Unit_comes n passed told) allowed new holds =
       record {
         names = new.names;
         each = one-node w n _ new.each (committed-told N laws packages n w.fold (record { moves = Unit_done passed ∷ (w.node n).moves; sent = (w.node n).sent; told = (w.node n).told }) (if told then Showed (N.status (N.unit (state_of N (w.node n)) passed)) ∷ (w.node n).told else (w.node n).told) (committed-unit N laws packages n w.fold (w.node n) passed (new.each n)));
       }
-  of-event early w (Send n call) allowed new holds = grind (arith, nat_tests, one-node, send)
+  of-event early w (Send n call) allowed new holds = grind (arith, one-node, send)
   of-event early w (Record e) allowed new holds = of-record early w e allowed.0 allowed.1 new (λ c current h n. early.ready w c current h new holds n)
   of-event early w Restart allowed new holds = start w (w.fold.epoch + 1) refl new
 
@@ -175,7 +173,7 @@ module _ (N : NodeRules) (laws : NodeLaws N) (packages : Packages) (numbers : Li
       (early.keeps w e made.0 new holds) made.1
 
   new-opened : (openings : ℕ → N.ForeignCall) → WorldNew (opened_world N openings)
-  new-opened openings = grind (arith, nat_tests, kept-opened) steps 500000
+  new-opened openings = grind arith steps 500000
 
   -- with Enter Successful every named node is new, over every list of events
   pub new-law : Early → (openings : ℕ → N.ForeignCall) (events : List (Event N)) (w : World N) → Makes N packages numbers (opened_world N openings) events w → (k : ℕ) → InEarlier (k, Successful) w.fold.earlier → (n : ℕ) → 1 ≤ n → n ≤ 8 → packages k n ≢ [] → IsNew N k (flat_map N.changes_of (packages k n)) (w.node n).moves

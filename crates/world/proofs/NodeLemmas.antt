@@ -1,12 +1,10 @@
 -- What one step of a node keeps, from the laws of a node alone.
-use Rattle.std.proofs.Common.{arith}
-use Rattle.std.proofs.lemmas.Bool.Decides.{nat_tests}
-use Rattle.std.proofs.Common.{◌≡◌, ◌≢◌, ◌⊎◌, inl, inr, if◌then◌else◌, ℕ, Option, Some, None, Bool, true, false, refl, sym, ◌∙◌, ap, subst}
+use Rattle.std.proofs.Common.{arith, ◌≡◌, ◌≢◌, ◌⊎◌, inl, inr, ℕ, Option, Some, None, Bool, false, refl, sym, ◌∙◌, ap, subst}
 use Rattle.pm_types.specs.declared.replies.Refusal.{Refusal}
 use Rattle.ucm_base.specs.declared.ids.CallNo.{CallNo}
 use Rattle.pm_types.specs.declared.status.Outcome.TheVariants.{Old}
 use Rattle.pm_types.specs.declared.status.Status.{Status}
-use Rattle.pm_types.specs.declared.status.Status.TheVariants.{Idle, Ready, Processing, Activating, Verifying, Activated, RollingBack, RolledBack, CleaningUp}
+use Rattle.pm_types.specs.declared.status.Status.TheVariants.{Ready, Processing, Activating, Verifying, RollingBack, RolledBack, CleaningUp}
 use Rattle.pm_types.specs.declared.calls.Call.{Call}
 use Rattle.pm_types.specs.declared.replies.Synced.{Synced as Shown}
 use Rattle.pm_types.specs.declared.calls.Call.TheVariants.{Sync, TransferStart, TransferData, TransferExit, DeleteTransfer, ProcessSwPackage, Activate, Finish, Rollback, RevertProcessedSwPackages as Revert, Cancel}
@@ -20,13 +18,10 @@ use Rattle.world.proofs.Invariant.{IsRolledBack, EndsOld, KeptHolds}
 module _ (N : NodeRules) (laws : NodeLaws N) where
   -- a step that keeps client 0's session keeps both facts
   pub rolled-keeps : (s t : N.State) → KeepsSession N s t → IsRolledBack N s → IsRolledBack N t
-  rolled-keeps s t k rolled tag mine = grind (arith, nat_tests) steps 500000
+  rolled-keeps s t k rolled tag mine = grind arith steps 500000
 
   pub ends_old-keeps : (s t : N.State) → KeepsSession N s t → EndsOld N s → EndsOld N t
-  ends_old-keeps s t k old tag mine status = grind (arith, nat_tests) steps 500000
-
-  pub rolled-none : (s : N.State) → N.mine s ≡ None → IsRolledBack N s
-  rolled-none s none tag mine = absurd (cc (none, mine))
+  ends_old-keeps s t k old tag mine status = grind arith steps 500000
 
   pub ends_old-none : (s : N.State) → N.mine s ≡ None → EndsOld N s
   ends_old-none s none tag mine status = absurd (cc (none, mine))
@@ -34,21 +29,21 @@ module _ (N : NodeRules) (laws : NodeLaws N) where
   -- a foreign call
   pub rolled-foreign : (s : N.State) (call : N.ForeignCall) → IsRolledBack N s → IsRolledBack N (N.foreign s call)
   rolled-foreign s call rolled =
-      grind (arith, nat_tests, rolled-none, laws.foreign_none, rolled-keeps, laws.foreign_session) steps 500000
+      grind arith steps 500000
 
   pub ends_old-foreign : (s : N.State) (call : N.ForeignCall) → EndsOld N s → EndsOld N (N.foreign s call)
   ends_old-foreign s call old =
-      grind (arith, nat_tests, ends_old-none, laws.foreign_none, ends_old-keeps, laws.foreign_session) steps 500000
+      grind arith steps 500000
 
   -- a unit
   pub cleaned : (s : N.State) (passed : Bool) (tag : ℕ) → N.mine s ≡ Some tag → N.status s ≡ CleaningUp → N.mine (N.unit s passed) ≡ None
-  cleaned s passed tag mine status = grind (arith, nat_tests, laws.cleaning_outcome, laws.unit_cleaning)
+  cleaned s passed tag mine status = grind arith
 
   pub still : (s : N.State) (passed : Bool) (x : Status) → N.status s ≡ x → is_working x ≡ false → N.unit s passed ≡ s
   still s passed x e f = laws.unit_still s passed (ap is_working e ∙ f)
 
   pub rolled-unit : (s : N.State) (passed : Bool) → IsRolledBack N s → IsRolledBack N (N.unit s passed)
-  rolled-unit s passed rolled = grind (arith, nat_tests, rolled-none, laws.unit_none, still, cleaned) steps 500000
+  rolled-unit s passed rolled = grind (arith, laws.unit_none, still, cleaned) steps 500000
 
   -- no unit leads into CleaningUp
   pub ends_old-unit : (s : N.State) (passed : Bool) → EndsOld N s → EndsOld N (N.unit s passed)
@@ -62,7 +57,7 @@ module _ (N : NodeRules) (laws : NodeLaws N) where
           let p = laws.unit_processing s passed tag (laws.processing_id s tag e i).0 e i (laws.processing_id s tag e i).1 in
           elim p.2 [ inl h ↦ other Processing (λ q. cc) h.0 | inr h ↦ other Ready (λ q. cc) h.0 ]
       at_status tag e Activating i = other Verifying (λ q. cc) (laws.unit_activating s passed tag e i).1
-      at_status tag e Verifying i = grind (arith, nat_tests, laws.unit_verifying) steps 500000
+      at_status tag e Verifying i = grind arith steps 500000
       at_status tag e RollingBack i = other RolledBack (λ q. cc) (laws.unit_rolling s passed tag e i).1
       at_status tag e CleaningUp i = ends_old-none (N.unit s passed) (cleaned s passed tag e i)
       at_status tag e x i = rw (still s passed x i refl) old
@@ -192,31 +187,23 @@ module _ (N : NodeRules) (laws : NodeLaws N) where
 
   -- a delivery is nothing, or a call that is judged and kept
   pub delivered-cases : (s : N.State) (at : CallNo) (call : Call) (P : N.State → Type 0) → P s → (no_lt at (N.last s) ≡ false → no_eq at (N.last s) ≡ false → P (N.keep (N.judge s call).0 at call (N.judge s call).1)) → P (delivered N s at call)
-  delivered-cases s at call P here there = grind (arith, nat_tests) steps 500000
-
-  pub rolled-delivered : (s : N.State) (at : CallNo) (call : Call) → ((id tag : ℕ) → call ≢ ProcessSwPackage id tag) → IsRolledBack N s → IsRolledBack N (delivered N s at call)
-  rolled-delivered s at call not r =
-      delivered-cases s at call (λ t. IsRolledBack N t) r (λ a b. rolled-keeps _ _ (laws.keep_session (N.judge s call).0 at call (N.judge s call).1) (rolled-judge s call not r))
-
-  pub ends_old-delivered : (s : N.State) (at : CallNo) (call : Call) → (call ≡ Finish → IsRolledBack N s) → EndsOld N s → EndsOld N (delivered N s at call)
-  ends_old-delivered s at call fin o =
-      delivered-cases s at call (λ t. EndsOld N t) o (λ a b. ends_old-keeps _ _ (laws.keep_session (N.judge s call).0 at call (N.judge s call).1) (ends_old-judge s call fin o))
+  delivered-cases s at call P here there = grind arith steps 500000
 
   pub none-delivered : (s : N.State) (at : CallNo) (call : Call) → ((id tag : ℕ) → call ≢ ProcessSwPackage id tag) → N.mine s ≡ None → N.mine (delivered N s at call) ≡ None
-  none-delivered s at call not e = grind (arith, nat_tests, delivered-cases, laws.keep_session, none-judge)
+  none-delivered s at call not e = grind (arith, laws.keep_session, none-judge)
 
   pub some-delivered : (s : N.State) (at : CallNo) (call : Call) (tag : ℕ) → N.mine s ≡ Some tag → N.mine (delivered N s at call) ≡ Some tag
-  some-delivered s at call tag e = grind (arith, nat_tests, delivered-cases, laws.keep_session, some-judge)
+  some-delivered s at call tag e = grind (arith, laws.keep_session, some-judge)
 
   -- what a Sync shows
   pub sync-shown : (s : N.State) (call : Call) (x : Shown) → call ≡ Sync → (N.judge s call).1 ≡ Synced x → (x.session ≡ shown_session N s) × ((N.judge s call).0 ≡ s)
-  sync-shown s call x e r = grind (arith, nat_tests, shown_session, laws.sync_reply, laws.sync_state) steps 500000
+  sync-shown s call x e r = grind arith steps 500000
 
   pub shown-none : (owner : ℕ) (status : Status) (mine : Option ℕ) → is_masters (shown_of owner status mine) ≡ false → mine ≡ None
-  shown-none owner status x f = grind (arith, nat_tests) steps 1500000
+  shown-none owner status x f = grind arith steps 1500000
 
   pub shown-status : (owner tag : ℕ) (status : Status) (mine : Option ℕ) → mine ≡ Some tag → session_status (shown_of owner status mine) ≡ status
-  shown-status owner tag status x e = grind (arith, nat_tests) steps 1500000
+  shown-status owner tag status x e = grind arith steps 1500000
 
   -- what a kept Sync says: of a call just judged, after a foreign call and after a unit
   pub kept-fresh : (s : N.State) (at : CallNo) (call : Call) → KeptHolds N (N.keep (N.judge s call).0 at call (N.judge s call).1)

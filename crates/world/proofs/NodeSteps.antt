@@ -1,30 +1,23 @@
 -- What a call and a unit make of a node's history is what they make of its state and of its spans.
-use Rattle.std.proofs.Common.{◌≡◌, refl, sym, ap, ◌∙◌, ℕ, suc, Bool, true, false, List, ◌∷◌, arith}
-use Rattle.std.specs.Prelude.{◌&&◌, ◌||◌, nat_eq, option_map, option_and_then, unwrap_or, if◌then◌else◌, Option, Some, None}
-use Rattle.std.specs.declared.cmp.Ordering.{Ordering}
-use Rattle.std.specs.declared.cmp.Ordering.TheVariants.{Less, Equal, Greater}
+use Rattle.std.proofs.Common.{◌≡◌, refl, ap, ℕ, suc, Bool, true, false, List, ◌∷◌, arith}
+use Rattle.std.specs.Prelude.{◌&&◌, ◌||◌, if◌then◌else◌, None}
 use Rattle.ucm_base.specs.declared.ids.CallNo.{CallNo}
 use Rattle.pm_types.specs.declared.calls.Call.{Call}
 use Rattle.pm_types.specs.declared.history.Entry.{Entry}
 use Rattle.pm_types.specs.declared.replies.Reached.{Reached}
-use Rattle.pm_types.specs.declared.replies.Reached.TheVariants.{Done as Executed, Again, Stale}
-use Rattle.pm_types.specs.declared.state.Kept.{Kept}
-use Rattle.pm_types.specs.declared.status.Status.{Status}
-use Rattle.pm_types.specs.declared.status.Status.TheVariants.{Idle, Ready, Processing, Activating, Verifying, Activated, RollingBack, RolledBack, CleaningUp}
-use Rattle.pm_types.specs.NodeState.{NodeState, of_client}
-use Rattle.std.proofs.lemmas.Bool.Decides.{nat_tests}
+use Rattle.pm_types.specs.declared.status.Status.TheVariants.{Idle, CleaningUp}
+use Rattle.pm_types.specs.NodeState.{NodeState}
 use Rattle.pm_types.specs.declared.history.Happened.TheVariants.{Unit as UnitLine}
-use Rattle.pm_types.specs.Steps.{with_entry, step, executed, by_last, by_order, call_no_cmp}
-use Rattle.pm_types.specs.Work.{unit, unit_of, clean_up_unit}
+use Rattle.pm_types.specs.Steps.{with_entry, step}
+use Rattle.pm_types.specs.Work.{unit}
 use Rattle.pm_types.specs.Histories.{Reading, verdict_for, state_after}
 use Rattle.pm_types.specs.Validity.{IsConsistent}
-use Rattle.world.specs.Messages.{is_done, is_status}
+use Rattle.world.specs.Messages.{is_status}
 use Rattle.world.specs.Spans.{Spans, has_tag, span_of, spans}
 use Rattle.world.specs.World.{reached, entered, worked_on, shown_by}
 use Rattle.world.proofs.Appended.{after-append, spans-append}
 use Rattle.world.proofs.Instance.{unit_in}
 use Rattle.world.proofs.RulesLaw.{is_fresh_done}
-use Rattle.world.proofs.Sessions.{session-there}
 
 module _ (read : Reading) (o : NodeState) (es : List Entry) where
   abbrev now : NodeState
@@ -32,7 +25,7 @@ module _ (read : Reading) (o : NodeState) (es : List Entry) where
 
   -- the state after a call
   pub entered-state : (client : ℕ) (at : CallNo) (c : Call) → state_after read o (entered es client at c (reached read now client at c)) ≡ (step now client at c (verdict_for read now client c)).0
-  entered-state client at c = grind (arith, nat_tests, after-append) steps 500000
+  entered-state client at c = grind (arith, after-append) steps 500000
 
   or-false : (b : Bool) → (b || false) ≡ b
   or-false true = refl
@@ -50,25 +43,25 @@ module _ (read : Reading) (o : NodeState) (es : List Entry) where
 
   -- the spans after a call of client 0
   pub entered-spans : (k : ℕ) (at : CallNo) (c : Call) (r : Reached) → spans read k o (entered es 0 at c r) ≡ same (spans read k o es) (has_tag k c && (is_status now.status Idle && is_fresh_done r))
-  entered-spans k at c x = grind (arith, nat_tests, spans-append, and-false, unchanged) steps 1500000
+  entered-spans k at c x = grind (arith, spans-append, and-false, unchanged) steps 1500000
 
   -- another client's calls begin and end none
   pub foreign-spans : (k other : ℕ) (at : CallNo) (c : Call) (r : Reached) → spans read k o (entered es (suc other) at c r) ≡ spans read k o es
-  foreign-spans k other at c x = grind (arith, nat_tests, spans-append, unchanged) steps 1500000
+  foreign-spans k other at c x = grind (arith, spans-append, unchanged) steps 1500000
 
   abbrev entry : NodeState → NodeState
   entry t = with_entry (UnitLine t.status) t
 
   -- the state after a unit
   pub worked-state : (passed : Bool) → state_after read o (worked_on es passed (unit now passed)) ≡ unit_in now passed
-  worked-state passed = grind (arith, nat_tests, unit_in, after-append) steps 500000
+  worked-state passed = grind (arith, after-append) steps 500000
 
   pub worked-status : (passed : Bool) → shown_by now (unit now passed) ≡ (unit_in now passed).status
-  worked-status passed = grind (arith, nat_tests) steps 500000
+  worked-status passed = grind arith steps 500000
 
   -- in CleaningUp there is a unit to do
   cleans : (passed : Bool) → IsConsistent now → unit now passed ≡ None → is_status now.status CleaningUp ≡ false
-  cleans passed v e = grind (arith, nat_tests, session-there) steps 500000
+  cleans passed v e = grind arith steps 500000
 
   joined : (b c : Bool) (a x y : Spans) → x ≡ y → (if c && b then a else x) ≡ (if b && c then a else y)
   joined b c a x y e = grind arith
@@ -80,4 +73,4 @@ module _ (read : Reading) (o : NodeState) (es : List Entry) where
   -- the spans after a unit
   pub worked-spans : (k : ℕ) (passed : Bool) → IsConsistent now
       → spans read k o (worked_on es passed (unit now passed)) ≡ (if (spans read k o es).is_open && is_status now.status CleaningUp then record { is_open = false; ended = span_of now (unit_in now passed) ∷ (spans read k o es).ended } else spans read k o es)
-  worked-spans k passed v = grind (arith, nat_tests, unit_in, cleans, and-no, spans-append, joined, unchanged)
+  worked-spans k passed v = grind (arith, cleans, and-no, spans-append, joined, unchanged)

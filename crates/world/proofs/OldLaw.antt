@@ -1,5 +1,4 @@
 -- Every event keeps the invariant, and so a failed or cancelled campaign left all old.
-use Rattle.std.proofs.lemmas.Bool.Decides.{nat_tests}
 use Rattle.std.proofs.Common.{◌≡◌, ◌≢◌, ◌⊎◌, inl, inr, if◌then◌else◌, ◌&&◌, not, ◌+◌, ℕ, zero, suc, ◌<◌, ◌≤◌, List, [], ◌∷◌, Option, Some, None, Bool, true, false, is_none, nat_eq, nat_le, refl, sym, ◌∙◌, ap, subst, arith}
 use Rattle.std.proofs.lemmas.Bool.{eqb-true}
 use Rattle.std.proofs.lemmas.Bool.Decides.{eqb_tells}
@@ -11,27 +10,23 @@ use Rattle.campaign_core.specs.declared.events.Decision.TheVariants.{Commit, Abo
 use Rattle.campaign_core.specs.declared.events.CampaignResult.{CampaignResult}
 use Rattle.campaign_core.specs.declared.events.CampaignResult.TheVariants.{Successful}
 use Rattle.campaign_core.specs.declared.events.MasterEvent.{MasterEvent}
-use Rattle.campaign_core.specs.declared.events.MasterEvent.TheVariants.{Start, Begin, PhaseTo, VoteOf, CancelAsked, Decide, EndedAt, Enter}
+use Rattle.campaign_core.specs.declared.events.MasterEvent.TheVariants.{Start, Begin, VoteOf, Decide, EndedAt, Enter}
 use Rattle.campaign_core.specs.declared.fold.Fold.{Fold}
 use Rattle.campaign_core.specs.declared.fold.Current.{Current}
-use Rattle.campaign_core.specs.Nodes.{flag_of, part_of}
 use Rattle.campaign_core.specs.Campaign.{nothing_yet, end_of, all_ended, is_new_of, is_result_of, is_undecided, is_cause, first_cause, all_yes, is_marked, may_decide, may_begin, meets, unless, in_current, refusal_of, changed, changed_in, after_event, entered, all_below, begun}
 use Rattle.world.proofs.Parts.{part-none, part-other}
 use Rattle.pm_types.specs.declared.calls.Call.{Call}
 use Rattle.pm_types.specs.declared.replies.Reply.{Reply}
 use Rattle.pm_types.specs.declared.replies.Reached.{Reached}
 use Rattle.pm_types.specs.declared.replies.Reached.TheVariants.{Stale, Again, Done as Fresh}
-use Rattle.world.specs.Messages.{IsBelow, no_lt, no_eq}
 use Rattle.world.proofs.Rules.{NodeRules, NodeLaws, reached, delivered}
 use Rattle.world.specs.Messages.{Message, Showed, InSent, nth_sent, answer_of}
 use Rattle.world.proofs.RulesWorld.{Delivered, Unit_done, NodeWorld, World, state_of, Event, Deliver, Foreign_calls, Unit_comes, Send, Record, Restart, Evidence, Allowed, with_node, emptied, deliver_to, recorded, happens, formatted_world, Makes, opened_world}
 use Rattle.world.specs.Sends.{Packages, MaySend, campaign_of, decided_of, next_number}
 use Rattle.world.specs.Evidence.{EndEvidence, InCurrent}
-use Rattle.world.proofs.RulesLaw.{spans, IsOld}
+use Rattle.world.proofs.RulesLaw.{spans, IsOld, InEarlier}
 use Rattle.world.proofs.Invariant.{Executable, KeptOld, KeptFold}
-use Rattle.world.proofs.RulesLaw.{InEarlier}
-use Rattle.world.proofs.NodeLemmas.{rolled-none}
-use Rattle.world.proofs.Events.{below-irrefl, eq-tests, event-deliver, event-foreign, event-unit, event-answered, event-showed}
+use Rattle.world.proofs.Events.{event-deliver, event-foreign, event-unit, event-answered, event-showed}
 use Rattle.world.proofs.Sends.{event-send}
 use Rattle.world.proofs.Records.{SameAt, SameFold, some-inj, and-both, below-in, forget, event-same, event-begin, event-decide, event-ended, event-enter}
 
@@ -46,10 +41,10 @@ unless-true false e = absurd (cc e)
 
 -- what a record changes in the current campaign, where it changes no part that a node sees
 pub same-refl : (n : ℕ) (c d : Current) → d.campaign ≡ c.campaign → d.named ≡ c.named → d.ended ≡ c.ended → d.decision ≡ c.decision → SameAt n c d
-same-refl n c d a b e g = grind (arith, nat_tests) steps 500000
+same-refl n c d a b e g = grind arith steps 500000
 
 pub start-same : (n : ℕ) (c : Current) (epoch : ℕ) → SameAt n c (changed c (Start epoch))
-start-same n c epoch = grind (arith, nat_tests, same-refl) steps 500000
+start-same n c epoch = grind arith steps 500000
 
 pub same-fold : (n : ℕ) (f : Fold) (epoch : ℕ) (e : MasterEvent) → f.epoch ≤ epoch → ((c : Current) → SameAt n c (changed c e)) → SameFold n f (record { epoch = epoch; earlier = f.earlier; current = changed_in f.current e })
 same-fold n f epoch e le same = record { epoch = le; earlier = refl; back = λ d h. back f.current d h; forth = λ c h. forth f.current c h }
@@ -76,11 +71,11 @@ module _ (N : NodeRules) (laws : NodeLaws N) (packages : Packages) (numbers : Li
 
   -- one node changes
   one-node : (w : World N) (n : ℕ) (x : NodeWorld N) → WorldKept w → KeptOld N w.fold n x → WorldKept (with_node N w n x)
-  one-node w n x kept new = grind (arith, nat_tests, nat_eq, eqb-true) steps 500000
+  one-node w n x kept new = grind arith steps 500000
 
   -- the reply of a delivery is the one that the node keeps then
   pub reply-facts : (s : N.State) (m : Message) (r : Reply) → (reached N s m.at m.call ≡ Again r) ⊎ (reached N s m.at m.call ≡ Fresh r) → (N.kept (delivered N s m.at m.call) ≡ r) × (Executable N (delivered N s m.at m.call) m → ⊥)
-  reply-facts s m r h = grind (arith, nat_tests, eq-tests, laws.keep_kept, below-irrefl, laws.keep_last)
+  reply-facts s m r h = grind arith
 
   deliver-told : (f : Fold) (n : ℕ) (x : NodeWorld N) (m : Message) → InSent m x.sent → (a : Reached) → ((r : Reply) → (a ≡ Again r) ⊎ (a ≡ Fresh r) → (N.kept (state_of N x) ≡ r) × (Executable N (state_of N x) m → ⊥)) → KeptOld N f n x → KeptOld N f n (record { moves = x.moves; sent = x.sent; told = answer_of m a x.told })
   deliver-told f n x m sent (Stale last) facts kept = kept
@@ -99,11 +94,7 @@ module _ (N : NodeRules) (laws : NodeLaws N) (packages : Packages) (numbers : Li
   kept-unit-told f n x passed false fold kept = event-unit N laws f n x passed fold kept
 
   pub kept-send : (f : Fold) (n : ℕ) (x : NodeWorld N) (call : Call) (o : Option Current) → f.current ≡ o → InCurrent o (λ c. MaySend packages f.epoch n c x.told x.sent call) → KeptFold f → KeptOld N f n x → KeptOld N f n (record { moves = x.moves; sent = record { at = next_number f.epoch x.sent; call = call; campaign = campaign_of o; decided = decided_of o } ∷ x.sent; told = x.told })
-  kept-send f n x call y e may fold kept = grind (arith, nat_tests, event-send) steps 1500000
-
-  -- the records
-  pub meets-in : (o : Option Current) (e : MasterEvent) → in_current o e ≡ None → (c : Current) × (o ≡ Some c) × (meets c e ≡ true)
-  meets-in x e h = grind (arith, nat_tests, unless-true) steps 1500000
+  kept-send f n x call y e may fold kept = grind (arith, event-send) steps 1500000
 
   kept-start : (w : World N) (epoch : ℕ) → epoch ≡ w.fold.epoch + 1 → WorldKept w → WorldKept (emptied N w (after_event w.fold (Start epoch)))
   kept-start w epoch e kept =
@@ -228,7 +219,7 @@ module _ (N : NodeRules) (laws : NodeLaws N) (packages : Packages) (numbers : Li
   kept-event w Restart allowed kept = kept-start w (w.fold.epoch + 1) refl kept
 
   pub kept-formatted : WorldKept (formatted_world N)
-  kept-formatted = grind (arith, nat_tests, laws.formatted_mine, rolled-none) steps 500000
+  kept-formatted = grind arith steps 500000
 
   pub kept-opened : (openings : ℕ → N.ForeignCall) → WorldKept (opened_world N openings)
   kept-opened openings = record { fold = kept-formatted.fold; each = λ n. event-foreign N laws nothing_yet n (record { moves = []; sent = []; told = [] }) (openings n) kept-formatted.fold (kept-formatted.each n) }

@@ -1,18 +1,15 @@
 -- A session of client 0 is an open span of its tag.
-use Rattle.std.proofs.Common.{arith}
-use Rattle.std.proofs.lemmas.Bool.Decides.{nat_tests}
-use Rattle.std.proofs.Common.{◌≡◌, inl, inr, if◌then◌else◌, ◌&&◌, ◌||◌, ℕ, List, [], ◌∷◌, Option, Some, None, Bool, true, false, nat_eq, refl, sym, ◌∙◌, ap, subst}
+use Rattle.std.proofs.Common.{arith, ◌≡◌, inl, inr, if◌then◌else◌, ◌&&◌, ◌||◌, ℕ, List, [], ◌∷◌, Option, Some, None, Bool, true, false, nat_eq, refl, sym, ◌∙◌, ap, subst}
 use Rattle.std.proofs.lemmas.Bool.{eq-eqb}
 use Rattle.ucm_base.specs.declared.ids.CallNo.{CallNo}
 use Rattle.pm_types.specs.declared.status.Status.TheVariants.{Idle, CleaningUp}
 use Rattle.campaign_core.specs.Campaign.{nothing_yet}
 use Rattle.pm_types.specs.declared.calls.Call.{Call}
-use Rattle.pm_types.specs.declared.calls.Call.TheVariants.{Sync, TransferStart, TransferData, TransferExit, DeleteTransfer, ProcessSwPackage, Activate, Finish, Rollback, RevertProcessedSwPackages as Revert, Cancel}
+use Rattle.pm_types.specs.declared.calls.Call.TheVariants.{ProcessSwPackage}
 use Rattle.pm_types.specs.declared.replies.Reached.TheVariants.{Stale, Again, Done as Fresh}
-use Rattle.world.specs.Messages.{no_lt, no_eq, is_status}
+use Rattle.world.specs.Messages.{no_lt, no_eq, is_status, is_done}
 use Rattle.world.proofs.Rules.{NodeRules, NodeLaws, reached, delivered}
 use Rattle.world.proofs.RulesWorld.{Move, Delivered, Foreign, Unit_done, after}
-use Rattle.world.specs.Messages.{is_done}
 use Rattle.world.proofs.RulesLaw.{Span, Spans, spans, is_fresh_done, begins_span}
 use Rattle.world.specs.Spans.{has_tag}
 use Rattle.world.proofs.NodeLemmas.{none-delivered, some-delivered, cleaned}
@@ -47,7 +44,7 @@ module _ (N : NodeRules) (laws : NodeLaws N) where
   or-left false b e = absurd (cc e)
 
   stays-open : (y : Spans N) (b : Bool) (z : List (Span N)) → y.is_open ≡ true → (b ≡ true → ⊥) → (if (y.is_open && b) then record { is_open = false; ended = z } else y).is_open ≡ true
-  stays-open y b z open_ shut = grind (arith, nat_tests) steps 500000
+  stays-open y b z open_ shut = grind arith steps 500000
 
   pub open-mine : (moves : List (Move N)) (k : ℕ) → N.mine (after N moves) ≡ Some k → (spans N k moves).is_open ≡ true
   open-mine [] k e = absurd (cc (laws.formatted_mine, e))
@@ -59,7 +56,7 @@ module _ (N : NodeRules) (laws : NodeLaws N) where
           let same : Some t ≡ Some k = sym (some-delivered N laws (after N ms) m.at m.call t q) ∙ e in
           or-left (spans N k ms).is_open (begins_span N k (after N ms) m) (rec (q ∙ same))
   open-mine (Foreign call ∷ ms) k e =
-      grind (arith, nat_tests, after, spans, laws.foreign_none, laws.foreign_session, open-mine ms k) steps 500000
+      grind (arith, spans, laws.foreign_none, laws.foreign_session, open-mine ms k) steps 500000
   open-mine (Unit_done passed ∷ ms) k e =
       let mine = unit-back N laws nothing_yet 0 (after N ms) passed k e in
       stays-open (spans N k ms) (is_status (N.status (after N ms)) CleaningUp) _ (open-mine ms k mine) (λ c.

@@ -1,9 +1,8 @@
 -- Laws of the real node: client 0's transfers under calls of others, and units where client 0 has no session.
-use Rattle.std.proofs.lemmas.Bool.Decides.{nat_tests}
 use Rattle.std.proofs.Common.{◌≡◌, inl, inr, ℕ, suc, ◌+◌, ◌<◌, List, [], ◌∷◌, ◌++◌, length, Option, Some, None, Bool, true, false, refl, sym, ◌∙◌, ap, subst, cond, arith}
-use Rattle.std.specs.Prelude.{◌==◌, ◌||◌, ◌&&◌, not, is_some, is_none, find, nat_lt, option_map, option_and_then, map, filter, if◌then◌else◌}
+use Rattle.std.specs.Prelude.{◌==◌, ◌||◌, not, is_none, find, nat_lt, option_and_then, map, filter, if◌then◌else◌}
 use Rattle.std.specs.List.{AllByRecursion}
-use Rattle.std.specs.Option.{option_or, option_map_or}
+use Rattle.std.specs.Option.{option_map_or}
 use Rattle.std.proofs.lemmas.Bool.{eqb-true, ltb-true}
 use Rattle.std.proofs.lemmas.Bool.Decides.{eqb_tells}
 use Rattle.std.proofs.lemmas.List.{get_or-set_other, append-nil}
@@ -16,15 +15,15 @@ use Rattle.pm_types.specs.declared.replies.Reply.TheVariants as reply
 use Rattle.pm_types.specs.declared.replies.Refusal.{Refusal}
 use Rattle.pm_types.specs.declared.replies.Refusal.TheVariants.{InvalidTransferId, OperationNotPermitted}
 use Rattle.pm_types.specs.declared.status.Phase.{Phase}
-use Rattle.pm_types.specs.declared.status.Phase.TheVariants.{Transferring, Transferred, Processing as BeingProcessed, Processed}
+use Rattle.pm_types.specs.declared.status.Phase.TheVariants.{Transferred, Processing as BeingProcessed, Processed}
 use Rattle.pm_types.specs.declared.history.Happened.TheVariants.{Unit as UnitAfter}
 use Rattle.pm_types.specs.declared.clusters.Cluster.{Cluster}
 use Rattle.pm_types.specs.declared.status.Status.{Status}
-use Rattle.pm_types.specs.declared.status.Status.TheVariants.{Idle, Ready, Processing, Activating, Verifying, Activated, RollingBack, RolledBack, CleaningUp}
-use Rattle.pm_types.specs.NodeState.{NodeState, Session, Transfer, some_passes, status_code, is_in}
+use Rattle.pm_types.specs.declared.status.Status.TheVariants.{Processing, Activating, Verifying, RollingBack, CleaningUp}
+use Rattle.pm_types.specs.NodeState.{NodeState, Session, Transfer, some_passes, is_in}
 use Rattle.pm_types.specs.Clusters.{all_units}
 use Rattle.pm_types.specs.Sessions.{led_by, begin_processing, stop_processing}
-use Rattle.pm_types.specs.Transfers.{Verdict, is_of, transfer_of, header_of, parts_read, grown, fresh, in_phase, started, with_block, exited, deleted}
+use Rattle.pm_types.specs.Transfers.{Verdict, is_of, transfer_of, header_of, parts_read, grown, in_phase, started, with_block, exited, deleted}
 use Rattle.pm_types.specs.Refusals.{first_refusal}
 use Rattle.pm_types.specs.Steps.{judge, after_reply, refusal, refused_or, with_entry}
 use Rattle.pm_types.specs.Work.{unit_of, process_unit, processed, parts_of_id, activate_unit, verify_unit, roll_back_unit, clean_up_unit, end_mark}
@@ -35,7 +34,7 @@ use Rattle.world.proofs.Instance.{ForeignCall, tag_if, mine_in, ended_in, foreig
 use Rattle.world.proofs.Basics.{judged-by, not-refused}
 use Rattle.world.proofs.Units.{unit-cases}
 use Rattle.world.proofs.TransferLaws.{KeepsNames, keeps-all, keeps-changed, find-passes, find-all, and-true, data-rest}
-use Rattle.world.proofs.Foreign.{foreign-cases, led-keeps}
+use Rattle.world.proofs.Foreign.{foreign-cases}
 
 -- numbers that rise
 numbers-above : (a : ℕ) (ns : List ℕ) → numbers_rise (a ∷ ns) ≡ true → AllByRecursion (λ (n : ℕ). a < n) ns
@@ -50,7 +49,7 @@ numbers-above a (b ∷ ns) r =
     more lt (m ∷ ms) h = (let z : b < m = h.0 in omega arith, more lt ms h.1)
 
 rise-tail : (a : ℕ) (ns : List ℕ) → numbers_rise (a ∷ ns) ≡ true → numbers_rise ns ≡ true
-rise-tail a x r = grind (arith, nat_tests, and-true) steps 1500000
+rise-tail a x r = grind arith steps 1500000
 
 of-map : (P : ℕ → Type 0) (ts : List Transfer) → AllByRecursion P (map (λ (t : Transfer). t.header.id) ts) → AllByRecursion (λ (t : Transfer). P t.header.id) ts
 of-map P [] h = tt
@@ -95,20 +94,20 @@ pub record Leaves0 (g : Transfer → Transfer) (t : Transfer) : Type 0 where
 
 ids-left : (g : Transfer → Transfer) (ts : List Transfer) → AllByRecursion (λ t. Leaves0 g t) ts → map (λ (t : Transfer). t.header.id) (filter (λ (t : Transfer). t.header.client == 0) (map g ts)) ≡ map (λ (t : Transfer). t.header.id) (filter (λ (t : Transfer). t.header.client == 0) ts)
 ids-left g [] h = refl
-ids-left g (t ∷ ts) h = grind (arith, nat_tests, ids-left g ts h.1) steps 500000
+ids-left g (t ∷ ts) h = grind (arith, ids-left g ts h.1) steps 500000
 
 found-left : (j : ℕ) (g : Transfer → Transfer) (ts : List Transfer) → AllByRecursion (λ t. Leaves0 g t) ts → find (λ (t : Transfer). is_of 0 j t.header) (map g ts) ≡ find (λ (t : Transfer). is_of 0 j t.header) ts
 found-left j g [] h = refl
-found-left j g (t ∷ ts) h = grind (arith, nat_tests, found-left j g ts h.1) steps 500000
+found-left j g (t ∷ ts) h = grind (arith, found-left j g ts h.1) steps 500000
 
 -- a filter that keeps client 0's transfers
 ids-kept : (p : Transfer → Bool) (ts : List Transfer) → AllByRecursion (λ (t : Transfer). (t.header.client == 0) ≡ true → p t ≡ true) ts → filter (λ (t : Transfer). t.header.client == 0) (filter p ts) ≡ filter (λ (t : Transfer). t.header.client == 0) ts
 ids-kept p [] h = refl
-ids-kept p (t ∷ ts) h = grind (arith, nat_tests, ids-kept p ts h.1) steps 500000
+ids-kept p (t ∷ ts) h = grind (arith, ids-kept p ts h.1) steps 500000
 
 found-kept : (j : ℕ) (p : Transfer → Bool) (ts : List Transfer) → AllByRecursion (λ (t : Transfer). (t.header.client == 0) ≡ true → p t ≡ true) ts → find (λ (t : Transfer). is_of 0 j t.header) (filter p ts) ≡ find (λ (t : Transfer). is_of 0 j t.header) ts
 found-kept j p [] h = refl
-found-kept j p (t ∷ ts) h = grind (arith, nat_tests, and-true, found-kept j p ts h.1) steps 500000
+found-kept j p (t ∷ ts) h = grind (arith, found-kept j p ts h.1) steps 500000
 
 module _ (read : Reading) (clusters : List (Cluster Bytes)) where
   keeps-left : (s t : NodeState) (g : Transfer → Transfer) → AllByRecursion (λ y. Leaves0 g y) s.transfers → t.transfers ≡ map g s.transfers → KeepsTransfers (real read clusters) s t
@@ -136,15 +135,8 @@ module _ (read : Reading) (clusters : List (Cluster Bytes)) where
       (both-all (λ t. IsPlannedWhole x t t.header.phase) (λ t. is_in BeingProcessed t.header ≡ some_passes (λ (i : ℕ). i == t.header.id) (id_in_processing s)) (λ (t : Transfer). (t.header.client == 0) ≡ true → not (is_in BeingProcessed t.header || is_in Processed t.header) ≡ true)
       each s.transfers (subst (λ o. ChangesAreDue s o) e v.changes).whole v.processing.each) refl
     where
-      no-id : (o : Option ℕ) → is_some o ≡ false → (i : ℕ) → some_passes (λ (n : ℕ). n == i) o ≡ false
-      no-id None q i = refl
-      no-id (Some n) q i = absurd (cc q)
-
-      none : is_some (id_in_processing s) ≡ false
-      none = v.processing.status ∙ ap (λ (y : Status). status_code y == 2) st
-
       each : (t : Transfer) → IsPlannedWhole x t t.header.phase → is_in BeingProcessed t.header ≡ some_passes (λ (i : ℕ). i == t.header.id) (id_in_processing s) → (t.header.client == 0) ≡ true → not (is_in BeingProcessed t.header || is_in Processed t.header) ≡ true
-      each t whole being own = grind (arith, nat_tests) steps 500000
+      each t whole being own = grind arith steps 500000
 
   -- a unit without a session of client 0
   abbrev Nothing0 : NodeState → NodeState → Type 0
@@ -157,7 +149,7 @@ module _ (read : Reading) (clusters : List (Cluster Bytes)) where
       some-is a b q = cc q
 
       not-mine : (x : Session) → s.session ≡ Some x → (x.owner == 0) ≡ false
-      not-mine x e = grind (arith, nat_tests, tag_if) steps 500000
+      not-mine x e = grind arith steps 500000
 
       over : (a t : NodeState) → Some a ≡ Some t → Nothing0 s a → Nothing0 s (with_entry (UnitAfter t.status) t)
       over a t q k = let e = some-is a t q in subst (λ y. Nothing0 s (with_entry (UnitAfter y.status) y)) e (k.0, k.1, record { transfers = k.2.transfers; received = k.2.received })
@@ -207,14 +199,14 @@ module _ (read : Reading) (clusters : List (Cluster Bytes)) where
   phase-keeps phase = record { id = λ t. refl; client = λ t. refl }
 
   then-led : (s t : NodeState) (c : Call) → KeepsTransfers (real read clusters) s t → KeepsTransfers (real read clusters) s (led_by c t)
-  then-led s t c k = grind (arith, nat_tests, led-keeps, keeps-all) steps 500000
+  then-led s t c k = grind arith steps 500000
 
   eqb-suc : (a : ℕ) → (suc a == 0) ≡ false
   eqb-suc a = elim (eqb_tells (suc a) 0) [ inl h ↦ absurd (let z : suc a ≡ 0 = h.1 in omega (arith, z)) | inr h ↦ h.0 ]
 
   -- a found transfer of another client is none of client 0's
   others : (s : NodeState) (a id : ℕ) → IsConsistent s → is_none (header_of (transfer_of s (suc a) id)) ≡ false → AllByRecursion (λ (y : Transfer). (y.header.id == id) ≡ true → (y.header.client == suc a) ≡ true) s.transfers
-  others s a id v f = grind (arith, nat_tests, unique) steps 500000
+  others s a id v f = grind (arith, unique) steps 500000
 
   not-own : (a : ℕ) (t : Transfer) → (t.header.client == 0) ≡ true → (t.header.client == suc a) ≡ true → ⊥
   not-own a t p q = let x : t.header.client ≡ 0 = eqb-true t.header.client 0 p in let y : t.header.client ≡ suc a = eqb-true t.header.client (suc a) q in omega (arith, x, y)
@@ -260,7 +252,7 @@ module _ (read : Reading) (clusters : List (Cluster Bytes)) where
               by false e = refl
 
   start-others : (s : NodeState) (a size : ℕ) → KeepsTransfers (real read clusters) s (started s (suc a) size)
-  start-others s a size = grind (arith, nat_tests, filter-append, eqb-suc, append-nil, find-append) steps 500000
+  start-others s a size = grind (arith, filter-append, eqb-suc, append-nil, find-append) steps 500000
 
   judged-others : (s : NodeState) (a : ℕ) (c : Call) (w : Verdict) → IsConsistent s → KeepsTransfers (real read clusters) s (judge s (suc a) c w).0
   judged-others s a call.Sync w v = keeps-all read clusters s s refl

@@ -1,7 +1,5 @@
 -- The parts of nodes: after one has changed, and where each flagged one passes a test.
-use Rattle.std.proofs.Common.{arith}
-use Rattle.std.proofs.lemmas.Bool.Decides.{nat_tests}
-use Rattle.std.proofs.Common.{◌≡◌, ◌≢◌, ◌⊎◌, inl, inr, ℕ, zero, suc, List, [], ◌∷◌, Bool, true, false, refl, ap}
+use Rattle.std.proofs.Common.{arith, ◌≡◌, ◌≢◌, ◌⊎◌, inl, inr, ℕ, zero, suc, List, [], ◌∷◌, Bool, true, false, refl, ap}
 use Rattle.std.specs.Prelude.{Option, Some, None, replicate, slice_index_or, slice_set}
 use Rattle.std.proofs.lemmas.Bool.{and_parts}
 use Rattle.pm_types.specs.declared.status.Outcome.{Outcome}
@@ -24,7 +22,7 @@ index-with _ _ _ v = inr refl
 
 -- another node's part is as before
 pub part-other : {A : Type 0} (xs : List (Option A)) (m n : ℕ) (v : Option A) → n ≢ m → part_of None (with_part xs m v) n ≡ part_of None xs n
-part-other xs x y v d = grind (arith, nat_tests, index-with) steps 1500000
+part-other xs x y v d = grind (arith, index-with) steps 1500000
 
 -- what is there was there, or came now
 pub part-with : {A : Type 0} (xs : List (Option A)) (m n : ℕ) (v : Option A) (y : A) → part_of None (with_part xs m v) n ≡ Some y → (part_of None xs n ≡ Some y) ⊎ ((n ≡ m) × (v ≡ Some y))
@@ -53,4 +51,4 @@ pub flagged-ended : (flags : List Bool) (ended : List (Option Outcome)) (n : ℕ
 flagged-ended flags ended n a q e = let h = flagged-each has_ended None flags ended n a q in let z = ap has_ended e in cc
 
 pub flagged-yes : (flags : List Bool) (votes : List (Option Vote)) (n : ℕ) → all_flagged voted_yes flags votes ≡ true → part_of false flags n ≡ true → part_of None votes n ≡ Some Vote.Yes
-flagged-yes flags votes n a q = grind (arith, nat_tests, flagged-each) steps 500000
+flagged-yes flags votes n a q = grind (arith, flagged-each) steps 500000

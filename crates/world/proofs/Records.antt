@@ -1,5 +1,4 @@
 -- What the records of the master keep of the invariant.
-use Rattle.std.proofs.lemmas.Bool.Decides.{nat_tests}
 use Rattle.std.proofs.Common.{◌≡◌, ◌≢◌, ◌⊎◌, inl, inr, ◌&&◌, ℕ, ◌<◌, ◌≤◌, List, [], ◌∷◌, ◌++◌, Option, Some, None, Bool, true, false, nat_lt, refl, sym, ◌∙◌, ap, subst, arith}
 use Rattle.std.proofs.lemmas.Bool.{ltb-true}
 use Rattle.pm_types.specs.declared.status.Status.TheVariants.{RolledBack}
@@ -7,7 +6,7 @@ use Rattle.ucm_base.specs.declared.ids.NodeSet.{NodeSet}
 use Rattle.campaign_core.specs.declared.events.Decision.{Decision}
 use Rattle.campaign_core.specs.declared.events.Decision.TheVariants.{Commit}
 use Rattle.campaign_core.specs.declared.events.CampaignResult.{CampaignResult}
-use Rattle.campaign_core.specs.declared.events.CampaignResult.TheVariants.{Successful, Failed, Cancelled}
+use Rattle.campaign_core.specs.declared.events.CampaignResult.TheVariants.{Successful}
 use Rattle.campaign_core.specs.declared.fold.Fold.{Fold}
 use Rattle.campaign_core.specs.declared.fold.Current.{Current}
 use Rattle.campaign_core.specs.Nodes.{flag_of}
@@ -20,9 +19,8 @@ use Rattle.world.specs.Messages.{Message, InSent}
 use Rattle.world.proofs.RulesWorld.{NodeWorld, state_of}
 use Rattle.world.specs.Sends.{last_status}
 use Rattle.world.specs.Evidence.{EndEvidence}
-use Rattle.world.proofs.RulesLaw.{spans, EachEnded}
+use Rattle.world.proofs.RulesLaw.{spans, EachEnded, InEarlier}
 use Rattle.world.proofs.Invariant.{Executable, InPresent, NotCommit, IsFresh, KeptOld, Falling}
-use Rattle.world.proofs.RulesLaw.{InEarlier}
 use Rattle.world.proofs.Events.{below-trans, end-sync-decided}
 
 -- the same campaign as node n sees it
@@ -60,7 +58,7 @@ below-append k (x ∷ xs) y h =
     (subst (λ b. (b && all_below k xs) ≡ true) (sym q.0) r.0, r.1)
 
 not-commit : (o : Option Decision) (r : CampaignResult) → is_result_of o r ≡ true → r ≢ Successful → o ≢ Some Commit
-not-commit o r h q e = grind (arith, nat_tests) steps 500000
+not-commit o r h q e = grind arith steps 500000
 
 pub below-in : (k : ℕ) (xs : List (ℕ × CampaignResult)) (j : ℕ) (r : CampaignResult) → all_below k xs ≡ true → InEarlier (j, r) xs → j < k
 below-in k [] j r a h = absurd h
@@ -70,13 +68,13 @@ below-in k (x ∷ xs) j r a h =
 
 module _ (N : NodeRules) (laws : NodeLaws N) (n : ℕ) where
   pub forget : (f : Fold) (x : NodeWorld N) → KeptOld N f n x → KeptOld N f n (record { moves = x.moves; sent = x.sent; told = [] })
-  forget f x kept = grind (arith, nat_tests) steps 500000
+  forget f x kept = grind arith steps 500000
 
   pub present-forth : (f g : Fold) → SameFold n f g → (P : ℕ → Type 0) → InPresent f n (λ c. P c.campaign) → InPresent g n (λ c. P c.campaign)
-  present-forth f g same P h = grind (arith, nat_tests) steps 500000
+  present-forth f g same P h = grind arith steps 500000
 
   fresh-back : (f g : Fold) → SameFold n f g → (k : ℕ) → IsFresh g k → IsFresh f k
-  fresh-back f g same k h = grind (arith, nat_tests) steps 500000
+  fresh-back f g same k h = grind arith steps 500000
 
   -- Start, PhaseTo, VoteOf and CancelAsked
   pub event-same : (f g : Fold) (x : NodeWorld N) → SameFold n f g → (g.epoch ≡ f.epoch) ⊎ (x.told ≡ []) → KeptOld N f n x → KeptOld N g n x
@@ -188,7 +186,7 @@ module _ (N : NodeRules) (laws : NodeLaws N) (n : ℕ) where
       back k h = record { above = h.above; other = λ c' current' q. h.other (record c { decision = Some d }) refl (ap (λ y. y.campaign) (some-inj c c' (sym current ∙ current')) ∙ q) }
 
       forth : (P : ℕ → Type 0) → InPresent f n (λ y. P y.campaign) → InPresent (record { epoch = f.epoch; earlier = f.earlier; current = Some (record c { decision = Some d }) }) n (λ y. P y.campaign)
-      forth P h = grind (arith, nat_tests, some-inj) steps 500000
+      forth P h = grind arith steps 500000
 
       no_finish : (m : Message) → InSent m x.sent → m.call ≡ Finish → Executable N (state_of N x) m → ⊥
       no_finish m h call exec = go m.decided refl
@@ -289,7 +287,7 @@ module _ (N : NodeRules) (laws : NodeLaws N) (n : ℕ) where
       }
     where
       out : (P : ℕ → Type 0) → InPresent f n (λ y. P y.campaign) → ⊥
-      out P h = grind (arith, nat_tests, some-inj, flagged-ended) steps 500000
+      out P h = grind (arith, flagged-ended) steps 500000
 
       back : (k : ℕ) → all_below k (f.earlier ++ (c.campaign, r) ∷ []) ≡ true → IsFresh f k
-      back k h = grind (arith, nat_tests, below-append, some-inj) steps 500000
+      back k h = grind (arith, below-append, some-inj) steps 500000

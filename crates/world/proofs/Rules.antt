@@ -12,11 +12,9 @@ use Rattle.pm_types.specs.declared.replies.SessionMark.{SessionMark}
 use Rattle.pm_types.specs.declared.replies.Synced.{Synced as Shown}
 use Rattle.pm_types.specs.declared.status.Outcome.TheVariants.{New, Old}
 use Rattle.pm_types.specs.declared.status.Outcome.{Outcome}
-use Rattle.pm_types.specs.declared.status.Status.TheVariants.{Idle, Ready, Activated, RolledBack}
-use Rattle.pm_types.specs.declared.status.Status.TheVariants.{Idle, Ready, Processing, Activating, Verifying, Activated, RollingBack, RolledBack, CleaningUp}
+use Rattle.pm_types.specs.declared.status.Status.TheVariants.{Idle, Ready, Activated, RolledBack, Processing, Activating, Verifying, RollingBack, CleaningUp}
 use Rattle.pm_types.specs.declared.status.Status.{Status}
 use Rattle.std.specs.Prelude.{◌≡◌, ◌≢◌, ◌⊎◌, ℕ, List, [], ◌∷◌, ◌++◌, Option, Some, None, Bool, false, if◌then◌else◌, Contains}
-use Rattle.std.specs.Prelude.{◌≡◌, ◌≢◌, ◌⊎◌, ℕ, List, [], ◌∷◌, ◌++◌, Contains, Option, Some, None, Bool, false, if◌then◌else◌}
 use Rattle.ucm_base.specs.declared.ids.CallNo.{CallNo}
 use Rattle.world.specs.Messages.{no_lt, no_eq, is_status}
 

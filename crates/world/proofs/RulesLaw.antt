@@ -4,13 +4,12 @@ use Rattle.pm_types.specs.declared.status.Outcome.{Outcome}
 use Rattle.pm_types.specs.declared.status.Outcome.TheVariants.{New}
 use Rattle.pm_types.specs.declared.status.Status.TheVariants.{Idle, CleaningUp}
 use Rattle.campaign_core.specs.declared.events.CampaignResult.{CampaignResult}
-use Rattle.campaign_core.specs.declared.events.CampaignResult.TheVariants.{Successful, Failed, Cancelled}
+use Rattle.campaign_core.specs.declared.events.CampaignResult.TheVariants.{Successful}
 use Rattle.pm_types.specs.declared.replies.Reached.{Reached}
-use Rattle.pm_types.specs.declared.replies.Reached.TheVariants.{Stale, Again, Done as Fresh}
+use Rattle.pm_types.specs.declared.replies.Reached.TheVariants.{Done as Fresh}
 use Rattle.world.specs.Spans.{has_tag}
-use Rattle.world.specs.Messages.{is_status}
+use Rattle.world.specs.Messages.{is_status, Message, is_done}
 use Rattle.world.proofs.Rules.{NodeRules, NodeLaws, reached}
-use Rattle.world.specs.Messages.{Message, is_done}
 use Rattle.world.proofs.RulesWorld.{Move, Delivered, Foreign, Unit_done, World, after, Event, opened_world, Makes}
 use Rattle.world.specs.Sends.{Packages}
 

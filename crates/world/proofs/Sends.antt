@@ -1,33 +1,27 @@
 -- What a send keeps of the invariant.
-use Rattle.std.proofs.lemmas.Bool.Decides.{nat_tests}
-use Rattle.std.proofs.Common.{◌≡◌, ◌≢◌, inl, inr, if◌then◌else◌, ◌||◌, ◌+◌, ℕ, ◌≤◌, List, [], ◌∷◌, length, take, Option, Some, None, Bool, true, false, is_some, nat_eq, refl, sym, ◌∙◌, ap, subst, arith}
+use Rattle.std.proofs.Common.{◌≡◌, ◌≢◌, inl, inr, if◌then◌else◌, ◌||◌, ◌+◌, ℕ, ◌≤◌, List, [], ◌∷◌, Option, Some, None, Bool, true, false, is_some, nat_eq, refl, sym, ◌∙◌, ap, subst, arith}
 use Rattle.std.proofs.lemmas.Bool.{eqb-true}
 use Rattle.std.proofs.lemmas.Bool.Decides.{eqb_tells}
 use Rattle.pm_types.specs.declared.status.Status.{Status}
-use Rattle.pm_types.specs.declared.status.Status.TheVariants.{Idle, Ready, Processing, Activating, Verifying, Activated, RollingBack, RolledBack, CleaningUp}
+use Rattle.pm_types.specs.declared.status.Status.TheVariants.{RolledBack}
 use Rattle.campaign_core.specs.declared.events.Cause.{Cause}
 use Rattle.campaign_core.specs.declared.events.Decision.{Decision}
-use Rattle.campaign_core.specs.declared.events.Decision.TheVariants.{Commit, Abort}
+use Rattle.campaign_core.specs.declared.events.Decision.TheVariants.{Abort}
 use Rattle.campaign_core.specs.declared.fold.Fold.{Fold}
 use Rattle.campaign_core.specs.declared.fold.Current.{Current}
 use Rattle.campaign_core.specs.Campaign.{end_of}
 use Rattle.pm_types.specs.declared.calls.Call.{Call}
-use Rattle.pm_types.specs.declared.calls.Call.TheVariants.{Sync, TransferStart, TransferData, TransferExit, ProcessSwPackage, Activate, Finish}
-use Rattle.world.specs.Messages.{IsBelow, is_status}
+use Rattle.pm_types.specs.declared.calls.Call.TheVariants.{ProcessSwPackage, Finish}
+use Rattle.world.specs.Messages.{IsBelow, Message, InSent, is_sync}
 use Rattle.world.proofs.Rules.{NodeRules, NodeLaws}
-use Rattle.world.specs.Messages.{Message, InSent, is_sync}
 use Rattle.world.proofs.RulesWorld.{NodeWorld, state_of}
-use Rattle.world.specs.Sends.{Packages, replies_of, last_status, last_shown, end_call_at, delete_at, next_number, MaySend, MaySendBy, MaySendEarly, MaySendLate}
-use Rattle.world.specs.Rounds.{Stage, At_sync, At_start, At_data, At_process, At_activate, Over, Refused_once, call_at, stage_of}
+use Rattle.world.specs.Sends.{Packages, last_status, last_shown, end_call_at, delete_at, next_number, MaySend, MaySendBy, MaySendLate}
 use Rattle.world.proofs.Invariant.{NoneEarly, KeptOld, KeptFold, Falling}
 use Rattle.world.proofs.Events.{below-trans, none-early-status}
 
 -- a call of the rounds of campaign k
 abbrev pub IsRoundCall : ℕ → Call → Type 0
 IsRoundCall k call = (call ≢ Finish) × ((id tag : ℕ) → call ≡ ProcessSwPackage id tag → tag ≡ k)
-
-pub round-calls : (k : ℕ) (stage : Stage) (call : Call) → call_at k stage ≡ Some call → IsRoundCall k call
-round-calls k x call e = grind (arith, nat_tests, take) steps 1500000
 
 -- the next number is above all that were sent
 pub next-above : (epoch : ℕ) (sent : List Message) → Falling sent → ((m : Message) → InSent m sent → m.at.epoch ≤ epoch) → (older : Message) → InSent older sent → IsBelow older.at (next_number epoch sent)
@@ -45,24 +39,18 @@ next-above epoch (m ∷ ms) falling epochs older h =
             elim (eqb_tells m.at.epoch epoch) [ inl h2 ↦ absurd (cc (h2.0, q)) | inr h2 ↦ inl (let ne : m.at.epoch ≢ epoch = h2.1 in omega arith) ]
 
 pub next-epoch : (epoch : ℕ) (sent : List Message) → (next_number epoch sent).epoch ≡ epoch
-next-epoch epoch x = grind (arith, nat_tests) steps 1500000
+next-epoch epoch x = grind arith steps 1500000
 
 none-of : (o : Option Decision) → is_some o ≡ false → o ≡ None
-none-of x e = grind (arith, nat_tests) steps 1500000
+none-of x e = grind arith steps 1500000
 
 -- what may be sent after the decision
 late-process : (d : Decision) (o : Option Status) (shown : Option _) (id tag : ℕ) → (is_sync (ProcessSwPackage id tag) || (end_call_at d o (ProcessSwPackage id tag) || delete_at shown (ProcessSwPackage id tag))) ≡ true → ⊥
-late-process x y shown id tag e = grind (arith, nat_tests) steps 1500000
-
-is-rolled : (x : Status) → is_status x RolledBack ≡ true → x ≡ RolledBack
-is-rolled x e = grind (arith, nat_tests) steps 1500000
+late-process x y shown id tag e = grind arith steps 1500000
 
 or-false : (b : Bool) → (b || false) ≡ true → b ≡ true
 or-false true e = refl
 or-false false e = e
-
-late-finish : (cause : Cause) (o : Option Status) (shown : Option _) → (is_sync Finish || (end_call_at (Abort cause) o Finish || delete_at shown Finish)) ≡ true → o ≡ Some RolledBack
-late-finish cause x shown e = grind (arith, nat_tests, is-rolled, or-false) steps 1500000
 
 module _ (N : NodeRules) (laws : NodeLaws N) (packages : Packages) (f : Fold) (n : ℕ) where
   pub event-send : (x : NodeWorld N) (c : Current) (call : Call) → f.current ≡ Some c → MaySend packages f.epoch n c x.told x.sent call → KeptFold f → KeptOld N f n x → KeptOld N f n (record { moves = x.moves; sent = record { at = next_number f.epoch x.sent; call = call; campaign = c.campaign; decided = is_some c.decision } ∷ x.sent; told = x.told })
@@ -118,7 +106,7 @@ module _ (N : NodeRules) (laws : NodeLaws N) (packages : Packages) (f : Fold) (n
       undecided_of m e d = none-of c.decision (sym (ap (λ y. y.decided) e) ∙ d)
 
       round : c.decision ≡ None → IsRoundCall c.campaign call
-      round q = grind (arith, nat_tests, round-calls) steps 500000
+      round q = grind arith steps 500000
 
       late : (d : Decision) → c.decision ≡ Some d → MaySendLate f.epoch n c d x.told call
       late d q = subst (λ o. MaySendBy packages f.epoch n c o x.told x.sent call) q may.by
@@ -136,13 +124,13 @@ module _ (N : NodeRules) (laws : NodeLaws N) (packages : Packages) (f : Fold) (n
       new_early m e d q = (round (undecided_of m e d)).0 (sym (ap (λ y. y.call) e) ∙ q)
 
       new_decided : (m : Message) → m ≡ record { at = next_number f.epoch x.sent; call = call; campaign = c.campaign; decided = is_some c.decision } → m.decided ≡ true → (c' : Current) → f.current ≡ Some c' → c'.decision ≢ None
-      new_decided m e d c' current' q = grind (arith, nat_tests, is_some) steps 500000
+      new_decided m e d c' current' q = grind arith steps 500000
 
       not_ended : end_of c n ≡ None
-      not_ended = grind (arith, nat_tests) steps 500000
+      not_ended = grind arith steps 500000
 
       last_rolled : (c' : Current) (cause : Cause) → f.current ≡ Some c' → c'.decision ≡ Some (Abort cause) → call ≡ Finish → last_status c'.campaign f.epoch x.told ≡ Some RolledBack
-      last_rolled c' cause current' abort q = grind (arith, nat_tests, late-finish) steps 500000
+      last_rolled c' cause current' abort q = grind arith steps 500000
 
       none_early : (c' : Current) (cause : Cause) → f.current ≡ Some c' → c'.decision ≡ Some (Abort cause) → NoneEarly N (state_of N x) x.sent → NoneEarly N (state_of N x) (record { at = next_number f.epoch x.sent; call = call; campaign = c.campaign; decided = is_some c.decision } ∷ x.sent)
       none_early c' cause current' abort old m h d exec =

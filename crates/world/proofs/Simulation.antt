@@ -1,22 +1,17 @@
 -- A world of the tables is one of the rules: what its events make, the rules' events make too.
-use Rattle.std.proofs.Common.{arith}
-use Rattle.std.proofs.lemmas.Bool.Decides.{nat_tests}
-use Rattle.std.proofs.Common.{◌≡◌, refl, sym, ap, subst, ◌∙◌, ℕ, suc, ◌<◌, Bool, true, false, [], ◌∷◌}
-use Rattle.std.specs.Prelude.{◌&&◌, ◌||◌, map, if◌then◌else◌, Some}
+use Rattle.std.proofs.Common.{arith, ◌≡◌, refl, ap, ◌∙◌, ℕ, suc, ◌<◌, Bool, false, [], ◌∷◌}
+use Rattle.std.specs.Prelude.{map, if◌then◌else◌, Some}
 use Rattle.std.specs.List.{AllByRecursion}
 use Rattle.ucm_base.specs.declared.ids.CallNo.{CallNo}
 use Rattle.pm_types.specs.declared.calls.Call.{Call}
-use Rattle.pm_types.specs.declared.replies.Reached.{Reached}
-use Rattle.pm_types.specs.declared.status.Status.TheVariants.{Idle, CleaningUp}
 use Rattle.pm_types.specs.NodeState.{NodeState}
 use Rattle.pm_types.specs.Steps.{step}
 use Rattle.pm_types.specs.Work.{unit}
 use Rattle.pm_types.specs.Histories.{Reading, verdict_for}
 use Rattle.campaign_core.specs.declared.fold.Current.{Current}
-use Rattle.world.specs.Messages.{Message, Showed, answer_of, no_lt, no_eq, is_status}
-use Rattle.pm_types.specs.Validity.{IsConsistent}
-use Rattle.world.specs.Spans.{Spans, Span, has_tag, span_of, spans}
-use Rattle.world.specs.World.{NodeWorld, World, fold_of, state_of, reached, called, delivered, shown_by, worked}
+use Rattle.world.specs.Messages.{Message, Showed, no_lt, no_eq}
+use Rattle.world.specs.Spans.{Spans, Span, spans}
+use Rattle.world.specs.World.{NodeWorld, World, fold_of, state_of, reached, called, delivered, worked}
 use Rattle.world.proofs.NodeSteps.{entered-state, entered-spans, foreign-spans, worked-state, worked-status, worked-spans}
 use Rattle.world.proofs.Instance.{ForeignCall, Calls, unit_in, judged_in, kept_after, saved_in}
 use Rattle.world.proofs.FitNode.{KeepsNode, FitState, fit}
@@ -67,13 +62,13 @@ module _ (read : Reading) (keeps : KeepsNode read []) where
   -- a message of the master arrives
   pub same-deliver : (x : NodeWorld) (y : engine.NodeWorld (fit read [] keeps)) (m : Message) (told : Bool) → 0 < m.at.epoch → SameNode x y → SameNode (delivered read x (Some m) told) (engine.deliver_to (fit read [] keeps) y (Some m) told)
   same-deliver x y m told low h =
-      grind (arith, nat_tests, delivered-state, entered-state, entered-spans, fit, delivered-reached)
+      grind (arith, delivered-state, entered-state, entered-spans, fit, delivered-reached)
 
   pub same-foreign : (x : NodeWorld) (y : engine.NodeWorld (fit read [] keeps)) (f : ForeignCall) → SameNode x y
       → SameNode (called read x (suc f.other) f.at f.call) (record { moves = engine.Foreign (Calls f) ∷ y.moves; sent = y.sent; told = y.told })
-  same-foreign x y f h = grind (arith, nat_tests, entered-state, foreign-spans) steps 500000
+  same-foreign x y f h = grind (arith, entered-state, foreign-spans) steps 500000
 
   pub same-work : (x : NodeWorld) (y : engine.NodeWorld (fit read [] keeps)) (passed told : Bool) → SameNode x y
       → SameNode (worked read x passed told) (record { moves = engine.Unit_done passed ∷ y.moves; sent = y.sent; told = if told then Showed (rules.NodeRules.status N (rules.NodeRules.unit N (engine.state_of (fit read [] keeps) y) passed)) ∷ y.told else y.told })
   same-work x y passed told h =
-      grind (arith, nat_tests, worked-state, worked-status, unit-is, unit_in, worked-spans, fit)
+      grind (arith, worked-state, worked-status, unit-is, unit_in, worked-spans, fit)

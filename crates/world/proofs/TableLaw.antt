@@ -5,9 +5,9 @@ use Rattle.std.specs.List.{AllByRecursion}
 use Rattle.pm_types.specs.NodeState.{NodeState}
 use Rattle.pm_types.specs.Histories.{Reading}
 use Rattle.campaign_core.specs.declared.events.CampaignResult.{CampaignResult}
-use Rattle.campaign_core.specs.declared.events.CampaignResult.TheVariants.{Successful, Failed, Cancelled}
+use Rattle.campaign_core.specs.declared.events.CampaignResult.TheVariants.{Successful}
 use Rattle.campaign_core.specs.declared.fold.Fold.{Fold}
-use Rattle.node_laws.specs.Fit.{IsReading, IsFit, IsInstalled}
+use Rattle.node_laws.specs.Fit.{IsReading, IsFit}
 use Rattle.node_laws.specs.Fit as fits
 use Rattle.node_laws.proofs.Kept.{keeps-fit}
 use Rattle.node_laws.proofs.Entries.{kept-fit, entry-fit}

@@ -1,9 +1,8 @@
 -- Laws of the real node: client 0's transfers under its own calls and under units.
-use Rattle.std.proofs.lemmas.Bool.Decides.{nat_tests}
-use Rattle.std.proofs.Common.{◌≡◌, ◌≢◌, ◌⊎◌, inl, inr, ℕ, zero, suc, ◌+◌, ◌<◌, List, [], ◌∷◌, ◌++◌, length, get_or, Option, Some, None, Bool, true, false, refl, sym, ◌∙◌, ap, subst, cond, arith}
-use Rattle.std.specs.Prelude.{◌==◌, ◌||◌, ◌&&◌, IfSome, IsSomeAnd, not, is_none, find, nat_lt, option_map, option_and_then, map, filter, if◌then◌else◌}
+use Rattle.std.proofs.Common.{◌≡◌, ◌≢◌, ◌⊎◌, ℕ, zero, suc, ◌+◌, ◌<◌, List, [], ◌∷◌, ◌++◌, length, get_or, Option, Some, None, Bool, true, false, refl, ap, subst, arith}
+use Rattle.std.specs.Prelude.{◌==◌, ◌||◌, ◌&&◌, not, find, nat_lt, option_map, option_and_then, map, filter, if◌then◌else◌}
 use Rattle.std.specs.List.{AllByRecursion, Contains}
-use Rattle.std.specs.Option.{option_or, option_map_or}
+use Rattle.std.specs.Option.{option_map_or}
 use Rattle.std.proofs.lemmas.Bool.{eqb-true, eq-eqb}
 use Rattle.std.proofs.lemmas.List.{map-append}
 use Rattle.std.proofs.lemmas.List.Elements.{filter-append}
@@ -12,9 +11,8 @@ use Rattle.ucm_base.specs.Limits.{block_limit}
 use Rattle.ucm_base.specs.Parts.{Bytes}
 use Rattle.pm_types.specs.declared.calls.Call.{Call}
 use Rattle.pm_types.specs.declared.calls.Call.TheVariants as call
-use Rattle.pm_types.specs.declared.replies.Reply.TheVariants as reply
 use Rattle.pm_types.specs.declared.replies.Refusal.{Refusal}
-use Rattle.pm_types.specs.declared.replies.Refusal.TheVariants.{InvalidTransferId, OperationNotPermitted, IncorrectBlock, IncorrectSize}
+use Rattle.pm_types.specs.declared.replies.Refusal.TheVariants.{OperationNotPermitted, IncorrectBlock, IncorrectSize}
 use Rattle.pm_types.specs.declared.transfers.Header.{Header}
 use Rattle.pm_types.specs.declared.status.Phase.{Phase}
 use Rattle.pm_types.specs.declared.status.Phase.TheVariants.{Transferring, Transferred, Processing as BeingProcessed, Processed}
@@ -22,24 +20,22 @@ use Rattle.pm_types.specs.declared.history.Happened.TheVariants.{Unit as UnitAft
 use Rattle.pm_types.specs.declared.clusters.Part.{Part}
 use Rattle.pm_types.specs.declared.clusters.Change.{Change}
 use Rattle.pm_types.specs.declared.clusters.Cluster.{Cluster}
-use Rattle.pm_types.specs.declared.status.Outcome.TheVariants.{Old}
 use Rattle.pm_types.specs.declared.status.Status.{Status}
-use Rattle.pm_types.specs.declared.status.Status.TheVariants.{Idle, Ready, Processing, Activating, Verifying, Activated, RollingBack, RolledBack, CleaningUp}
+use Rattle.pm_types.specs.declared.status.Status.TheVariants.{Ready, Processing, Activating, Verifying, RollingBack, CleaningUp}
 use Rattle.pm_types.specs.NodeState.{NodeState, Session, Transfer, some_passes, is_in}
 use Rattle.pm_types.specs.Clusters.{changes_of, all_units}
-use Rattle.pm_types.specs.Sessions.{Goal, To, CleanUp, Resume, status_table, changes_in, arrive, led_by, clean_up, begin_processing}
-use Rattle.pm_types.specs.Transfers.{is_of, transfer_of, header_of, parts_of, ids_of, parts_read, fresh, grown, in_phase, started, with_block, exited}
-use Rattle.pm_types.specs.Steps.{after_reply, refusal, refused_or, with_entry}
+use Rattle.pm_types.specs.Sessions.{led_by, begin_processing}
+use Rattle.pm_types.specs.Transfers.{is_of, ids_of, parts_read, grown, in_phase, exited}
+use Rattle.pm_types.specs.Steps.{with_entry}
 use Rattle.pm_types.specs.Work.{unit_of, process_unit, processed, parts_of_id, activate_unit, verify_unit, roll_back_unit}
 use Rattle.pm_types.specs.Histories.{Reading, verdict_for}
 use Rattle.pm_types.specs.Validity.{IsConsistent, IsSound, id_in_processing}
-use Rattle.node_laws.specs.Fit.{IsFit, IsRead}
+use Rattle.node_laws.specs.Fit.{IsFit}
 use Rattle.pm_types.specs.declared.calls.Call.TheVariants.{TransferStart, TransferData, TransferExit, ProcessSwPackage}
 use Rattle.pm_types.specs.declared.replies.Reply.TheVariants.{Done, Started}
 use Rattle.world.proofs.Rules.{KeepsTransfers}
 use Rattle.world.proofs.Instance.{tag_if, mine_in, planned_in, ended_in, received_in, judged_in, unit_in, real}
-use Rattle.world.proofs.Basics.{judged-by, done-accepted, done-none, not-refused}
-use Rattle.world.proofs.Sessions.{mine-some}
+use Rattle.world.proofs.Basics.{judged-by, done-none, not-refused}
 use Rattle.world.proofs.Units.{unit-cases, unit-is}
 
 abbrev changed : ℕ → (Transfer → Transfer) → Transfer → Transfer
@@ -51,27 +47,27 @@ pub record KeepsNames (f : Transfer → Transfer) : Type 0 where
   pub client : (t : Transfer) → (f t).header.client ≡ t.header.client
 
 changed-id : (id : ℕ) (f : Transfer → Transfer) → KeepsNames f → (t : Transfer) → (changed id f t).header.id ≡ t.header.id
-changed-id id f k t = grind (arith, nat_tests) steps 500000
+changed-id id f k t = grind arith steps 500000
 
 changed-client : (id : ℕ) (f : Transfer → Transfer) → KeepsNames f → (t : Transfer) → (changed id f t).header.client ≡ t.header.client
-changed-client id f k t = grind (arith, nat_tests) steps 500000
+changed-client id f k t = grind arith steps 500000
 
 ids-changed : (c id : ℕ) (f : Transfer → Transfer) → KeepsNames f → (ts : List Transfer) → map (λ (t : Transfer). t.header.id) (filter (λ (t : Transfer). t.header.client == c) (map (changed id f) ts)) ≡ map (λ (t : Transfer). t.header.id) (filter (λ (t : Transfer). t.header.client == c) ts)
 ids-changed c id f k [] = refl
-ids-changed c id f k (t ∷ ts) = grind (arith, nat_tests, changed-client, changed-id, ids-changed c id f k ts)
+ids-changed c id f k (t ∷ ts) = grind (arith, changed-id, ids-changed c id f k ts)
 
 found-changed : (c j id : ℕ) (f : Transfer → Transfer) → KeepsNames f → (ts : List Transfer) → find (λ (t : Transfer). is_of c j t.header) (map (changed id f) ts) ≡ option_map (changed id f) (find (λ (t : Transfer). is_of c j t.header) ts)
 found-changed c j id f k [] = refl
-found-changed c j id f k (t ∷ ts) = grind (arith, nat_tests, changed-id, changed-client, found-changed c j id f k ts)
+found-changed c j id f k (t ∷ ts) = grind (arith, changed-client, found-changed c j id f k ts)
 
 -- what is found passes
 pub find-passes : (p : Transfer → Bool) (ts : List Transfer) (t : Transfer) → find p ts ≡ Some t → p t ≡ true
 find-passes p [] t e = absurd (cc e)
-find-passes p (y ∷ ys) t e = grind (arith, nat_tests, find-passes p ys t) steps 500000
+find-passes p (y ∷ ys) t e = grind (arith, find-passes p ys t) steps 500000
 
 pub find-all : (P : Transfer → Type 0) (p : Transfer → Bool) (ts : List Transfer) (t : Transfer) → AllByRecursion P ts → find p ts ≡ Some t → P t
 find-all P p [] t a e = absurd (cc e)
-find-all P p (y ∷ ys) t a e = grind (arith, nat_tests, find-all P p ys t a.1) steps 500000
+find-all P p (y ∷ ys) t a e = grind (arith, find-all P p ys t a.1) steps 500000
 
 pub and-true : (a b : Bool) → (a && b) ≡ true → (a ≡ true) × (b ≡ true)
 and-true true b e = (refl, e)
@@ -86,18 +82,18 @@ data-rest found counter size =
 
 -- the bytes of a changed transfer
 bytes-changed : (id : ℕ) (f : Transfer → Transfer) → ((t : Transfer) → (f t).bytes ≡ t.bytes) → (o : Option Transfer) → option_map_or (λ (t : Transfer). t.bytes) (option_map (changed id f) o) [] ≡ option_map_or (λ (t : Transfer). t.bytes) o []
-bytes-changed id f k x = grind (arith, nat_tests) steps 1500000
+bytes-changed id f k x = grind arith steps 1500000
 
 -- where no transfer of the id is changed
 bytes-other : (id j : ℕ) (f : Transfer → Transfer) (c : ℕ) (ts : List Transfer) → j ≢ id → (o : Option Transfer) → find (λ (t : Transfer). is_of c j t.header) ts ≡ o → option_map_or (λ (t : Transfer). t.bytes) (option_map (changed id f) o) [] ≡ option_map_or (λ (t : Transfer). t.bytes) o []
-bytes-other id j f c ts n x e = grind (arith, nat_tests, eqb-true, and-true, find-passes) steps 1500000
+bytes-other id j f c ts n x e = grind (arith, and-true, find-passes) steps 1500000
 
 module _ (read : Reading) (clusters : List (Cluster Bytes)) where
   pub keeps-all : (s t : NodeState) → t.transfers ≡ s.transfers → KeepsTransfers (real read clusters) s t
-  keeps-all s t e = grind (arith, nat_tests) steps 500000
+  keeps-all s t e = grind arith steps 500000
 
   pub keeps-changed : (s t : NodeState) (id : ℕ) (f : Transfer → Transfer) → KeepsNames f → ((y : Transfer) → (f y).bytes ≡ y.bytes) → t.transfers ≡ map (changed id f) s.transfers → KeepsTransfers (real read clusters) s t
-  keeps-changed s t id f k b e = grind (arith, nat_tests, ids-changed, found-changed, bytes-changed) steps 500000
+  keeps-changed s t id f k b e = grind (arith, ids-changed, found-changed, bytes-changed) steps 500000
 
   phase-names : (phase : Phase) → KeepsNames (λ t. record t { header = in_phase phase t.header })
   phase-names phase = record { id = λ t. refl; client = λ t. refl }
@@ -109,7 +105,7 @@ module _ (read : Reading) (clusters : List (Cluster Bytes)) where
       (keeps-changed s (exited s id (verdict_for read s 0 (call.TransferExit id))) id (λ t. record t { header = in_phase Transferred t.header; parts = parts_read (verdict_for read s 0 (call.TransferExit id)) }) (record { id = λ t. refl; client = λ t. refl }) (λ t. refl) refl)
 
   led-transfers : (c : Call) (s : NodeState) → (led_by c s).transfers ≡ s.transfers
-  led-transfers c s = grind (arith, nat_tests) steps 500000
+  led-transfers c s = grind arith steps 500000
 
   pub process_received : (s : NodeState) (id tag : ℕ) → KeepsTransfers (real read clusters) s (judged_in read s (ProcessSwPackage id tag)).0
   process_received s id tag =
@@ -121,19 +117,15 @@ module _ (read : Reading) (clusters : List (Cluster Bytes)) where
   block-names bytes = record { id = λ t. refl; client = λ t. refl }
 
   pub data_transfers : (s : NodeState) (id counter : ℕ) (bytes : List ℕ) → ids_of (judged_in read s (TransferData id counter bytes)).0 0 ≡ ids_of s 0
-  data_transfers s id counter bytes = grind (arith, nat_tests, judged-by, ids-changed, block-names) steps 500000
+  data_transfers s id counter bytes = grind (arith, ids-changed, block-names) steps 500000
 
   pub data_received : (s : NodeState) (id counter : ℕ) (bytes : List ℕ) → (judged_in read s (TransferData id counter bytes)).1 ≡ Done → (received_in (judged_in read s (TransferData id counter bytes)).0 id ≡ received_in s id ++ bytes) × ((other : ℕ) → other ≢ id → received_in (judged_in read s (TransferData id counter bytes)).0 other ≡ received_in s other)
   data_received s id counter bytes d =
-      grind (arith, nat_tests, done-accepted, not-refused, done-none, found-changed, block-names, received_in, bytes-other, and-true, find-passes)
-
-  -- TransferStart
-  start-is : (s : NodeState) (size id : ℕ) → (judged_in read s (TransferStart size)).1 ≡ Started id → ((judged_in read s (TransferStart size)).0 ≡ started s 0 size) × (id ≡ s.next_id)
-  start-is s size id e = grind (arith, nat_tests) steps 500000
+      grind (arith, not-refused, done-none, found-changed, block-names, received_in, bytes-other, and-true, find-passes)
 
   ids-below : (next : ℕ) (ts : List Transfer) → AllByRecursion (IsSound next) ts → AllByRecursion (λ (n : ℕ). n < next) (map (λ (t : Transfer). t.header.id) (filter (λ (t : Transfer). t.header.client == 0) ts))
   ids-below next [] a = tt
-  ids-below next (t ∷ ts) a = grind (arith, nat_tests, ids-below next ts a.1) steps 500000
+  ids-below next (t ∷ ts) a = grind (arith, ids-below next ts a.1) steps 500000
 
   not-below : (b : ℕ) (l : List ℕ) → AllByRecursion (λ (n : ℕ). n < b) l → Contains l b → ⊥
   not-below b l a h = at l a h.0 h.1 h.2
@@ -144,13 +136,13 @@ module _ (read : Reading) (clusters : List (Cluster Bytes)) where
       at (y ∷ ys) q (suc i) lt e = at ys q.1 i (omega arith) e
 
   pub start_transfers : (s : NodeState) (size id : ℕ) → IsConsistent s → (judged_in read s (TransferStart size)).1 ≡ Started id → (Contains (ids_of s 0) id → ⊥) × (ids_of (judged_in read s (TransferStart size)).0 0 ≡ ids_of s 0 ++ id ∷ [])
-  start_transfers s size id v e = grind (arith, nat_tests, start-is, not-below, ids-below, filter-append, map-append)
+  start_transfers s size id v e = grind (arith, not-below, ids-below, filter-append, map-append)
 
   none-found : (next : ℕ) (ts : List Transfer) → AllByRecursion (IsSound next) ts → find (λ (t : Transfer). is_of 0 next t.header) ts ≡ None
-  none-found next ts a = grind (arith, nat_tests, find-all, eqb-true, and-true, find-passes) steps 500000
+  none-found next ts a = grind (arith, find-all, eqb-true, and-true, find-passes) steps 500000
 
   pub start_received : (s : NodeState) (size id : ℕ) → IsConsistent s → (judged_in read s (TransferStart size)).1 ≡ Started id → (received_in (judged_in read s (TransferStart size)).0 id ≡ []) × ((other : ℕ) → other ≢ id → received_in (judged_in read s (TransferStart size)).0 other ≡ received_in s other)
-  start_received s size id v e = grind (arith, nat_tests, start-is, received_in, find-append, none-found, eqb-true)
+  start_received s size id v e = grind (arith, received_in, find-append, none-found, eqb-true)
 
   -- units
   process-transfers : (s : NodeState) (x : Session) (id : ℕ) → KeepsTransfers (real read clusters) s (process_unit s x id)
@@ -192,8 +184,8 @@ module _ (read : Reading) (clusters : List (Cluster Bytes)) where
 
   parts-are : (s : NodeState) (x : Session) (id : ℕ) → IsFit read s → s.session ≡ Some x → (x.owner == 0) ≡ true → x.processing ≡ Some id → parts_of_id s x id ≡ parts_read (read (received_in s id))
   parts-are s x id fit e owner p =
-      grind (arith, nat_tests, eqb-true, received_in, find-all, and-true, find-passes, eq-eqb) steps 500000
+      grind (arith, received_in, find-all, and-true, find-passes, eq-eqb) steps 500000
 
   pub unit_processing : (s : NodeState) (passed : Bool) (tag id : ℕ) → IsFit read s → mine_in s ≡ Some tag → s.status ≡ Processing → id_in_processing s ≡ Some id → (mine_in (unit_in s passed) ≡ Some tag) × (ended_in (unit_in s passed) ≡ ended_in s) × ((((unit_in s passed).status ≡ Processing) × (planned_in (unit_in s passed) ≡ planned_in s) × (id_in_processing (unit_in s passed) ≡ Some id)) ⊎ (((unit_in s passed).status ≡ Ready) × (planned_in (unit_in s passed) ≡ planned_in s ++ parts_read (read (received_in s id)))))
   unit_processing s passed tag id fit mine st p =
-      grind (arith, nat_tests, mine-some, unit-is, mine_in, ended_in, planned_in, received_in, tag_if, map-append, parts-back, parts-are) steps 500000
+      grind (arith, unit-is, mine_in, ended_in, planned_in, received_in, tag_if, map-append, parts-back, parts-are) steps 500000

@@ -1,32 +1,22 @@
 -- Laws of the real node: work units.
-use Rattle.std.proofs.lemmas.Bool.Decides.{nat_tests}
-use Rattle.std.proofs.Common.{◌≡◌, ◌⊎◌, inl, inr, ℕ, ◌+◌, ◌<◌, List, [], ◌∷◌, length, Option, Some, None, Bool, true, false, refl, sym, ◌∙◌, ap, subst, arith}
-use Rattle.std.specs.Prelude.{◌==◌, IfSome, is_some, nat_lt, option_map, option_and_then, map, if◌then◌else◌, unwrap_or, slice_set}
-use Rattle.std.specs.Option.{option_map_or}
+use Rattle.std.proofs.Common.{◌≡◌, ◌⊎◌, ℕ, List, [], ◌∷◌, Option, Some, None, Bool, false, refl, ◌∙◌, ap, subst, arith}
+use Rattle.std.specs.Prelude.{IfSome, option_map, option_and_then, map, unwrap_or}
 use Rattle.std.proofs.lemmas.Bool.{eqb-true}
 use Rattle.std.proofs.lemmas.List.{get_or-set_same}
 use Rattle.ucm_base.specs.Parts.{Bytes}
 use Rattle.pm_types.specs.declared.status.Outcome.{Outcome}
 use Rattle.pm_types.specs.declared.status.Outcome.TheVariants.{New, Old}
-use Rattle.pm_types.specs.declared.replies.EndMark.{EndMark}
 use Rattle.pm_types.specs.declared.history.Happened.TheVariants.{Unit as UnitAfter}
 use Rattle.pm_types.specs.declared.clusters.Change.{Change}
 use Rattle.pm_types.specs.declared.status.Status.{Status}
-use Rattle.pm_types.specs.declared.status.Status.TheVariants.{Idle, Ready, Processing, Activating, Verifying, Activated, RollingBack, RolledBack, CleaningUp}
-use Rattle.pm_types.specs.declared.state.Kept.{Kept}
-use Rattle.pm_types.specs.NodeState.{NodeState, Session, of_client, status_code}
-use Rattle.pm_types.specs.Clusters.{planned, cluster_of}
-use Rattle.ucm_base.specs.Names.{all_differ}
-use Rattle.world.specs.Words.{RunsNew}
+use Rattle.pm_types.specs.declared.status.Status.TheVariants.{Idle, Processing, Activating, Verifying, Activated, RollingBack, RolledBack, CleaningUp}
+use Rattle.pm_types.specs.NodeState.{NodeState, Session, is_working}
+use Rattle.pm_types.specs.Clusters.{cluster_of}
 use Rattle.world.proofs.WordLaws.{run_parts, planned-run, runs-new}
 use Rattle.pm_types.specs.Steps.{with_entry}
-use Rattle.pm_types.specs.Work.{unit_of, process_unit, processed, parts_of_id, activate_unit, verify_unit, roll_back_unit, clean_up_unit, end_mark}
-use Rattle.pm_types.specs.Clusters.{all_units}
-use Rattle.pm_types.specs.Validity.{IsConsistent, ChangesAreDue, should_run, id_in_processing}
-use Rattle.pm_types.specs.declared.replies.Reply.TheVariants.{Done as NodeDone}
-use Rattle.pm_types.specs.NodeState.{is_working}
-use Rattle.world.proofs.Instance.{zero_no, last_in, kept_in, tag_if, mine_in, planned_in, outcome_in, ended_in, unit_in, BringsIn, LeavesIn}
-use Rattle.world.proofs.Sessions.{mine-some, outcome-due}
+use Rattle.pm_types.specs.Work.{unit_of}
+use Rattle.pm_types.specs.Validity.{IsConsistent, should_run, id_in_processing}
+use Rattle.world.proofs.Instance.{last_in, kept_in, mine_in, planned_in, outcome_in, ended_in, unit_in, BringsIn, LeavesIn}
 
 -- a unit is nothing, or what the work table says
 pub unit-cases : (s : NodeState) (passed : Bool) (P : NodeState → Type 0) → P s → ((x : Session) → s.session ≡ Some x → (t : NodeState) → unit_of s x passed s.status ≡ Some t → P (with_entry (UnitAfter t.status) t)) → P (unit_in s passed)
@@ -41,44 +31,34 @@ unit-cases s passed P here there = go s.session refl
     go (Some x) e = done x e (unit_of s x passed s.status) refl
 
 pub unit-is : (s : NodeState) (passed : Bool) (x : Session) (t : NodeState) → s.session ≡ Some x → unit_of s x passed s.status ≡ Some t → unit_in s passed ≡ with_entry (UnitAfter t.status) t
-unit-is s passed x t e q = grind (arith, nat_tests) steps 500000
-
--- what no unit touches
-process-last : (s : NodeState) (x : Session) (o : Option ℕ) (t : NodeState) → option_and_then (λ id. Some (process_unit s x id)) o ≡ Some t → t.last ≡ s.last
-process-last s x y t e = grind (arith, nat_tests) steps 1500000
-
-unit-last : (s : NodeState) (x : Session) (passed : Bool) (st : Status) (t : NodeState) → unit_of s x passed st ≡ Some t → t.last ≡ s.last
-unit-last s x passed y t e = grind (arith, nat_tests, process-last) steps 1500000
+unit-is s passed x t e q = grind arith steps 500000
 
 pub unit_last : (s : NodeState) (passed : Bool) → (last_in (unit_in s passed) ≡ last_in s) × (kept_in (unit_in s passed) ≡ kept_in s)
-unit_last s passed = grind (arith, nat_tests, unit_in, unit-cases, unit-last, zero_no) steps 500000
+unit_last s passed = grind arith steps 500000
 
 pub unit_still : (s : NodeState) (passed : Bool) → is_working s.status ≡ false → unit_in s passed ≡ s
-unit_still s passed w = grind (arith, nat_tests, unit-cases) steps 500000
+unit_still s passed w = grind arith steps 500000
 
 -- client 0's session under a unit
 abbrev pub GoesTo : NodeState → NodeState → ℕ → (Status → Type 0) → Type 0
 GoesTo s t tag To = (mine_in t ≡ Some tag) × To t.status × (planned_in t ≡ planned_in s) × (ended_in t ≡ ended_in s)
 
-goes-to : (s t : NodeState) (x y : Session) (tag : ℕ) (To : Status → Type 0) → s.session ≡ Some x → t.session ≡ Some y → mine_in s ≡ Some tag → y.owner ≡ x.owner → y.tag ≡ x.tag → y.changes ≡ x.changes → t.ended ≡ s.ended → To t.status → GoesTo s t tag To
-goes-to s t x y tag To e f mine owner same changes ended to = grind (arith, nat_tests, tag_if) steps 500000
-
 at-status : (s : NodeState) (x : Session) (passed : Bool) (st : Status) (t : NodeState) → s.status ≡ st → unit_of s x passed st ≡ Some t → unit_of s x passed s.status ≡ Some t
 at-status s x passed st t e q = ap (λ y. unit_of s x passed y) e ∙ q
 
 pub unit_activating : (s : NodeState) (passed : Bool) (tag : ℕ) → mine_in s ≡ Some tag → s.status ≡ Activating → GoesTo s (unit_in s passed) tag (λ to. to ≡ Verifying)
-unit_activating s passed tag mine st = grind (arith, nat_tests, mine-some, unit-is, at-status, goes-to) steps 500000
+unit_activating s passed tag mine st = grind arith steps 500000
 
 pub unit_rolling : (s : NodeState) (passed : Bool) (tag : ℕ) → mine_in s ≡ Some tag → s.status ≡ RollingBack → GoesTo s (unit_in s passed) tag (λ to. to ≡ RolledBack)
-unit_rolling s passed tag mine st = grind (arith, nat_tests, mine-some, unit-is, at-status, goes-to) steps 500000
+unit_rolling s passed tag mine st = grind arith steps 500000
 
 pub unit_verifying : (s : NodeState) (passed : Bool) (tag : ℕ) → mine_in s ≡ Some tag → s.status ≡ Verifying → GoesTo s (unit_in s passed) tag (λ to. (to ≡ Verifying) ⊎ ((to ≡ Activated) ⊎ (to ≡ RollingBack)))
-unit_verifying s passed tag mine st = grind (arith, nat_tests, mine-some, unit-is, at-status, goes-to) steps 500000
+unit_verifying s passed tag mine st = grind arith steps 500000
 
 -- the end of a session of client 0
 pub unit_cleaning : (s : NodeState) (passed : Bool) (tag : ℕ) (o : Outcome) → IsConsistent s → mine_in s ≡ Some tag → s.status ≡ CleaningUp → outcome_in s ≡ Some o → (mine_in (unit_in s passed) ≡ None) × ((unit_in s passed).status ≡ Idle) × (ended_in (unit_in s passed) ≡ Some (record { tag = tag; outcome = o }))
 unit_cleaning s passed tag o v mine st out =
-    grind (arith, nat_tests, mine-some, unit-is, at-status, eqb-true, get_or-set_same, mine_in, ended_in) steps 500000
+    grind (arith, unit-is, at-status, eqb-true, get_or-set_same, mine_in, ended_in) steps 500000
 
 -- what it leaves
 runs : (s : NodeState) (x : Session) → IsConsistent s → s.session ≡ Some x → s.running ≡ should_run x s.status x.outcome
@@ -90,13 +70,13 @@ names-of (c ∷ cs) = ap (λ (l : List (List ℕ)). cluster_of c.part ∷ l) (na
 
 pub cleaning_new : (s : NodeState) (passed : Bool) (tag : ℕ) → IsConsistent s → mine_in s ≡ Some tag → s.status ≡ CleaningUp → outcome_in s ≡ Some New → BringsIn (planned_in s) s (unit_in s passed)
 cleaning_new s passed tag v mine st out =
-    grind (arith, nat_tests, mine-some, unit-is, at-status, runs, planned_in, names-of, unit_in, runs-new, planned-run, run_parts) steps 500000
+    grind (arith, unit-is, at-status, runs, planned_in, names-of, unit_in, runs-new, planned-run, run_parts) steps 500000
 
 pub cleaning_old : (s : NodeState) (passed : Bool) (tag : ℕ) → IsConsistent s → mine_in s ≡ Some tag → s.status ≡ CleaningUp → outcome_in s ≡ Some Old → LeavesIn s (unit_in s passed)
-cleaning_old s passed tag v mine st out = grind (arith, nat_tests, mine-some, unit-is, at-status, runs, unit_in)
+cleaning_old s passed tag v mine st out = grind arith
 
 pub processing_id : (s : NodeState) (tag : ℕ) → IsConsistent s → s.status ≡ Processing → (id : ℕ) × (id_in_processing s ≡ Some id)
-processing_id s tag v st = grind (arith, nat_tests) steps 500000
+processing_id s tag v st = grind arith steps 500000
 
 pub cleaning_outcome : (s : NodeState) (tag : ℕ) → IsConsistent s → mine_in s ≡ Some tag → s.status ≡ CleaningUp → (o : Outcome) × (outcome_in s ≡ Some o)
-cleaning_outcome s tag v mine st = grind (arith, nat_tests, mine-some, outcome-due, outcome_in) steps 500000
+cleaning_outcome s tag v mine st = grind arith steps 500000

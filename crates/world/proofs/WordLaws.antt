@@ -1,7 +1,5 @@
 -- What planned changes make of each cluster.
-use Rattle.std.proofs.Common.{arith}
-use Rattle.std.proofs.lemmas.Bool.Decides.{nat_tests}
-use Rattle.std.proofs.Common.{◌≡◌, inl, inr, ℕ, List, [], ◌∷◌, Option, Some, None, Bool, true, false, refl, sym, ◌∙◌, ap, subst, cond}
+use Rattle.std.proofs.Common.{arith, ◌≡◌, inl, inr, ℕ, List, [], ◌∷◌, Some, None, Bool, true, false, refl, sym, ◌∙◌, ap, subst, cond}
 use Rattle.std.specs.Prelude.{◌||◌, ◌&&◌, not, find, filter, map}
 use Rattle.std.specs.Option.{option_or}
 use Rattle.std.specs.Ordering.{nat_cmp, is_lt, is_eq, ordering_reverse}
@@ -12,14 +10,12 @@ use Rattle.std.specs.declared.cmp.Ordering.TheVariants.{Less, Equal, Greater}
 use Rattle.std.proofs.lemmas.Cmp.{nat_list_cmp_total}
 use Rattle.std.proofs.lemmas.Slice.Eq.{bytes_eq-Decides}
 use Rattle.std.proofs.lemmas.List.Folds.{find-append}
-use Rattle.ucm_base.specs.declared.parts.Action.{Action}
-use Rattle.ucm_base.specs.declared.parts.Action.TheVariants.{Install, Update, Remove}
 use Rattle.ucm_base.specs.Names.{name_lt, has_name, all_differ}
 use Rattle.ucm_base.specs.Parts.{Bytes}
 use Rattle.pm_types.specs.declared.clusters.Part.{Part}
 use Rattle.pm_types.specs.declared.clusters.Cluster.{Cluster}
 use Rattle.pm_types.specs.declared.clusters.Change.{Change}
-use Rattle.pm_types.specs.Clusters.{cluster_of, cluster_at, without, with_cluster, brought, changed_as, changed_by, planned}
+use Rattle.pm_types.specs.Clusters.{cluster_of, cluster_at, without, with_cluster, brought, changed_by, planned}
 use Rattle.world.specs.Words.{InParts, left_by, RunsNew}
 
 -- names
@@ -30,7 +26,7 @@ same-names : (a b : List ℕ) → a ≡ b → bytes_eq a b ≡ true
 same-names a b e = (bytes_eq-Decides a b).1 e
 
 eq-swap : (a b : List ℕ) → bytes_eq a b ≡ bytes_eq b a
-eq-swap a b = grind (arith, nat_tests, same-names, eq-names) steps 500000
+eq-swap a b = grind (arith, same-names, eq-names) steps 500000
 
 lt-not_eq : (a b : List ℕ) → bytes_eq a b ≡ true → name_lt a b ≡ false
 lt-not_eq a b e = go (slice_cmp nat_cmp a b) (sym (texts_ties a b) ∙ e)
@@ -50,8 +46,8 @@ lt-other a b e = go (slice_cmp nat_cmp a b) (slice_cmp nat_cmp b a) (sym (texts_
 
 -- a filter by name keeps what is found, or leaves nothing
 found-by_name : (q : List ℕ → Bool) (name : List ℕ) (cs : List (Cluster Bytes)) → find (λ (c : Cluster Bytes). bytes_eq c.name name) (filter (λ (d : Cluster Bytes). q d.name) cs) ≡ cond (q name) (find (λ (c : Cluster Bytes). bytes_eq c.name name) cs) None
-found-by_name q name [] = grind (arith, nat_tests) steps 500000
-found-by_name q name (d ∷ ds) = grind (arith, nat_tests, eq-names, found-by_name q name ds) steps 500000
+found-by_name q name [] = grind arith steps 500000
+found-by_name q name (d ∷ ds) = grind (arith, eq-names, found-by_name q name ds) steps 500000
 
 with-at : (c : Cluster Bytes) (cs : List (Cluster Bytes)) (name : List ℕ) → cluster_at (with_cluster c cs) name ≡ cond (bytes_eq c.name name) (Some c) (cluster_at cs name)
 with-at c cs name =
@@ -60,15 +56,11 @@ with-at c cs name =
     ∙ (ap (λ o. option_or (cond (name_lt name c.name) (cluster_at cs name) None) (cond (bytes_eq c.name name) (Some c) o)) (found-by_name (λ n. name_lt c.name n) name cs)
     ∙ go (bytes_eq c.name name) refl (name_lt name c.name) refl))
   where
-    or-none : (o : Option (Cluster Bytes)) → option_or o None ≡ o
-    or-none None = refl
-    or-none (Some x) = refl
-
     go : (e : Bool) → bytes_eq c.name name ≡ e → (l : Bool) → name_lt name c.name ≡ l → option_or (cond l (cluster_at cs name) None) (cond e (Some c) (cond (name_lt c.name name) (cluster_at cs name) None)) ≡ cond e (Some c) (cluster_at cs name)
     go true p true q = absurd (let z = lt-not_eq name c.name (eq-swap name c.name ∙ p) in cc (z, q))
     go true p false q = refl
-    go false p true q = grind (arith, nat_tests, lt-other, eq-swap) steps 500000
-    go false p false q = grind (arith, nat_tests, lt-other, eq-swap) steps 500000
+    go false p true q = grind arith steps 500000
+    go false p false q = grind (arith, lt-other, eq-swap) steps 500000
 
 without-at : (n : List ℕ) (cs : List (Cluster Bytes)) (name : List ℕ) → cluster_at (without n cs) name ≡ cond (bytes_eq n name) None (cluster_at cs name)
 without-at n cs name = found-by_name (λ m. not (bytes_eq m n)) name cs ∙ (ap (λ x. cond (not x) (cluster_at cs name) None) (eq-swap name n) ∙ go (bytes_eq n name))
@@ -78,7 +70,7 @@ without-at n cs name = found-by_name (λ m. not (bytes_eq m n)) name cs ∙ (ap 
     go false = refl
 
 changed-at : (p : Part Bytes) (cs : List (Cluster Bytes)) (name : List ℕ) → cluster_at (changed_by p cs) name ≡ cond (bytes_eq (cluster_of p) name) (left_by p.manifest.action (brought p)) (cluster_at cs name)
-changed-at p cs name = grind (arith, nat_tests, without-at, with-at) steps 500000
+changed-at p cs name = grind (arith, without-at, with-at) steps 500000
 
 -- the clusters after the parts, each in turn
 abbrev pub run_parts : List (Part Bytes) → List (Cluster Bytes) → List (Cluster Bytes)
@@ -120,4 +112,4 @@ run-named (q ∷ qs) cs p d h =
     ]
 
 pub runs-new : (ps : List (Part Bytes)) (saved running : List (Cluster Bytes)) → all_differ (map cluster_of ps) ≡ true → running ≡ run_parts ps saved → RunsNew ps saved running
-runs-new ps saved running d e = grind (arith, nat_tests, run-named, run-others) steps 500000
+runs-new ps saved running d e = grind (arith, run-named, run-others) steps 500000

@@ -1,7 +1,6 @@
 -- Two closed lists of events: one node installs a cluster and the campaign ends successful, or its check fails and it ends failed.
-use Rattle.std.proofs.lemmas.Bool.Decides.{nat_tests}
-use Rattle.std.specs.Prelude.{length, map, IsTrue, ◌≡◌, ◌≢◌, ℕ, zero, suc, ◌<◌, ◌≤◌, List, [], ◌∷◌, ◌++◌, Some, None, true, false, Ok, if◌then◌else◌, nat_eq, replicate}
-use Rattle.std.proofs.Common.{subst, refl, inl, arith}
+use Rattle.std.specs.Prelude.{◌≡◌, List, [], ◌∷◌, ◌++◌, Some, None, true, false, Ok, if◌then◌else◌, nat_eq, replicate}
+use Rattle.std.proofs.Common.{refl, inl, arith}
 use Rattle.ucm_base.specs.Parts.{Bytes}
 use Rattle.ucm_base.specs.declared.ids.NodeSet.{NodeSet}
 use Rattle.ucm_base.specs.declared.parts.Action.TheVariants.{Install}
@@ -19,13 +18,10 @@ use Rattle.campaign_core.specs.declared.events.Decision.TheVariants.{Commit, Abo
 use Rattle.campaign_core.specs.declared.events.CampaignResult.TheVariants.{Successful, Failed}
 use Rattle.campaign_core.specs.declared.events.MasterEvent.{MasterEvent}
 use Rattle.campaign_core.specs.declared.events.MasterEvent.TheVariants.{Start, Begin, PhaseTo, VoteOf, Decide, EndedAt, Enter}
-use Rattle.campaign_core.specs.Nodes.{flag_of}
 use Rattle.pm_types.specs.declared.replies.Synced.{Synced as Shown}
 use Rattle.world.specs.Evidence.{NamesOf}
 use Rattle.world.specs.Sends.{Packages}
-use Rattle.pm_types.specs.Clusters.{cluster_of}
 use Rattle.node_laws.specs.Fit.{IsReading}
-use Rattle.ucm_base.specs.Names.{all_differ}
 use Rattle.world.specs.Law.{IsEntered}
 use Rattle.world.specs.Spans.{spans}
 use Rattle.world.specs.World.{World, NodeWorld, Event, Deliver, Work, Send, Record, opened, happens, state_of, Makes}
@@ -41,7 +37,7 @@ abbrev read : Reading
 read bytes = Ok (part ∷ [])
 
 reading : IsReading read
-reading = grind (arith, nat_tests) steps 500000
+reading = grind arith steps 500000
 
 -- campaign 7 has one package, for node 1
 abbrev packages : Packages
@@ -79,206 +75,27 @@ abbrev start : World
 start = opened (λ n. [])
 
 names : NamesOf packages 7 one
-names = grind (arith, nat_tests) steps 500000
+names = grind arith steps 500000
 
 -- what the last Sync shows
 abbrev shown : Outcome → Shown
 shown outcome = record { session = None; ended = Some (record { tag = 7; outcome = outcome }); transfers = [] }
 
 made-successful : Makes read packages (7 ∷ []) start successful (world_after start successful)
-made-successful = (
-  (refl, tt),
-  (
-    (refl, ((0, omega arith, refl), names)),
-    (
-      (refl, tt),
-      (
-        record { named = refl; follows = refl; by = record { no_mark = refl; no_vote = refl; no_refusal = refl; next = refl; due = refl; settled = refl } },
-        (
-          omega arith,
-          (
-            record { named = refl; follows = refl; by = record { no_mark = refl; no_vote = refl; no_refusal = refl; next = refl; due = refl; settled = refl } },
-            (
-              omega arith,
-              (
-                record { named = refl; follows = refl; by = record { no_mark = refl; no_vote = refl; no_refusal = refl; next = refl; due = refl; settled = refl } },
-                (
-                  omega arith,
-                  (
-                    record { named = refl; follows = refl; by = record { no_mark = refl; no_vote = refl; no_refusal = refl; next = refl; due = refl; settled = refl } },
-                    (
-                      omega arith,
-                      (
-                        (refl, tt),
-                        (
-                          record { named = refl; follows = refl; by = record { no_mark = refl; no_vote = refl; no_refusal = refl; next = refl; due = refl; settled = refl } },
-                          (
-                            omega arith,
-                            (
-                              refl,
-                              (
-                                (refl, tt),
-                                (
-                                  record { named = refl; follows = refl; by = record { no_mark = refl; no_vote = refl; no_refusal = refl; next = refl; due = refl; settled = refl } },
-                                  (
-                                    omega arith,
-                                    (
-                                      refl,
-                                      (
-                                        refl,
-                                        (
-                                          (refl, refl),
-                                          (
-                                            (refl, tt),
-                                            (
-                                              record { named = refl; follows = refl; by = record { not_ended = refl; allowed = refl } },
-                                              (
-                                                omega arith,
-                                                (
-                                                  record { named = refl; follows = refl; by = record { not_ended = refl; allowed = refl } },
-                                                  (
-                                                    omega arith,
-                                                    (
-                                                      refl,
-                                                      (
-                                                        record { named = refl; follows = refl; by = record { not_ended = refl; allowed = refl } },
-                                                        (
-                                                          omega arith,
-                                                          (
-                                                            (refl, (refl, shown New, inl refl, refl, refl)),
-                                                            (
-                                                              (refl, tt),
-                                                              refl,
-                                                            ),
-                                                          ),
-                                                        ),
-                                                      ),
-                                                    ),
-                                                  ),
-                                                ),
-                                              ),
-                                            ),
-                                          ),
-                                        ),
-                                      ),
-                                    ),
-                                  ),
-                                ),
-                              ),
-                            ),
-                          ),
-                        ),
-                      ),
-                    ),
-                  ),
-                ),
-              ),
-            ),
-          ),
-        ),
-      ),
-    ),
-  ),
-)
+made-successful =
+    ((refl, tt), ((refl, ((0, omega arith, refl), names)), ((refl, tt), (assumption, (omega arith, (assumption,
+    (omega arith, (assumption, (omega arith, (assumption, (omega arith, ((refl, tt), (assumption, (omega arith,
+    (refl, ((refl, tt), (assumption, (omega arith, (refl, (refl, ((refl, refl), ((refl, tt), (assumption, (omega
+    arith, (assumption, (omega arith, (refl, (assumption, (omega arith, ((refl, (refl, shown New, inl refl, refl,
+    refl)), ((refl, tt), refl)))))))))))))))))))))))))))))))
 
 made-failed : Makes read packages (7 ∷ []) start failed (world_after start failed)
-made-failed = (
-  (refl, tt),
-  (
-    (refl, ((0, omega arith, refl), names)),
-    (
-      (refl, tt),
-      (
-        record { named = refl; follows = refl; by = record { no_mark = refl; no_vote = refl; no_refusal = refl; next = refl; due = refl; settled = refl } },
-        (
-          omega arith,
-          (
-            record { named = refl; follows = refl; by = record { no_mark = refl; no_vote = refl; no_refusal = refl; next = refl; due = refl; settled = refl } },
-            (
-              omega arith,
-              (
-                record { named = refl; follows = refl; by = record { no_mark = refl; no_vote = refl; no_refusal = refl; next = refl; due = refl; settled = refl } },
-                (
-                  omega arith,
-                  (
-                    record { named = refl; follows = refl; by = record { no_mark = refl; no_vote = refl; no_refusal = refl; next = refl; due = refl; settled = refl } },
-                    (
-                      omega arith,
-                      (
-                        (refl, tt),
-                        (
-                          record { named = refl; follows = refl; by = record { no_mark = refl; no_vote = refl; no_refusal = refl; next = refl; due = refl; settled = refl } },
-                          (
-                            omega arith,
-                            (
-                              refl,
-                              (
-                                (refl, tt),
-                                (
-                                  record { named = refl; follows = refl; by = record { no_mark = refl; no_vote = refl; no_refusal = refl; next = refl; due = refl; settled = refl } },
-                                  (
-                                    omega arith,
-                                    (
-                                      refl,
-                                      (
-                                        refl,
-                                        (
-                                          refl,
-                                          (
-                                            (refl, refl),
-                                            (
-                                              (refl, tt),
-                                              (
-                                                record { named = refl; follows = refl; by = record { not_ended = refl; allowed = refl } },
-                                                (
-                                                  omega arith,
-                                                  (
-                                                    record { named = refl; follows = refl; by = record { not_ended = refl; allowed = refl } },
-                                                    (
-                                                      omega arith,
-                                                      (
-                                                        refl,
-                                                        (
-                                                          record { named = refl; follows = refl; by = record { not_ended = refl; allowed = refl } },
-                                                          (
-                                                            omega arith,
-                                                            (
-                                                              (refl, (refl, shown Old, inl refl, refl, refl)),
-                                                              (
-                                                                (refl, tt),
-                                                                refl,
-                                                              ),
-                                                            ),
-                                                          ),
-                                                        ),
-                                                      ),
-                                                    ),
-                                                  ),
-                                                ),
-                                              ),
-                                            ),
-                                          ),
-                                        ),
-                                      ),
-                                    ),
-                                  ),
-                                ),
-                              ),
-                            ),
-                          ),
-                        ),
-                      ),
-                    ),
-                  ),
-                ),
-              ),
-            ),
-          ),
-        ),
-      ),
-    ),
-  ),
-)
+made-failed =
+    ((refl, tt), ((refl, ((0, omega arith, refl), names)), ((refl, tt), (assumption, (omega arith, (assumption,
+    (omega arith, (assumption, (omega arith, (assumption, (omega arith, ((refl, tt), (assumption, (omega arith,
+    (refl, ((refl, tt), (assumption, (omega arith, (refl, (refl, (refl, ((refl, refl), ((refl, tt), (assumption,
+    (omega arith, (assumption, (omega arith, (refl, (assumption, (omega arith, ((refl, (refl, shown Old, inl refl,
+    refl, refl)), ((refl, tt), refl))))))))))))))))))))))))))))))))
 
 -- before each Enter
 abbrev until_activated : List MasterEvent

@@ -1,23 +1,21 @@
 -- Whole worlds: every event of the tables is one of the rules.
-use Rattle.std.proofs.lemmas.Bool.Decides.{nat_tests}
-use Rattle.std.proofs.Common.{◌≡◌, refl, sym, ap, subst, ◌∙◌, ℕ, zero, suc, ◌+◌, ◌<◌, ◌≤◌, Bool, true, false, List, [], ◌∷◌, ◌++◌, length, arith}
-use Rattle.std.specs.Prelude.{nat_eq, nat_le, if◌then◌else◌, Option, Some, None}
+use Rattle.std.proofs.Common.{◌≡◌, refl, sym, ap, subst, ◌∙◌, ℕ, zero, suc, ◌+◌, ◌<◌, ◌≤◌, Bool, List, [], ◌∷◌, length, arith}
+use Rattle.std.specs.Prelude.{Option, Some, None}
 use Rattle.std.specs.List.{AllByRecursion}
-use Rattle.std.proofs.lemmas.Bool.{and_parts, leb-true, eqb-true}
 use Rattle.ucm_base.specs.Parts.{Bytes}
 use Rattle.ucm_base.specs.declared.ids.CallNo.{CallNo}
 use Rattle.pm_types.specs.declared.calls.Call.{Call}
 use Rattle.pm_types.specs.declared.clusters.Cluster.{Cluster}
 use Rattle.pm_types.specs.Histories.{Reading}
 use Rattle.campaign_core.specs.declared.events.MasterEvent.{MasterEvent}
-use Rattle.campaign_core.specs.declared.events.MasterEvent.TheVariants.{Start, Begin, PhaseTo, VoteOf, CancelAsked, Decide, EndedAt, Enter}
+use Rattle.campaign_core.specs.declared.events.MasterEvent.TheVariants.{Start}
 use Rattle.campaign_core.specs.declared.fold.Current.{Current}
 use Rattle.campaign_core.specs.declared.fold.Fold.{Fold}
-use Rattle.campaign_core.specs.Campaign.{campaign, nothing_yet, refusal_of, after_event, changed_in, unless, may_begin}
+use Rattle.campaign_core.specs.Campaign.{campaign, refusal_of, after_event}
 use Rattle.node_laws.specs.Fit.{IsInstalled}
 use Rattle.world.specs.Messages.{Message, nth_sent}
-use Rattle.world.specs.Sends.{Packages, MaySend, next_number, campaign_of, decided_of, empties}
-use Rattle.world.specs.Evidence.{InCurrent, VoteEvidence, EndEvidence}
+use Rattle.world.specs.Sends.{Packages, MaySend, next_number, campaign_of, decided_of}
+use Rattle.world.specs.Evidence.{InCurrent}
 use Rattle.world.specs.World.{NodeWorld, World, fold_of, Event, Deliver, Foreign, Work, Send, Record, Restart, HasEvidence, IsAllowed, delivered, message, with_node, recorded, happens, opened, Makes}
 use Rattle.world.proofs.Appended.{fold-append}
 use Rattle.world.proofs.Instance.{ForeignCall, Opens, Calls}
@@ -29,11 +27,8 @@ use Rattle.world.proofs.Simulation.{SameNode, SameWorld, same-deliver, same-fore
 abbrev HasStarted : Fold → Type 0
 HasStarted f = (c : Current) → f.current ≡ Some c → 0 < f.epoch
 
-kept-current : (f : Fold) (e : MasterEvent) → HasStarted f → (c : Current) → changed_in f.current e ≡ Some c → 0 < f.epoch
-kept-current f e h c q = grind (arith, nat_tests) steps 500000
-
 started-after : (f : Fold) (e : MasterEvent) → refusal_of f e ≡ None → HasStarted f → HasStarted (after_event f e)
-started-after f y r h = grind (arith, nat_tests, eqb-true, leb-true, and_parts, kept-current) steps 1500000
+started-after f y r h = grind arith steps 1500000
 
 nth-has : (P : Message → Type 0) (ms : List Message) (i : ℕ) (m : Message) → AllByRecursion P ms → nth_sent ms i ≡ Some m → P m
 nth-has P [] i m h e = absurd (cc)
@@ -41,7 +36,7 @@ nth-has P (x ∷ ms) zero m h e = let same : x ≡ m = cc e in subst P same h.0
 nth-has P (x ∷ ms) (suc i) m h e = nth-has P ms i m h.1 e
 
 next-epoch : (epoch : ℕ) (ms : List Message) → (next_number epoch ms).epoch ≡ epoch
-next-epoch epoch x = grind (arith, nat_tests) steps 1500000
+next-epoch epoch x = grind arith steps 1500000
 
 module _ (read : Reading) (keeps : KeepsNode read []) (packages : Packages) (numbers : List ℕ) where
   -- an event of the rules that does what one of the tables does
@@ -49,7 +44,7 @@ module _ (read : Reading) (keeps : KeepsNode read []) (packages : Packages) (num
   Follows w v e = (f : engine.Event (fit read [] keeps)) × engine.Allowed (fit read [] keeps) packages numbers v f × SameWorld read keeps (happens read w e) (engine.happens (fit read [] keeps) v f)
 
   same-with : (w : World) (v : engine.World (fit read [] keeps)) (n : ℕ) (x : NodeWorld) (y : engine.NodeWorld (fit read [] keeps)) → SameWorld read keeps w v → SameNode read keeps x y → SameWorld read keeps (with_node w n x) (engine.with_node (fit read [] keeps) v n y)
-  same-with w v n x y h k = grind (arith, nat_tests) steps 500000
+  same-with w v n x y h k = grind arith steps 500000
 
   deliver : (w : World) (v : engine.World (fit read [] keeps)) (n which : ℕ) (told : Bool) → SameWorld read keeps w v → which < length (w.node n).sent → Follows w v (Deliver n which told)
   deliver w v n which told h allowed = (
@@ -89,17 +84,17 @@ module _ (read : Reading) (keeps : KeepsNode read []) (packages : Packages) (num
   )
     where
       may : InCurrent v.fold.current (λ c. MaySend packages v.fold.epoch n c (v.node n).told (v.node n).sent call)
-      may = grind (arith, nat_tests) steps 500000
+      may = grind arith steps 500000
 
       positive : (o : Option Current) → v.fold.current ≡ o → InCurrent o (λ c. MaySend packages v.fold.epoch n c (v.node n).told (v.node n).sent call) → 0 < v.fold.epoch
       positive None e m = absurd m
       positive (Some c) e m = h.started c e
 
   evidence : (w : World) (v : engine.World (fit read [] keeps)) (e : MasterEvent) → SameWorld read keeps w v → HasEvidence packages numbers w e → engine.Evidence (fit read [] keeps) packages numbers v e
-  evidence w v x h has = grind (arith, nat_tests) steps 1500000
+  evidence w v x h has = grind arith steps 1500000
 
   same-recorded : (w : World) (v : engine.World (fit read [] keeps)) (e : MasterEvent) → SameWorld read keeps w v → HasStarted (after_event v.fold e) → SameWorld read keeps (recorded w e) (engine.recorded (fit read [] keeps) v e)
-  same-recorded w v e h started = grind (arith, nat_tests, fold-append, fit) steps 500000
+  same-recorded w v e h started = grind (arith, fold-append, fit) steps 500000
 
   follows : (w : World) (v : engine.World (fit read [] keeps)) (e : Event) → SameWorld read keeps w v → IsAllowed read packages numbers w e → Follows w v e
   follows w v (Deliver n which told) h allowed = deliver w v n which told h allowed
