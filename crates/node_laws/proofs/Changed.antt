@@ -1,11 +1,7 @@
 -- One transfer changes, and the others stay.
-use Rattle.std.proofs.Common.{◌≡◌, refl, sym, subst, ap, ℕ, ◌<◌, Bool, true, false, List, [], ◌∷◌, cond, arith}
-use Rattle.std.specs.Prelude.{◌==◌, ◌||◌, if◌then◌else◌, option_map, Option, Some, find, map}
-use Rattle.std.specs.List.{list_any, AllByRecursion}
-use Rattle.std.proofs.lemmas.Bool.{and_parts, eqb-true}
-use Rattle.pm_types.specs.NodeState.{Transfer}
-use Rattle.pm_types.specs.Transfers.{is_of}
-use Rattle.pm_types.specs.Validity.{numbers_rise}
+use Rattle.node_laws.proofs.Vocabulary.{◌≡◌, refl, sym, subst, ap, ℕ, ◌<◌, Bool, true, false, List, [], ◌∷◌, cond,
+    arith, ◌==◌, ◌||◌, if◌then◌else◌, option_map, Option, Some, find, map, list_any, AllByRecursion, and_parts,
+    eqb-true, Transfer, is_of, numbers_rise}
 use Rattle.node_laws.proofs.Lists.{each-imp, each-both, each-map, each-unmap, found-has, rise-above, rise-tail}
 
 abbrev pub ids : List Transfer → List ℕ

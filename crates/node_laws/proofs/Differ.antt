@@ -1,24 +1,12 @@
 -- A package that isn't refused leaves the names of planned parts different, and not too many.
-use Rattle.std.proofs.Common.{◌≡◌, refl, sym, subst, ap, ◌∙◌, ℕ, ◌≤◌, Bool, true, false, List, [], ◌∷◌, ◌++◌, length, append_assoc, arith}
-use Rattle.std.specs.Prelude.{not, ◌&&◌, ◌||◌, map, nat_le, None}
-use Rattle.std.specs.List.{list_any, AllByRecursion}
-use Rattle.std.specs.Str.{bytes_eq}
-use Rattle.std.specs.Cmp.Derive.{both_true}
-use Rattle.std.proofs.lemmas.Bool.{and_parts, leb-false}
-use Rattle.std.proofs.lemmas.List.{map-append, append-nil}
-use Rattle.ucm_base.specs.declared.parts.Action.{Action}
-use Rattle.ucm_base.specs.declared.parts.Action.TheVariants.{Install}
-use Rattle.ucm_base.specs.Limits.{cluster_limit}
-use Rattle.ucm_base.specs.Names.{all_differ, has_name, different_names}
-use Rattle.ucm_base.specs.Parts.{Bytes}
-use Rattle.pm_types.specs.declared.clusters.Change.{Change}
-use Rattle.pm_types.specs.declared.clusters.Cluster.{Cluster}
-use Rattle.pm_types.specs.declared.clusters.Part.{Part}
-use Rattle.pm_types.specs.Refusals.{first_refusal}
-use Rattle.pm_types.specs.Clusters.{cluster_of, has_cluster}
-use Rattle.pm_types.specs.Sessions.{part_refusals, parts_refusal, applies, suits, is_install, names_among}
+use Rattle.node_laws.proofs.Vocabulary.{◌≡◌, refl, sym, subst, ap, ◌∙◌, ℕ, ◌≤◌, Bool, true, false, List, [], ◌∷◌,
+    ◌++◌, length, append_assoc, arith, not, ◌&&◌, ◌||◌, map, nat_le, None, list_any, AllByRecursion, bytes_eq,
+    both_true, and_parts, leb-false, map-append, append-nil, Action, Install, cluster_limit, all_differ, has_name,
+    different_names, Bytes, Change, Cluster, Part, first_refusal, cluster_of, has_cluster, part_refusals,
+    parts_refusal, applies, suits, is_install, names_among}
 use Rattle.node_laws.proofs.Lists.{each-append}
-use Rattle.node_laws.proofs.NameLists.{Within, has-self, has-append, within-self, within-left, within-right, within-trans, within-more, fewer-within, one-more, name-swap, has-within}
+use Rattle.node_laws.proofs.NameLists.{Within, has-self, has-append, within-self, within-left, within-right,
+    within-trans, within-more, fewer-within, one-more, name-swap, has-within}
 use Rattle.node_laws.proofs.Planned.{names_of, changed_names}
 use Rattle.node_laws.proofs.Refusals.{rows-clear, both-none, neither, not-false}
 

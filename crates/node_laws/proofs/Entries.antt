@@ -1,20 +1,8 @@
 -- A reply that is kept and an entry with its line leave a state fit.
-use Rattle.std.proofs.Common.{◌≡◌, refl, ℕ, zero, suc, ◌+◌, ◌-◌, ◌≤◌, true, List, [], ◌∷◌, ◌++◌, length, drop, length-append, length-drop, add-zero, arith}
-use Rattle.std.specs.Prelude.{◌==◌, min, Option, Some}
-use Rattle.std.specs.Cmp.Derive.{both_true}
-use Rattle.std.proofs.Math.ListN.{length-set}
-use Rattle.std.proofs.lemmas.Bool.{and_parts, eq-eqb}
-use Rattle.ucm_base.specs.Limits.{line_limit}
-use Rattle.ucm_base.specs.declared.ids.CallNo.{CallNo}
-use Rattle.pm_types.specs.declared.history.Happened.{Happened}
-use Rattle.pm_types.specs.declared.history.Line.{Line}
-use Rattle.pm_types.specs.declared.replies.Reply.{Reply}
-use Rattle.pm_types.specs.declared.state.Kept.{Kept}
-use Rattle.pm_types.specs.NodeState.{NodeState}
-use Rattle.pm_types.specs.Steps.{newest, with_entry, with_kept}
-use Rattle.pm_types.specs.Histories.{Reading}
-use Rattle.pm_types.specs.Validity.{places_from}
-use Rattle.node_laws.specs.Fit.{IsFit}
+use Rattle.node_laws.proofs.Vocabulary.{◌≡◌, refl, ℕ, zero, suc, ◌+◌, ◌-◌, ◌≤◌, true, List, [], ◌∷◌, ◌++◌, length,
+    drop, length-append, length-drop, add-zero, arith, ◌==◌, min, Option, Some, both_true, length-set, and_parts,
+    eq-eqb, line_limit, CallNo, Happened, Line, Reply, Kept, NodeState, newest, with_entry, with_kept, Reading,
+    places_from, IsFit}
 
 places-append : (place : ℕ) (ls : List Line) (l : Line) → places_from place ls ≡ true → l.place ≡ place + length ls → places_from place (ls ++ l ∷ []) ≡ true
 places-append place [] l h e = both_true (eq-eqb _ _ (omega (arith, e))) refl

@@ -1,31 +1,13 @@
 -- What a node does leaves its state fit.
-use Rattle.std.proofs.Common.{◌≡◌, refl, sym, subst, ap, ℕ, ◌+◌, ◌<◌, Bool, true, false, List, [], ◌∷◌, arith}
-use Rattle.std.specs.Prelude.{nat_lt, option_map, option_and_then, unwrap_or, if◌then◌else◌, Option, Some, None}
-use Rattle.std.specs.declared.cmp.Ordering.{Ordering}
-use Rattle.std.specs.declared.cmp.Ordering.TheVariants.{Greater}
-use Rattle.ucm_base.specs.Limits.{client_limit}
-use Rattle.ucm_base.specs.Parts.{Bytes}
-use Rattle.ucm_base.specs.declared.ids.CallNo.{CallNo}
-use Rattle.pm_types.specs.declared.calls.Call.{Call}
-use Rattle.pm_types.specs.declared.calls.Call.TheVariants.{Sync, TransferStart, TransferData, TransferExit, DeleteTransfer, ProcessSwPackage, Activate, Finish, Rollback, RevertProcessedSwPackages, Cancel}
-use Rattle.pm_types.specs.declared.clusters.Cluster.{Cluster}
-use Rattle.pm_types.specs.declared.history.Entry.{Entry}
-use Rattle.pm_types.specs.declared.history.Entry.TheVariants.{Numbered, Unit as UnitDone}
-use Rattle.pm_types.specs.declared.history.Happened.TheVariants.{Unit as UnitLine}
-use Rattle.pm_types.specs.declared.replies.Reached.TheVariants.{Done as Answered}
-use Rattle.pm_types.specs.declared.replies.Refusal.{Refusal}
-use Rattle.pm_types.specs.declared.replies.Reply.{Reply}
-use Rattle.pm_types.specs.declared.replies.Reply.TheVariants.{Refused}
-use Rattle.pm_types.specs.declared.status.Status.{Status}
-use Rattle.pm_types.specs.declared.status.Status.TheVariants.{Processing, Activating, Verifying, RollingBack, CleaningUp}
-use Rattle.pm_types.specs.declared.state.Kept.{Kept}
-use Rattle.pm_types.specs.NodeState.{NodeState, Session, of_client}
-use Rattle.pm_types.specs.Clusters.{all_units}
-use Rattle.pm_types.specs.Transfers.{parts_of}
-use Rattle.pm_types.specs.Steps.{refusal, accepted, acceptance, refused_or, reply_to, after_reply, judge, after_call, executed, by_order, by_last, call_no_cmp, step, with_entry}
-use Rattle.pm_types.specs.Work.{unit_of, process_unit, processed, parts_of_id}
-use Rattle.pm_types.specs.Histories.{Reading, verdict_for, worked, formatted, after_entry, state_after, IsNext, IsLegal}
-use Rattle.node_laws.specs.Fit.{IsReading, IsFit, IsInstalled, KeepsFit}
+use Rattle.node_laws.proofs.Vocabulary.{◌≡◌, refl, sym, subst, ap, ℕ, ◌+◌, ◌<◌, Bool, true, false, List, [], ◌∷◌,
+    arith, nat_lt, option_map, option_and_then, unwrap_or, if◌then◌else◌, Option, Some, None, Ordering, Greater,
+    client_limit, Bytes, CallNo, Call, Sync, TransferStart, TransferData, TransferExit, DeleteTransfer,
+    ProcessSwPackage, Activate, Finish, Rollback, RevertProcessedSwPackages, Cancel, Cluster, Entry, Numbered,
+    UnitDone, UnitLine, Answered, Refusal, Reply, Refused, Status, Processing, Activating, Verifying, RollingBack,
+    CleaningUp, Kept, NodeState, Session, of_client, all_units, parts_of, refusal, accepted, acceptance, refused_or,
+    reply_to, after_reply, judge, after_call, executed, by_order, by_last, call_no_cmp, step, with_entry, unit_of,
+    process_unit, processed, parts_of_id, Reading, verdict_for, worked, formatted, after_entry, state_after, IsNext,
+    IsLegal, IsReading, IsFit, IsInstalled, KeepsFit}
 use Rattle.node_laws.proofs.Refusals.{both-none}
 use Rattle.node_laws.proofs.Sessions.{Busy, busy-of, base-of}
 use Rattle.node_laws.proofs.Quiet.{processes}

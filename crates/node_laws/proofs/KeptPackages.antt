@@ -1,42 +1,29 @@
 -- The call that takes a package into processing, and the call that stops it, leave a state fit.
-use Rattle.std.proofs.Common.{◌≡◌, ◌⊎◌, inl, inr, refl, sym, subst, ap, ◌∙◌, ℕ, ◌<◌, ◌≤◌, Bool, true, false, List, [], ◌∷◌, ◌++◌, length, arith}
-use Rattle.std.specs.Prelude.{◌==◌, ◌&&◌, ◌||◌, not, nat_lt, is_some, is_none, if◌then◌else◌, map, unwrap_or, option_map, IsSomeAnd, Option, Some, None}
-use Rattle.std.specs.Option.{option_or, option_map_or}
-use Rattle.std.specs.List.{AllByRecursion}
-use Rattle.std.proofs.lemmas.Bool.{eqb-true, eq-eqb, lt-ltb}
-use Rattle.std.proofs.lemmas.List.{map-append, append-nil}
-use Rattle.ucm_base.specs.Limits.{client_limit, cluster_limit}
-use Rattle.ucm_base.specs.Names.{all_differ, names_rise}
-use Rattle.ucm_base.specs.Parts.{Bytes}
-use Rattle.pm_types.specs.declared.calls.Call.TheVariants.{ProcessSwPackage, Cancel}
-use Rattle.pm_types.specs.declared.clusters.Change.{Change}
-use Rattle.pm_types.specs.declared.clusters.Part.{Part}
-use Rattle.pm_types.specs.declared.replies.Refusal.{Refusal}
-use Rattle.pm_types.specs.declared.replies.Refusal.TheVariants.{OperationNotPermitted, InvalidTransferId}
-use Rattle.pm_types.specs.declared.status.Outcome.{Outcome}
-use Rattle.pm_types.specs.declared.status.Outcome.TheVariants.{Old}
-use Rattle.pm_types.specs.declared.status.Phase.{Phase}
-use Rattle.pm_types.specs.declared.status.Phase.TheVariants.{Transferred, Processing as BeingProcessed, Processed}
-use Rattle.pm_types.specs.declared.status.Status.{Status}
-use Rattle.pm_types.specs.declared.status.Status.TheVariants.{Idle, Ready, Processing, CleaningUp}
-use Rattle.pm_types.specs.NodeState.{NodeState, Session, Transfer, is_in, has_status, some_passes, phase_code}
-use Rattle.pm_types.specs.Refusals.{first_refusal}
-use Rattle.pm_types.specs.Clusters.{cluster_of, all_units}
-use Rattle.pm_types.specs.Sessions.{To, Resume, status_table, session_refusals, process_refusal, cancel_refusals, parts_refusal, is_wrong_tag, changes_in, applies, names_among, new_session, begin_processing, stop_processing, arrive, led_by}
-use Rattle.pm_types.specs.Transfers.{is_of, transfer_of, header_of, parts_of}
-use Rattle.pm_types.specs.Histories.{Reading}
-use Rattle.pm_types.specs.Validity.{SessionIsDue, should_run, LeavesOneToVerify, IsWholeFromTransferred, IsPlannedWhole, is_processed, parts_in, may_plan_nothing, numbers_rise}
-use Rattle.node_laws.specs.Fit.{IsFit}
+use Rattle.node_laws.proofs.Vocabulary.{◌≡◌, ◌⊎◌, inl, inr, refl, sym, subst, ap, ◌∙◌, ℕ, ◌<◌, ◌≤◌, Bool, true, false,
+    List, [], ◌∷◌, ◌++◌, length, arith, ◌==◌, ◌&&◌, ◌||◌, not, nat_lt, is_some, is_none, if◌then◌else◌, map,
+    unwrap_or, option_map, IsSomeAnd, Option, Some, None, option_or, option_map_or, AllByRecursion, eqb-true, eq-eqb,
+    lt-ltb, map-append, append-nil, client_limit, cluster_limit, all_differ, names_rise, Bytes, ProcessSwPackage,
+    Cancel, Change, Part, Refusal, OperationNotPermitted, InvalidTransferId, Outcome, Old, Phase, Transferred,
+    BeingProcessed, Processed, Status, Idle, Ready, Processing, CleaningUp, NodeState, Session, Transfer, is_in,
+    has_status, some_passes, phase_code, first_refusal, cluster_of, all_units, To, Resume, status_table,
+    session_refusals, process_refusal, cancel_refusals, parts_refusal, is_wrong_tag, changes_in, applies, names_among,
+    new_session, begin_processing, stop_processing, arrive, led_by, is_of, transfer_of, header_of, parts_of, Reading,
+    SessionIsDue, should_run, LeavesOneToVerify, IsWholeFromTransferred, IsPlannedWhole, is_processed, parts_in,
+    may_plan_nothing, numbers_rise, IsFit}
 use Rattle.node_laws.proofs.Lists.{each-append, each-first, each-imp, found-has}
 use Rattle.node_laws.proofs.NameLists.{Within, within-self, within-left, within-right, fewer-within}
 use Rattle.node_laws.proofs.Planned.{names_of, changed_names}
-use Rattle.node_laws.proofs.Changed.{ids, found, found-is, changed, each-changed, all-changed, any-changed, found-changed}
-use Rattle.node_laws.proofs.Refusals.{rows-clear, both-none, neither, not-false, some-transfer, some-header, is-transferred, is-processing}
+use Rattle.node_laws.proofs.Changed.{ids, found, found-is, changed, each-changed, all-changed, any-changed,
+    found-changed}
+use Rattle.node_laws.proofs.Refusals.{rows-clear, both-none, neither, not-false, some-transfer, some-header,
+    is-transferred, is-processing}
 use Rattle.node_laws.proofs.Sessions.{Base, Busy, Free, InProcessing, base-of, busy-of, free-of, busy-is}
 use Rattle.node_laws.proofs.KeptSessions.{or-true, at-status}
-use Rattle.node_laws.proofs.KeptUnits.{both-in, left-in, changes-in, all_of, clusters-in, parts-in, all-in, names-fewer}
+use Rattle.node_laws.proofs.KeptUnits.{both-in, left-in, changes-in, all_of, clusters-in, parts-in, all-in,
+    names-fewer}
 use Rattle.node_laws.proofs.Differ.{differ-first, differ-kept, each-applies, few-kept}
-use Rattle.node_laws.proofs.KeptProcessing.{rephased, names-kept, late_transferred, being_processed, read-rephased, base-rephased, in-other, some-units, names-of-parts}
+use Rattle.node_laws.proofs.KeptProcessing.{rephased, names-kept, late_transferred, being_processed, read-rephased,
+    base-rephased, in-other, some-units, names-of-parts}
 
 -- a session that has nothing in processing, or is about to begin
 record Waits (s : NodeState) (x : Session) : Type 0 where

@@ -1,29 +1,11 @@
 -- Processing a package: the call that begins it, a unit of it, its last unit, and the call that stops it.
-use Rattle.std.proofs.Common.{◌≡◌, refl, sym, subst, ap, ◌∙◌, ℕ, ◌+◌, ◌<◌, ◌≤◌, Bool, true, false, List, [], ◌∷◌, ◌++◌, length, length-append, arith}
-use Rattle.std.specs.Prelude.{◌==◌, ◌&&◌, ◌||◌, nat_lt, filter, find, map, Option, Some, None}
-use Rattle.std.specs.List.{list_any, AllByRecursion}
-use Rattle.std.proofs.lemmas.Bool.{and_parts, eqb-true, eq-eqb, lt-ltb}
-use Rattle.std.specs.Cmp.Derive.{both_true}
-use Rattle.std.proofs.lemmas.List.{map-append, append-nil}
-use Rattle.std.proofs.lemmas.List.Sums.{sum_by-cons}
-use Rattle.std.proofs.lemmas.List.Elements.{filter-append}
-use Rattle.ucm_base.specs.Limits.{cluster_limit}
-use Rattle.ucm_base.specs.Names.{all_differ}
-use Rattle.ucm_base.specs.Parts.{Bytes}
-use Rattle.pm_types.specs.declared.clusters.Change.{Change}
-use Rattle.pm_types.specs.declared.clusters.Part.{Part}
-use Rattle.pm_types.specs.declared.status.Phase.{Phase}
-use Rattle.pm_types.specs.declared.status.Phase.TheVariants.{Transferred, Processing as BeingProcessed, Processed}
-use Rattle.pm_types.specs.declared.status.Status.{Status}
-use Rattle.pm_types.specs.declared.status.Status.TheVariants.{Ready, Processing}
-use Rattle.pm_types.specs.NodeState.{NodeState, Session, Transfer, is_in, some_passes}
-use Rattle.pm_types.specs.Clusters.{cluster_of, changes_of, units_of, all_units}
-use Rattle.pm_types.specs.Sessions.{names_among}
-use Rattle.pm_types.specs.Transfers.{is_of, parts_of, in_phase}
-use Rattle.pm_types.specs.Histories.{Reading}
-use Rattle.pm_types.specs.Validity.{IsSound, IsWholeFromTransferred, IsPlannedWhole, is_processed, PartsApply}
-use Rattle.pm_types.specs.Work.{processed, parts_of_id}
-use Rattle.node_laws.specs.Fit.{IsFit, IsRead}
+use Rattle.node_laws.proofs.Vocabulary.{◌≡◌, refl, sym, subst, ap, ◌∙◌, ℕ, ◌+◌, ◌<◌, ◌≤◌, Bool, true, false, List, [],
+    ◌∷◌, ◌++◌, length, length-append, arith, ◌==◌, ◌&&◌, ◌||◌, nat_lt, filter, find, map, Option, Some, None,
+    list_any, AllByRecursion, and_parts, eqb-true, eq-eqb, lt-ltb, both_true, map-append, append-nil, sum_by-cons,
+    filter-append, cluster_limit, all_differ, Bytes, Change, Part, Phase, Transferred, BeingProcessed, Processed,
+    Status, Ready, Processing, NodeState, Session, Transfer, is_in, some_passes, cluster_of, changes_of, units_of,
+    all_units, names_among, is_of, parts_of, in_phase, Reading, IsSound, IsWholeFromTransferred, IsPlannedWhole,
+    is_processed, PartsApply, processed, parts_of_id, IsFit, IsRead}
 use Rattle.node_laws.proofs.Lists.{each-append, each-imp, found-has}
 use Rattle.node_laws.proofs.Planned.{changed_names}
 use Rattle.node_laws.proofs.Changed.{found, found-is, changed, each-changed, all-changed, KeepsNames}

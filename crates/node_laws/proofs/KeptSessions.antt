@@ -1,23 +1,11 @@
 -- Calls that move a session from one status to another leave a state fit.
-use Rattle.std.proofs.Common.{◌≡◌, refl, sym, subst, ℕ, ◌≤◌, Bool, true, false, List, [], ◌++◌, length, arith}
-use Rattle.std.specs.Prelude.{◌||◌, nat_lt, is_some, is_none, option_map, IfSome, Option, Some, None}
-use Rattle.std.specs.Option.{option_map_or}
-use Rattle.ucm_base.specs.Limits.{cluster_limit}
-use Rattle.ucm_base.specs.Names.{names_rise}
-use Rattle.ucm_base.specs.Parts.{Bytes}
-use Rattle.pm_types.specs.declared.calls.Call.{Call}
+use Rattle.node_laws.proofs.Vocabulary.{◌≡◌, refl, sym, subst, ℕ, ◌≤◌, Bool, true, false, List, [], ◌++◌, length,
+    arith, ◌||◌, nat_lt, is_some, is_none, option_map, IfSome, Option, Some, None, option_map_or, cluster_limit,
+    names_rise, Bytes, Call, Cluster, Outcome, New, Old, Status, Ready, Processing, Activating, Verifying, Activated,
+    RollingBack, RolledBack, CleaningUp, NodeState, Session, has_status, first_refusal, Goal, To, CleanUp,
+    status_table, session_refusals, arrive, led_by, names_among, Reading, SessionIsDue, should_run, LeavesOneToVerify,
+    may_plan_nothing, parts_in, IsFit}
 use Rattle.pm_types.specs.declared.calls.Call.TheVariants as call
-use Rattle.pm_types.specs.declared.clusters.Cluster.{Cluster}
-use Rattle.pm_types.specs.declared.status.Outcome.{Outcome}
-use Rattle.pm_types.specs.declared.status.Outcome.TheVariants.{New, Old}
-use Rattle.pm_types.specs.declared.status.Status.{Status}
-use Rattle.pm_types.specs.declared.status.Status.TheVariants.{Ready, Processing, Activating, Verifying, Activated, RollingBack, RolledBack, CleaningUp}
-use Rattle.pm_types.specs.NodeState.{NodeState, Session, has_status}
-use Rattle.pm_types.specs.Refusals.{first_refusal}
-use Rattle.pm_types.specs.Sessions.{Goal, To, CleanUp, status_table, session_refusals, arrive, led_by, names_among}
-use Rattle.pm_types.specs.Histories.{Reading}
-use Rattle.pm_types.specs.Validity.{SessionIsDue, should_run, LeavesOneToVerify, may_plan_nothing, parts_in}
-use Rattle.node_laws.specs.Fit.{IsFit}
 use Rattle.node_laws.proofs.Planned.{names_of}
 use Rattle.node_laws.proofs.Refusals.{rows-clear}
 use Rattle.node_laws.proofs.Sessions.{Busy, IsUnfinished, base-of, busy-of}

@@ -1,25 +1,10 @@
 -- Units of work, beside those in Processing, leave a state fit.
-use Rattle.std.proofs.Common.{◌≡◌, refl, sym, subst, ap, ◌∙◌, ℕ, ◌+◌, ◌≤◌, Bool, true, false, List, [], ◌∷◌, ◌++◌, length, arith}
-use Rattle.std.specs.Prelude.{◌||◌, not, nat_lt, if◌then◌else◌, filter, map, slice_set, Some}
-use Rattle.std.proofs.Math.ListN.{length-set}
-use Rattle.std.proofs.lemmas.Bool.{ltb-true}
-use Rattle.std.proofs.lemmas.List.{map-append}
-use Rattle.ucm_base.specs.Limits.{cluster_limit}
-use Rattle.ucm_base.specs.Parts.{Bytes}
-use Rattle.pm_types.specs.declared.clusters.Cluster.{Cluster}
-use Rattle.pm_types.specs.declared.clusters.Change.{Change}
-use Rattle.pm_types.specs.declared.clusters.Part.{Part}
-use Rattle.pm_types.specs.declared.status.Phase.TheVariants.{Processing as BeingProcessed, Processed}
-use Rattle.pm_types.specs.declared.status.Status.TheVariants.{Idle, Activating, Verifying, Activated, RollingBack, CleaningUp}
-use Rattle.pm_types.specs.NodeState.{NodeState, Session, Transfer, is_in}
-use Rattle.pm_types.specs.Clusters.{cluster_of}
-use Rattle.pm_types.specs.Sessions.{names_among}
-use Rattle.std.specs.Option.{option_map_or}
-use Rattle.ucm_base.specs.Names.{names_rise}
-use Rattle.pm_types.specs.Work.{parts_of_id, activate_unit, verify_unit, roll_back_unit, clean_up_unit, end_mark}
-use Rattle.pm_types.specs.Histories.{Reading}
-use Rattle.pm_types.specs.Validity.{parts_in}
-use Rattle.node_laws.specs.Fit.{IsFit}
+use Rattle.node_laws.proofs.Vocabulary.{◌≡◌, refl, sym, subst, ap, ◌∙◌, ℕ, ◌+◌, ◌≤◌, Bool, true, false, List, [], ◌∷◌,
+    ◌++◌, length, arith, ◌||◌, not, nat_lt, if◌then◌else◌, filter, map, slice_set, Some, length-set, ltb-true,
+    map-append, cluster_limit, Bytes, Cluster, Change, Part, BeingProcessed, Processed, Idle, Activating, Verifying,
+    Activated, RollingBack, CleaningUp, NodeState, Session, Transfer, is_in, cluster_of, names_among, option_map_or,
+    names_rise, parts_of_id, activate_unit, verify_unit, roll_back_unit, clean_up_unit, end_mark, Reading, parts_in,
+    IsFit}
 use Rattle.node_laws.proofs.Lists.{each-append, each-imp, each-filter, each-passes, length-filter, rise-filter}
 use Rattle.node_laws.proofs.NameLists.{Within, within-self, within-left, within-right, within-trans, fewer-within}
 use Rattle.node_laws.proofs.Planned.{names_of, changed_names, planned-rise, planned-within}

@@ -1,13 +1,7 @@
 -- The history that calls make is legal.
-use Rattle.std.proofs.Common.{◌≡◌, ◌++◌, ◌∙◌, [], ◌∷◌, Option, Some, None, refl, ap}
-use Rattle.std.specs.declared.cmp.Ordering.{Ordering}
-use Rattle.std.specs.declared.cmp.Ordering.TheVariants.{Greater}
-use Rattle.pm_types.specs.declared.replies.Reached.{Reached}
-use Rattle.pm_types.specs.declared.state.Kept.{Kept}
-use Rattle.pm_types.specs.NodeState.{NodeState, of_client}
-use Rattle.pm_types.specs.Steps.{by_last, by_order, call_no_cmp, executed}
-use Rattle.pm_types.specs.Histories.{Reading, IsLegal, verdict_for}
-use Rattle.node_laws.specs.Runs.{MakesLegal, entries_of, entry_of}
+use Rattle.node_laws.proofs.Vocabulary.{◌≡◌, ◌++◌, ◌∙◌, [], ◌∷◌, Option, Some, None, refl, ap, Ordering, Greater,
+    Reached, Kept, NodeState, of_client, by_last, by_order, call_no_cmp, executed, Reading, IsLegal, verdict_for,
+    MakesLegal, entries_of, entry_of}
 
 module _ (read : Reading) where
   pub makes-legal : MakesLegal read

@@ -1,10 +1,6 @@
 -- Facts of each element of a list, searches, and rising numbers.
-use Rattle.std.proofs.Common.{◌≡◌, refl, ℕ, ◌<◌, ◌≤◌, Bool, true, false, List, [], ◌∷◌, ◌++◌, length, arith}
-use Rattle.std.specs.Prelude.{cond, find, filter, map, nat_lt, Some}
-use Rattle.std.specs.List.{list_any, AllByRecursion}
-use Rattle.std.specs.Cmp.Derive.{both_true}
-use Rattle.std.proofs.lemmas.Bool.{and_parts, ltb-true}
-use Rattle.pm_types.specs.Validity.{numbers_rise}
+use Rattle.node_laws.proofs.Vocabulary.{◌≡◌, refl, ℕ, ◌<◌, ◌≤◌, Bool, true, false, List, [], ◌∷◌, ◌++◌, length, arith,
+    cond, find, filter, map, nat_lt, Some, list_any, AllByRecursion, both_true, and_parts, ltb-true, numbers_rise}
 
 pub each-append : {X : Type 0} (P : X → Type 0) (xs ys : List X) → AllByRecursion P xs → AllByRecursion P ys → AllByRecursion P (xs ++ ys)
 each-append P [] ys h k = k

@@ -1,16 +1,7 @@
 -- Lists of names: which are different, and which rise.
-use Rattle.std.proofs.Common.{◌≡◌, refl, sym, ap, ◌∙◌, ℕ, ◌+◌, ◌≤◌, Bool, true, false, List, [], ◌∷◌, ◌++◌, length, arith}
-use Rattle.std.specs.Prelude.{◌||◌, not, cond, filter, map}
-use Rattle.std.specs.List.{AllByRecursion}
-use Rattle.std.specs.Str.{bytes_eq}
-use Rattle.std.specs.Ordering.{nat_cmp, is_lt}
-use Rattle.std.specs.Cmp.Lexicographic.{slice_cmp}
-use Rattle.std.specs.declared.cmp.Ordering.{Ordering}
-use Rattle.std.specs.declared.cmp.Ordering.TheVariants.{Less}
-use Rattle.std.proofs.lemmas.Cmp.{nat_list_cmp_total}
-use Rattle.std.proofs.lemmas.Slice.Eq.{bytes_eq-Decides}
-use Rattle.std.proofs.lemmas.Bool.{and_parts}
-use Rattle.ucm_base.specs.Names.{name_lt, has_name, different_names, names_rise}
+use Rattle.node_laws.proofs.Vocabulary.{◌≡◌, refl, sym, ap, ◌∙◌, ℕ, ◌+◌, ◌≤◌, Bool, true, false, List, [], ◌∷◌, ◌++◌,
+    length, arith, ◌||◌, not, cond, filter, map, AllByRecursion, bytes_eq, nat_cmp, is_lt, slice_cmp, Ordering, Less,
+    nat_list_cmp_total, bytes_eq-Decides, and_parts, name_lt, has_name, different_names, names_rise}
 use Rattle.node_laws.proofs.Lists.{each-append, each-imp, each-both, each-map, each-unmap, each-filter}
 
 pub name-eq : (a b : List ℕ) → bytes_eq a b ≡ true → a ≡ b

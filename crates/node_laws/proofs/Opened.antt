@@ -1,11 +1,6 @@
 -- A node without a session stays fit with other clusters.
-use Rattle.std.proofs.Common.{subst, List}
-use Rattle.std.specs.Prelude.{Option, Some, None}
-use Rattle.ucm_base.specs.Parts.{Bytes}
-use Rattle.pm_types.specs.declared.clusters.Cluster.{Cluster}
-use Rattle.pm_types.specs.NodeState.{NodeState, Session}
-use Rattle.pm_types.specs.Histories.{Reading}
-use Rattle.node_laws.specs.Fit.{IsFit, IsInstalled}
+use Rattle.node_laws.proofs.Vocabulary.{subst, List, Option, Some, None, Bytes, Cluster, NodeState, Session, Reading,
+    IsFit, IsInstalled}
 use Rattle.node_laws.proofs.Sessions.{base-of, free-of, free-is, by-session}
 
 -- what runs where a node without a session is opened with these clusters

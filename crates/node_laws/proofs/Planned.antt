@@ -1,18 +1,10 @@
 -- Planned changes leave clusters in order of name, and bring no other names than their own.
-use Rattle.std.proofs.Common.{arith, ◌≡◌, sym, ap, subst, ◌∙◌, ℕ, Bool, true, List, [], ◌∷◌, ◌++◌}
-use Rattle.std.specs.Prelude.{not, filter, map}
-use Rattle.std.specs.Str.{bytes_eq}
-use Rattle.std.proofs.lemmas.List.{map-append}
-use Rattle.ucm_base.specs.declared.parts.Action.{Action}
-use Rattle.ucm_base.specs.declared.parts.Action.TheVariants.{Remove}
-use Rattle.ucm_base.specs.Names.{name_lt, names_rise}
-use Rattle.ucm_base.specs.Parts.{Bytes}
-use Rattle.pm_types.specs.declared.clusters.Change.{Change}
-use Rattle.pm_types.specs.declared.clusters.Cluster.{Cluster}
-use Rattle.pm_types.specs.declared.clusters.Part.{Part}
-use Rattle.pm_types.specs.Clusters.{cluster_of, with_cluster, brought, changed_as, changed_by, planned}
+use Rattle.node_laws.proofs.Vocabulary.{arith, ◌≡◌, sym, ap, subst, ◌∙◌, ℕ, Bool, true, List, [], ◌∷◌, ◌++◌, not,
+    filter, map, bytes_eq, map-append, Action, Remove, name_lt, names_rise, Bytes, Change, Cluster, Part, cluster_of,
+    with_cluster, brought, changed_as, changed_by, planned}
 use Rattle.node_laws.proofs.Lists.{each-append, each-map, each-unmap, each-filter, each-passes}
-use Rattle.node_laws.proofs.NameLists.{Within, within-self, within-more, within-left, within-right, within-trans, has-self, names-onto, names-around, names-filter}
+use Rattle.node_laws.proofs.NameLists.{Within, within-self, within-more, within-left, within-right, within-trans,
+    has-self, names-onto, names-around, names-filter}
 
 abbrev pub names_of : List (Cluster Bytes) → List (List ℕ)
 names_of cs = map (λ c. c.name) cs

@@ -1,21 +1,14 @@
 -- A change of transfers that touches none in processing and none processed.
-use Rattle.std.proofs.Common.{◌≡◌, refl, sym, subst, ap, ◌∙◌, ℕ, ◌<◌, ◌≤◌, Bool, true, false, List, [], ◌∷◌, ◌++◌, length, arith}
-use Rattle.std.specs.Prelude.{◌==◌, ◌&&◌, not, if◌then◌else◌, filter, map, option_map, IfSome, IsSomeAnd, Option, Some, None}
-use Rattle.std.specs.List.{AllByRecursion}
-use Rattle.std.proofs.lemmas.Bool.{and_parts, eqb-true}
-use Rattle.std.proofs.lemmas.List.Folds.{find-append}
-use Rattle.ucm_base.specs.Limits.{cluster_limit}
-use Rattle.ucm_base.specs.Parts.{Bytes}
-use Rattle.pm_types.specs.declared.transfers.Header.{Header}
-use Rattle.pm_types.specs.declared.status.Phase.{Phase}
-use Rattle.pm_types.specs.declared.status.Phase.TheVariants.{Transferring, Transferred, Processing as BeingProcessed, Processed}
-use Rattle.pm_types.specs.NodeState.{NodeState, Session, Transfer, is_in, some_passes}
-use Rattle.pm_types.specs.Sessions.{names_among}
-use Rattle.pm_types.specs.Transfers.{is_of}
-use Rattle.pm_types.specs.Validity.{IsConsistent, IsPlannedWhole, is_processed, PartsApply, parts_in}
+use Rattle.node_laws.proofs.Vocabulary.{◌≡◌, refl, sym, subst, ap, ◌∙◌, ℕ, ◌<◌, ◌≤◌, Bool, true, false, List, [], ◌∷◌,
+    ◌++◌, length, arith, ◌==◌, ◌&&◌, not, if◌then◌else◌, filter, map, option_map, IfSome, IsSomeAnd, Option, Some,
+    None, AllByRecursion, and_parts, eqb-true, find-append, cluster_limit, Bytes, Header, Phase, Transferring,
+    Transferred, BeingProcessed, Processed, NodeState, Session, Transfer, is_in, some_passes, names_among, is_of,
+    IsConsistent, IsPlannedWhole, is_processed, PartsApply, parts_in}
 use Rattle.node_laws.proofs.Lists.{each-append, each-imp, each-filter, found-has, find-filter, any-filter, any-more}
-use Rattle.node_laws.proofs.Changed.{found, found-is, only, changed, each-changed, all-changed, any-changed, KeepsNames, found-changed}
-use Rattle.node_laws.proofs.Sessions.{Held, Base, Busy, InProcessing, IsUnfinished, base-of, busy-of, busy-is, free-of, free-is, by-session}
+use Rattle.node_laws.proofs.Changed.{found, found-is, only, changed, each-changed, all-changed, any-changed,
+    KeepsNames, found-changed}
+use Rattle.node_laws.proofs.Sessions.{Held, Base, Busy, InProcessing, IsUnfinished, base-of, busy-of, busy-is,
+    free-of, free-is, by-session}
 
 -- a phase before processing
 pub data IsEarly : Phase → Type 0 where

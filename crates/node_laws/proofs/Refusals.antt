@@ -1,14 +1,7 @@
 -- What a call that isn't refused shows.
-use Rattle.std.proofs.Common.{arith, ◌≡◌, refl, Bool, true, false, List, [], ◌∷◌}
-use Rattle.std.specs.Prelude.{not, ◌||◌, is_none, Option, Some, None}
-use Rattle.std.specs.List.{AllByRecursion}
-use Rattle.std.specs.Option.{option_or}
-use Rattle.pm_types.specs.declared.transfers.Header.{Header}
-use Rattle.pm_types.specs.declared.replies.Refusal.{Refusal}
-use Rattle.pm_types.specs.declared.status.Phase.TheVariants.{Transferring, Transferred, Processing as BeingProcessed}
-use Rattle.pm_types.specs.NodeState.{Transfer, is_in}
-use Rattle.pm_types.specs.Refusals.{first_refusal}
-use Rattle.pm_types.specs.Transfers.{header_of}
+use Rattle.node_laws.proofs.Vocabulary.{arith, ◌≡◌, refl, Bool, true, false, List, [], ◌∷◌, not, ◌||◌, is_none,
+    Option, Some, None, AllByRecursion, option_or, Header, Refusal, Transferring, Transferred, BeingProcessed,
+    Transfer, is_in, first_refusal, header_of}
 
 -- no test of a table that doesn't refuse holds
 pub rows-clear : (rows : List (Bool × Refusal)) → first_refusal rows ≡ None → AllByRecursion (λ row. row.0 ≡ false) rows

@@ -1,19 +1,10 @@
 -- A consistent state, by whether it has a session.
-use Rattle.std.proofs.Common.{arith, ◌≡◌, refl, subst, ℕ, ◌-◌, ◌<◌, ◌≤◌, true, false, List, [], ◌++◌, length}
-use Rattle.std.specs.Prelude.{◌==◌, min, option_and_then, Option, Some, None, IfSome, IsSomeAnd, is_some, find, map}
-use Rattle.std.specs.Option.{option_map_or}
-use Rattle.std.specs.List.{AllByRecursion}
-use Rattle.ucm_base.specs.Limits.{client_limit, cluster_limit, transfer_limit, package_limit, last_id, line_limit}
-use Rattle.ucm_base.specs.Names.{names_rise}
-use Rattle.ucm_base.specs.Parts.{Bytes}
-use Rattle.pm_types.specs.declared.status.Status.{Status}
-use Rattle.pm_types.specs.declared.status.Status.TheVariants.{Idle, Processing, CleaningUp}
-use Rattle.pm_types.specs.declared.status.Phase.TheVariants.{Processing as BeingProcessed, Processed}
-use Rattle.pm_types.specs.NodeState.{NodeState, Session, Transfer, is_in, has_status, some_passes}
-use Rattle.pm_types.specs.Clusters.{all_units}
-use Rattle.pm_types.specs.Sessions.{names_among}
-use Rattle.pm_types.specs.Transfers.{is_of}
-use Rattle.pm_types.specs.Validity.{IsConsistent, SessionIsDue, should_run, ChangesAreOf, ChangesAreDue, PartsApply, parts_in, LeavesOneToVerify, IsSound, numbers_rise, places_from}
+use Rattle.node_laws.proofs.Vocabulary.{arith, ◌≡◌, refl, subst, ℕ, ◌-◌, ◌<◌, ◌≤◌, true, false, List, [], ◌++◌,
+    length, ◌==◌, min, option_and_then, Option, Some, None, IfSome, IsSomeAnd, is_some, find, map, option_map_or,
+    AllByRecursion, client_limit, cluster_limit, transfer_limit, package_limit, last_id, line_limit, names_rise,
+    Bytes, Status, Idle, Processing, CleaningUp, BeingProcessed, Processed, NodeState, Session, Transfer, is_in,
+    has_status, some_passes, all_units, names_among, is_of, IsConsistent, SessionIsDue, should_run, ChangesAreOf,
+    ChangesAreDue, PartsApply, parts_in, LeavesOneToVerify, IsSound, numbers_rise, places_from}
 use Rattle.node_laws.proofs.Planned.{names_of}
 
 -- the transfers, where ids below the next one were given

@@ -1,17 +1,8 @@
 -- One more entry of a history, and one more event of the master's list.
-use Rattle.std.proofs.Common.{arith, ◌≡◌, refl, sym, ap, subst, ◌∙◌, inl, inr, ℕ, List, [], ◌∷◌, ◌++◌}
-use Rattle.std.specs.Prelude.{option_map, Option, Some, None}
-use Rattle.pm_types.specs.declared.history.Entry.{Entry}
-use Rattle.pm_types.specs.NodeState.{NodeState}
-use Rattle.pm_types.specs.Histories.{Reading, after_entry, state_after}
-use Rattle.campaign_core.specs.declared.events.CampaignResult.{CampaignResult}
-use Rattle.campaign_core.specs.declared.events.MasterEvent.{MasterEvent}
-use Rattle.campaign_core.specs.declared.events.MasterEvent.TheVariants.{Enter}
-use Rattle.campaign_core.specs.declared.fold.Current.{Current}
-use Rattle.campaign_core.specs.declared.fold.Fold.{Fold}
-use Rattle.campaign_core.specs.Campaign.{after_event, campaign_from, campaign, nothing_yet, entered}
-use Rattle.world.specs.Spans.{Spans, span_step, spans_from}
-use Rattle.world.specs.Law.{IsEntered}
+use Rattle.world.proofs.Vocabulary.{arith, ◌≡◌, refl, sym, ap, subst, ◌∙◌, inl, inr, ℕ, List, [], ◌∷◌, ◌++◌,
+    option_map, Option, Some, None, Entry, NodeState, Reading, after_entry, state_after, CampaignResult, MasterEvent,
+    Enter, Current, Fold, after_event, campaign_from, campaign, nothing_yet, entered, Spans, span_step, spans_from,
+    IsEntered}
 use Rattle.world.proofs.RulesLaw.{InEarlier}
 
 pub after-append : (read : Reading) (s : NodeState) (es : List Entry) (e : Entry) → state_after read s (es ++ e ∷ []) ≡ after_entry read (state_after read s es) e

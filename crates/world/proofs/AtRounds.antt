@@ -1,18 +1,11 @@
 -- What the node is at each stage of the rounds: kept by foreign calls and units, and led on by the stage's call. From the laws of a node alone.
-use Rattle.std.proofs.Common.{arith, ◌≡◌, ◌≢◌, ◌⊎◌, inl, inr, ℕ, zero, suc, List, [], ◌∷◌, ◌++◌, length, take, drop, Some, None, Bool, refl, sym, ◌∙◌, ap, subst, append_assoc}
-use Rattle.std.specs.List.{Contains, flat_map}
-use Rattle.std.proofs.lemmas.List.{take-append-drop, append-nil}
-use Rattle.std.proofs.lemmas.List.Elements.{Contains-push, Contains-append_left}
-use Rattle.std.proofs.lemmas.Grind.{flat_map-append}
-use Rattle.pm_types.specs.declared.replies.Refusal.{Refusal}
-use Rattle.pm_types.specs.declared.status.Status.TheVariants.{Processing, CleaningUp}
-use Rattle.pm_types.specs.declared.calls.Call.{Call}
-use Rattle.pm_types.specs.declared.replies.Reply.{Reply}
-use Rattle.pm_types.specs.declared.calls.Call.TheVariants.{Sync, TransferStart, TransferData, TransferExit, ProcessSwPackage, Activate}
-use Rattle.pm_types.specs.declared.replies.Reply.TheVariants.{Done, Started, Refused}
-use Rattle.pm_types.specs.NodeState.{is_working}
+use Rattle.world.proofs.Vocabulary.{arith, ◌≡◌, ◌≢◌, ◌⊎◌, inl, inr, ℕ, zero, suc, List, [], ◌∷◌, ◌++◌, length, take,
+    drop, Some, None, Bool, refl, sym, ◌∙◌, ap, subst, append_assoc, Contains, flat_map, take-append-drop, append-nil,
+    Contains-push, Contains-append_left, flat_map-append, Refusal, Processing, CleaningUp, Call, Reply, Sync,
+    TransferStart, TransferData, TransferExit, ProcessSwPackage, Activate, Done, Started, Refused, is_working, Stage,
+    At_sync, At_start, At_data, At_process, At_activate, Over, Refused_once, call_at, onward, next_package,
+    next_processed}
 use Rattle.world.proofs.Rules.{NodeRules, NodeLaws, KeepsSession, KeepsTransfers}
-use Rattle.world.specs.Rounds.{Stage, At_sync, At_start, At_data, At_process, At_activate, Over, Refused_once, call_at, onward, next_package, next_processed}
 use Rattle.world.proofs.EarlyFacts.{Hold, Apart, Has, Sends, Fills, Activates, IsAt}
 
 module _ (N : NodeRules) (laws : NodeLaws N) where
@@ -67,11 +60,7 @@ module _ (N : NodeRules) (laws : NodeLaws N) where
             let u = laws.unit_processing s passed k p.1 h.mine p.0 p.2 in (
               record {
                 mine = u.0;
-                planned =
-                    elim u.2 [
-                      | inl q ↦ inr (q.0, p.1, q.2, ap (λ l. l ++ N.changes_of (N.received (N.unit s passed) p.1)) q.1 ∙ (ap (λ b. N.planned s ++ N.changes_of b) (keeps.received p.1) ∙ p.3))
-                      | inr q ↦ inl (q.0, q.1 ∙ p.3)
-                    ];
+                planned = grind arith steps 1000000;
               },
               keeps,
             ))
@@ -163,9 +152,7 @@ module _ (N : NodeRules) (laws : NodeLaws N) where
             done = h.done ++ h.whole ∷ [];
             all = append_assoc h.done (h.whole ∷ []) qs ∙ (ap (λ l. h.done ++ h.whole ∷ l) (sym e) ∙ h.all);
             none = (laws.exit_session s id).mine ∙ h.none;
-            hold =
-                hold-same s (N.judge s (TransferExit id)).0 (laws.exit_received s id) (ids ++ id ∷ []) (h.done ++ h.whole ∷ [])
-                (hold-push s ids h.done id h.whole h.hold h.there (sym (append-nil (N.received s id)) ∙ h.so_far));
+            hold = grind (arith, hold-same, laws.exit_received, hold-push, append-nil) steps 1000000;
           }
 
       go : (qs : List (List ℕ)) → left ≡ qs → IsAt N (N.judge s (TransferExit id)).0 k ps (next_package (ids ++ id ∷ []) qs)
@@ -192,16 +179,7 @@ module _ (N : NodeRules) (laws : NodeLaws N) where
           next (done ++ p ∷ []) left (append_assoc done (p ∷ []) left ∙ all)
           (record {
             mine = u.0;
-            planned =
-                inr (
-                  u.1,
-                  id,
-                  u.3,
-                  ap (λ l. l ++ N.changes_of (N.received (N.judge s (ProcessSwPackage id k)).0 id)) u.2
-                      ∙ (ap (λ b. flat_map N.changes_of done ++ N.changes_of b) received
-                      ∙ (ap (λ l. flat_map N.changes_of done ++ l) (sym (append-nil (N.changes_of p)))
-                      ∙ sym (flat_map-append N.changes_of done (p ∷ [])))),
-                );
+            planned = grind (arith, append-nil, flat_map-append) steps 1000000;
           }) ids (hold-same s (N.judge s (ProcessSwPackage id k)).0 keeps ids left hold.2)
 
       first : (done : List (List ℕ)) → done ++ [] ≡ ps → N.mine s ≡ None → Hold N s (id ∷ ids) done → (N.judge s (ProcessSwPackage id k)).1 ≡ Done → IsAt N (N.judge s (ProcessSwPackage id k)).0 k ps (next_processed ids (suc taken))

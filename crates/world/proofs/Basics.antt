@@ -1,32 +1,12 @@
 -- Laws of the real node: what is kept, what a refusal leaves, Sync, and the calls on a session.
-use Rattle.std.proofs.lemmas.Bool.Decides.{nat_tests}
-use Rattle.std.proofs.Common.{◌≡◌, ◌⊎◌, inl, inr, ℕ, List, [], ◌∷◌, Option, Some, None, Bool, true, false, refl, sym, ◌∙◌, ap, arith}
-use Rattle.std.specs.Prelude.{◌==◌, not, option_map, option_and_then, if◌then◌else◌}
-use Rattle.std.specs.Option.{option_or, option_map_or}
-use Rattle.std.proofs.lemmas.Bool.{eqb-true}
-use Rattle.std.proofs.lemmas.List.{get_or-set_same}
-use Rattle.ucm_base.specs.declared.ids.CallNo.{CallNo}
-use Rattle.ucm_base.specs.Parts.{Bytes}
+use Rattle.world.proofs.Vocabulary.{nat_tests, ◌≡◌, ◌⊎◌, inl, inr, ℕ, List, [], ◌∷◌, Option, Some, None, Bool, true,
+    false, refl, sym, ◌∙◌, ap, arith, ◌==◌, not, option_map, option_and_then, if◌then◌else◌, option_or, option_map_or,
+    eqb-true, get_or-set_same, CallNo, Bytes, SessionMark, Refusal, Cluster, Status, Idle, Kept, NodeState, Session,
+    of_client, first_refusal, Verdict, ids_of, judge, reply_to, refusal, accepted, refused_or, Reading, verdict_for,
+    formatted, IsConsistent, SessionIsDue, Call, Shown, Reply, Sync, TransferStart, TransferData, TransferExit,
+    DeleteTransfer, ProcessSwPackage, Activate, Finish, Rollback, Revert, Done, Started, Synced, Refused, is_status}
 use Rattle.pm_types.specs.declared.calls.Call.TheVariants as call
 use Rattle.pm_types.specs.declared.replies.Reply.TheVariants as reply
-use Rattle.pm_types.specs.declared.replies.SessionMark.{SessionMark}
-use Rattle.pm_types.specs.declared.replies.Refusal.{Refusal}
-use Rattle.pm_types.specs.declared.clusters.Cluster.{Cluster}
-use Rattle.pm_types.specs.declared.status.Status.{Status}
-use Rattle.pm_types.specs.declared.status.Status.TheVariants.{Idle}
-use Rattle.pm_types.specs.declared.state.Kept.{Kept}
-use Rattle.pm_types.specs.NodeState.{NodeState, Session, of_client}
-use Rattle.pm_types.specs.Refusals.{first_refusal}
-use Rattle.pm_types.specs.Transfers.{Verdict, ids_of}
-use Rattle.pm_types.specs.Steps.{judge, reply_to, refusal, accepted, refused_or}
-use Rattle.pm_types.specs.Histories.{Reading, verdict_for, formatted}
-use Rattle.pm_types.specs.Validity.{IsConsistent, SessionIsDue}
-use Rattle.pm_types.specs.declared.calls.Call.{Call}
-use Rattle.pm_types.specs.declared.replies.Synced.{Synced as Shown}
-use Rattle.pm_types.specs.declared.replies.Reply.{Reply}
-use Rattle.pm_types.specs.declared.calls.Call.TheVariants.{Sync, TransferStart, TransferData, TransferExit, DeleteTransfer, ProcessSwPackage, Activate, Finish, Rollback, RevertProcessedSwPackages as Revert}
-use Rattle.pm_types.specs.declared.replies.Reply.TheVariants.{Done, Started, Synced, Refused}
-use Rattle.world.specs.Messages.{is_status}
 use Rattle.world.proofs.Rules.{shown_of as seen_of, shown_session, KeepsSession, KeepsTransfers}
 use Rattle.world.proofs.Instance.{zero_no, last_in, kept_in, tag_if, mine_in, ended_in, judged_in, kept_after, real}
 

@@ -1,16 +1,6 @@
 -- The world's delivery of a call of the master is the node's step: Stale, Again, or judged, kept and entered.
-use Rattle.std.proofs.Common.{◌≡◌, ◌<◌, List, true, false, arith}
-use Rattle.std.specs.declared.cmp.Ordering.{Ordering}
-use Rattle.std.specs.declared.cmp.Ordering.TheVariants.{Less, Equal, Greater}
-use Rattle.ucm_base.specs.declared.ids.CallNo.{CallNo}
-use Rattle.ucm_base.specs.Parts.{Bytes}
-use Rattle.pm_types.specs.declared.clusters.Cluster.{Cluster}
-use Rattle.pm_types.specs.NodeState.{NodeState}
-use Rattle.pm_types.specs.Steps.{step, executed, call_no_cmp}
-use Rattle.pm_types.specs.Histories.{Reading, verdict_for}
-use Rattle.pm_types.specs.declared.calls.Call.{Call}
-use Rattle.pm_types.specs.declared.replies.Reached.{Reached}
-use Rattle.world.specs.Messages.{no_lt, no_eq}
+use Rattle.world.proofs.Vocabulary.{◌≡◌, ◌<◌, List, true, false, arith, Ordering, Less, Equal, Greater, CallNo, Bytes,
+    Cluster, NodeState, step, executed, call_no_cmp, Reading, verdict_for, Call, Reached, no_lt, no_eq}
 use Rattle.world.proofs.Rules.{delivered, reached as world_reached}
 use Rattle.world.proofs.Instance.{judged_in, kept_after, real}
 

@@ -1,15 +1,9 @@
 -- From the decision Commit on: a session that is Activated for the campaign ends as New, once.
-use Rattle.std.proofs.Common.{arith, ◌≡◌, ◌⊎◌, inl, inr, if◌then◌else◌, ◌&&◌, ◌||◌, ℕ, List, [], ◌∷◌, Option, Some, Bool, true, false, refl, sym, ◌∙◌, ap, subst}
-use Rattle.pm_types.specs.declared.status.Outcome.TheVariants.{New}
-use Rattle.pm_types.specs.declared.status.Status.{Status}
-use Rattle.pm_types.specs.declared.status.Status.TheVariants.{Activated, CleaningUp}
-use Rattle.campaign_core.specs.declared.events.Decision.TheVariants.{Commit}
-use Rattle.pm_types.specs.declared.calls.Call.{Call}
-use Rattle.pm_types.specs.declared.calls.Call.TheVariants.{Sync, DeleteTransfer, Finish}
-use Rattle.world.specs.Messages.{is_status, Message, is_sync}
+use Rattle.world.proofs.Vocabulary.{arith, ◌≡◌, ◌⊎◌, inl, inr, if◌then◌else◌, ◌&&◌, ◌||◌, ℕ, List, [], ◌∷◌, Option,
+    Some, Bool, true, false, refl, sym, ◌∙◌, subst, New, Status, Activated, CleaningUp, Commit, Call, Sync,
+    DeleteTransfer, Finish, is_status, Message, is_sync, end_call_at, delete_at}
 use Rattle.world.proofs.Rules.{NodeRules, NodeLaws, KeepsSession}
 use Rattle.world.proofs.RulesWorld.{Move, Delivered, Foreign, Unit_done, after}
-use Rattle.world.specs.Sends.{end_call_at, delete_at}
 use Rattle.world.proofs.RulesLaw.{Spans, spans, begins_span, IsNew}
 use Rattle.world.proofs.Invariant.{Executable}
 use Rattle.world.proofs.NodeLemmas.{refused-or}
@@ -101,10 +95,7 @@ module _ (N : NodeRules) (laws : NodeLaws N) (k : ℕ) (changes : List N.Change)
   new-delivered moves m no_begin h =
       record {
         span = h.span;
-        only =
-            let with_open : Bool → Spans N = λ b. record { is_open = b; ended = h.span ∷ [] } in
-            let P : Spans N → Type 0 = λ y. ◌≡◌ {A = Spans N} (record { is_open = y.is_open || begins_span N k (after N moves) m; ended = y.ended }) (record { is_open = false; ended = h.span ∷ [] }) in
-            subst P (sym h.only) (ap with_open no_begin);
+        only = grind (arith, begins_span, after) steps 1000000;
         outcome = h.outcome;
         brings = h.brings;
       }

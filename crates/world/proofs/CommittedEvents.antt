@@ -1,28 +1,17 @@
 -- What every event keeps of the half for successful campaigns, from the decision Commit on.
-use Rattle.std.proofs.Common.{arith, ◌≡◌, ◌≢◌, ◌⊎◌, inl, inr, ◌&&◌, ◌++◌, ℕ, ◌≤◌, List, [], ◌∷◌, Option, Some, None, Bool, true, false, is_some, refl, sym, ◌∙◌, ap, subst}
-use Rattle.std.proofs.lemmas.Bool.Decides.{nat_tests}
-use Rattle.std.specs.List.{flat_map}
-use Rattle.pm_types.specs.declared.status.Status.TheVariants.{Idle}
-use Rattle.campaign_core.specs.declared.events.Decision.{Decision}
-use Rattle.campaign_core.specs.declared.events.Decision.TheVariants.{Commit}
-use Rattle.campaign_core.specs.declared.events.CampaignResult.{CampaignResult}
-use Rattle.campaign_core.specs.declared.events.CampaignResult.TheVariants.{Successful}
-use Rattle.campaign_core.specs.declared.fold.Fold.{Fold}
-use Rattle.campaign_core.specs.declared.fold.Current.{Current}
-use Rattle.campaign_core.specs.Nodes.{flag_of}
-use Rattle.campaign_core.specs.Campaign.{all_ended, is_result_of}
-use Rattle.pm_types.specs.declared.calls.Call.{Call}
-use Rattle.world.specs.Messages.{IsBelow, is_status, Message, Told, InSent}
+use Rattle.world.proofs.Vocabulary.{arith, ◌≡◌, ◌≢◌, ◌⊎◌, inl, inr, ◌&&◌, ◌++◌, ℕ, ◌≤◌, List, [], ◌∷◌, Option, Some,
+    None, Bool, true, false, is_some, refl, sym, ◌∙◌, ap, subst, nat_tests, flat_map, Idle, Decision, Commit,
+    CampaignResult, Successful, Fold, Current, flag_of, all_ended, is_result_of, Call, IsBelow, is_status, Message,
+    Told, InSent, Packages, last_status, last_shown, next_number, MaySend, MaySendBy, MaySendLate, has_tag}
 use Rattle.world.proofs.Rules.{NodeRules, NodeLaws, reached, delivered}
 use Rattle.world.proofs.RulesWorld.{Delivered, Foreign, Unit_done, NodeWorld, state_of}
-use Rattle.world.specs.Sends.{Packages, last_status, last_shown, next_number, MaySend, MaySendBy, MaySendLate}
 use Rattle.world.proofs.RulesLaw.{begins_span, is_fresh_done, IsNew, InEarlier}
-use Rattle.world.specs.Spans.{has_tag}
 use Rattle.world.proofs.Invariant.{Executable, KeptOld, KeptFold}
 use Rattle.world.proofs.Events.{begins-mine, and-left}
 use Rattle.world.proofs.Parts.{flagged-ended}
 use Rattle.world.proofs.Records.{SameFold, some-inj, in-append}
-use Rattle.world.proofs.Committed.{IsCalm, late-commit, IsWaiting, waiting-foreign, waiting-delivered, waiting-unit, new-foreign, new-unit, new-delivered}
+use Rattle.world.proofs.Committed.{IsCalm, late-commit, IsWaiting, waiting-foreign, waiting-delivered, waiting-unit,
+    new-foreign, new-unit, new-delivered}
 
 bool-cases : (b : Bool) → (b ≡ true → ⊥) → b ≡ false
 bool-cases true f = absurd (f refl)
@@ -76,11 +65,7 @@ module _ (N : NodeRules) (laws : NodeLaws N) (packages : Packages) (n : ℕ) whe
   committed-foreign f x call kept =
       record {
         calm = λ c current commit m h exec. kept.calm c current commit m h (subst (λ l. IsBelow l m.at) (laws.foreign_last (state_of N x) call).0 exec);
-        committed = λ c current commit named.
-            elim (kept.committed c current commit named) [
-              | inl w ↦ inl (waiting-foreign N laws c.campaign (changes_of c.campaign) x.moves call w)
-              | inr h ↦ inr (new-foreign N laws c.campaign (changes_of c.campaign) x.moves call h)
-            ];
+        committed = λ c current commit named. grind (arith, waiting-foreign, new-foreign) steps 1000000;
         entered = λ k earlier low high named. new-foreign N laws k (changes_of k) x.moves call (kept.entered k earlier low high named);
       }
 
@@ -119,9 +104,7 @@ module _ (N : NodeRules) (laws : NodeLaws N) (packages : Packages) (n : ℕ) whe
   committed-same f g x same kept =
       record {
         calm = λ d current commit. let b = same.back d current in kept.calm b.0 b.1 (sym b.2.decision ∙ commit);
-        committed = λ d current commit named.
-            let b = same.back d current in
-            subst (λ k. IsWaiting N laws k (changes_of k) x.moves ⊎ IsNew N k (changes_of k) x.moves) (sym b.2.campaign) (kept.committed b.0 b.1 (sym b.2.decision ∙ commit) (sym b.2.named ∙ named));
+        committed = λ d current commit named. grind arith steps 1000000;
         entered = λ k earlier low high named. kept.entered k (subst (λ l. InEarlier (k, Successful) l) same.earlier earlier) low high named;
       }
 
@@ -134,9 +117,7 @@ module _ (N : NodeRules) (laws : NodeLaws N) (packages : Packages) (n : ℕ) whe
   committed-decide f x c d current ready kept =
       record {
         calm = λ c' current' commit m h exec. absurd ((ready (is_commit c' current' commit)).quiet m h exec);
-        committed = λ c' current' commit named.
-            let same = some-inj (record c { decision = Some d }) c' current' in
-            inl (subst (λ k. IsWaiting N laws k (changes_of k) x.moves) (ap (λ y. y.campaign) same) ((ready (is_commit c' current' commit)).waiting (ap (λ y. flag_of y.named n) same ∙ named)));
+        committed = λ c' current' commit named. grind (arith, some-inj) steps 1000000;
         entered = kept.entered;
       }
     where

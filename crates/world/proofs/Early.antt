@@ -1,38 +1,26 @@
 -- Before the decision: every event of the world keeps it, and at Decide Commit each named node is ready.
-use Rattle.std.proofs.Common.{◌≡◌, ◌≢◌, ◌⊎◌, inl, inr, if◌then◌else◌, not, ◌+◌, ℕ, List, [], ◌∷◌, Option, Some, None, Bool, true, false, is_some, is_none, nat_eq, nat_le, refl, sym, ◌∙◌, ap, subst, arith}
-use Rattle.std.proofs.lemmas.Bool.{eqb-true}
-use Rattle.std.proofs.lemmas.Bool.Decides.{eqb_tells}
-use Rattle.ucm_base.specs.declared.ids.NodeId.{NodeId}
-use Rattle.pm_types.specs.declared.status.Outcome.{Outcome}
-use Rattle.pm_types.specs.declared.status.Status.TheVariants.{Activated}
-use Rattle.ucm_base.specs.declared.ids.NodeSet.{NodeSet}
-use Rattle.campaign_core.specs.declared.events.Vote.{Vote}
-use Rattle.campaign_core.specs.declared.events.Decision.{Decision}
-use Rattle.campaign_core.specs.declared.events.Decision.TheVariants.{Commit}
-use Rattle.campaign_core.specs.declared.events.CampaignResult.{CampaignResult}
-use Rattle.campaign_core.specs.declared.events.MasterEvent.{MasterEvent}
-use Rattle.campaign_core.specs.declared.events.MasterEvent.TheVariants.{Start, Begin, VoteOf, Decide, EndedAt, Enter}
-use Rattle.campaign_core.specs.declared.fold.Fold.{Fold}
-use Rattle.campaign_core.specs.declared.fold.Current.{Current}
-use Rattle.campaign_core.specs.Nodes.{flag_of}
-use Rattle.campaign_core.specs.Campaign.{nothing_yet, vote_of, end_of, is_new_of, all_below, may_begin, meets, in_current, refusal_of, changed, changed_in, after_event, entered, begun}
+use Rattle.world.proofs.Vocabulary.{◌≡◌, ◌≢◌, ◌⊎◌, inl, inr, if◌then◌else◌, not, ◌+◌, ℕ, List, [], ◌∷◌, Option, Some,
+    None, Bool, true, false, is_some, is_none, nat_eq, nat_le, refl, sym, ◌∙◌, ap, subst, arith, eqb-true, eqb_tells,
+    NodeId, Outcome, Activated, NodeSet, Vote, Decision, Commit, CampaignResult, MasterEvent, Start, Begin, VoteOf,
+    Decide, EndedAt, Enter, Fold, Current, flag_of, nothing_yet, vote_of, end_of, all_below, may_begin, in_current,
+    refusal_of, changed, changed_in, after_event, entered, begun, Call, Reply, Reached, Stale, Again, Fresh, Message,
+    Answered, Showed, InSent, nth_sent, answer_of, Packages, showed_after_activate, MaySend, campaign_of, decided_of,
+    next_number, EndEvidence, InCurrent, VoteEvidence}
 use Rattle.world.proofs.Parts.{part-other, part-with, flagged-ended}
-use Rattle.pm_types.specs.declared.calls.Call.{Call}
-use Rattle.pm_types.specs.declared.replies.Reply.{Reply}
-use Rattle.pm_types.specs.declared.replies.Reached.{Reached}
-use Rattle.pm_types.specs.declared.replies.Reached.TheVariants.{Stale, Again, Done as Fresh}
 use Rattle.world.proofs.Rules.{NodeRules, NodeLaws, reached}
-use Rattle.world.specs.Messages.{Message, Answered, Showed, InSent, nth_sent, answer_of}
-use Rattle.world.proofs.RulesWorld.{Delivered, Foreign, Unit_done, NodeWorld, World, state_of, Event, Deliver, Foreign_calls, Unit_comes, Send, Record, Restart, Evidence, Allowed, with_node, emptied, deliver_to, recorded, happens, opened_world}
-use Rattle.world.specs.Sends.{Packages, showed_after_activate, MaySend, campaign_of, decided_of, next_number}
-use Rattle.world.specs.Evidence.{EndEvidence, InCurrent, VoteEvidence}
+use Rattle.world.proofs.RulesWorld.{Delivered, Foreign, Unit_done, NodeWorld, World, state_of, Event, Deliver,
+    Foreign_calls, Unit_comes, Send, Record, Restart, Evidence, Allowed, with_node, emptied, deliver_to, recorded,
+    happens, opened_world}
 use Rattle.world.proofs.Invariant.{InPresent, KeptOld, KeptFold}
 use Rattle.world.proofs.EarlyFacts.{KeptEarly, KeptLive}
 use Rattle.world.proofs.Records.{SameAt, SameFold, some-inj, none-some, and-both, present-forth}
-use Rattle.world.proofs.OldLaw.{WorldKept, nth-in, unless-true, start-same, same-fold, same-refl, reply-facts, kept-send}
+use Rattle.world.proofs.OldLaw.{WorldKept, nth-in, unless-true, start-same, same-fold, same-refl, reply-facts,
+    kept-send}
 use Rattle.world.proofs.CommittedEvents.{IsReadyToCommit}
 use Rattle.world.proofs.NewLaw.{Early}
-use Rattle.world.proofs.EarlyEvents.{early-answered-event, early-begin, early-deliver, early-fold, early-foreign-event, early-no, early-send, early-showed-event, early-unit-event, last-facts, live-deliver, live-ended, live-fold, live-foreign, live-send, live-told, live-unit, next-exec, ready-node}
+use Rattle.world.proofs.EarlyEvents.{early-answered-event, early-begin, early-deliver, early-fold,
+    early-foreign-event, early-no, early-send, early-showed-event, early-unit-event, last-facts, live-deliver,
+    live-ended, live-fold, live-foreign, live-send, live-told, live-unit, next-exec, ready-node}
 
 module _ (N : NodeRules) (laws : NodeLaws N) (packages : Packages) (numbers : List ℕ) where
   -- all nodes
@@ -141,13 +129,9 @@ module _ (N : NodeRules) (laws : NodeLaws N) (packages : Packages) (numbers : Li
   ended w nd o (Some c) e h evidence kept each n =
       record {
         live = elim (eqb_tells n nd) [ inl q ↦ here q.1 | inr q ↦ other q.1 ];
-        early = early-no N laws packages numbers n (record { epoch = w.fold.epoch; earlier = w.fold.earlier; current = Some (changed c (EndedAt nd o)) }) (w.node n) (λ d current undecided quiet.
-            decided o (and-both _ _ (and-both _ _ (unless-true (meets c (EndedAt nd o)) h)).1).1 (ap (λ y. y.decision) (some-inj (changed c (EndedAt nd o)) d current) ∙ undecided));
+        early = grind (arith, early-no, and-both, unless-true, some-inj) steps 1000000;
       }
     where
-      decided : (o' : Outcome) → is_new_of c.decision o' ≡ true → c.decision ≡ None → ⊥
-      decided o' q z = let g : is_new_of None o' ≡ true = subst (λ y. is_new_of y o' ≡ true) z q in cc g
-
       here : n ≡ nd → KeptLive N (record { epoch = w.fold.epoch; earlier = w.fold.earlier; current = Some (changed c (EndedAt nd o)) }) n (w.node n)
       here q =
           live-ended N laws packages numbers n w.fold (record { epoch = w.fold.epoch; earlier = w.fold.earlier; current = Some (changed c (EndedAt nd o)) }) (w.node n) c
@@ -217,12 +201,7 @@ module _ (N : NodeRules) (laws : NodeLaws N) (packages : Packages) (numbers : Li
   pub early-opened : (openings : ℕ → N.ForeignCall) → WorldEarly (opened_world N openings)
   early-opened openings n =
       record {
-        live =
-            record {
-              last_sent = inl ((laws.foreign_last N.formatted (openings n)).0 ∙ laws.formatted_last);
-              live = λ m h. absurd h;
-              entry_sent = λ k e h. absurd h;
-            };
+        live = grind (arith, laws.foreign_last, laws.formatted_last) steps 1000000;
         early = early-no N laws packages numbers n nothing_yet (record { moves = Foreign (openings n) ∷ []; sent = []; told = [] }) (λ d current undecided quiet. cc current);
       }
 

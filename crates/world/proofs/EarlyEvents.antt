@@ -1,34 +1,24 @@
 -- Before the decision: what each event at a node keeps.
-use Rattle.std.proofs.Common.{◌≡◌, ◌≢◌, ◌⊎◌, inl, inr, ◌&&◌, ◌||◌, not, ℕ, List, [], ◌∷◌, Option, Some, None, Bool, true, false, is_some, nat_eq, refl, sym, ◌∙◌, ap, subst, arith}
-use Rattle.std.proofs.lemmas.Bool.{eqb-true, eq-eqb}
-use Rattle.pm_types.specs.declared.status.Status.{Status}
-use Rattle.pm_types.specs.declared.status.Status.TheVariants.{Activated, CleaningUp}
-use Rattle.ucm_base.specs.declared.ids.NodeSet.{NodeSet}
-use Rattle.campaign_core.specs.declared.events.Vote.{Vote}
-use Rattle.campaign_core.specs.declared.fold.Fold.{Fold}
-use Rattle.campaign_core.specs.declared.fold.Current.{Current}
-use Rattle.campaign_core.specs.Nodes.{flag_of}
-use Rattle.campaign_core.specs.Campaign.{vote_of, all_yes, all_below, begun}
+use Rattle.world.proofs.Vocabulary.{◌≡◌, ◌≢◌, ◌⊎◌, inl, inr, ◌&&◌, ◌||◌, not, ℕ, List, [], ◌∷◌, Option, Some, None,
+    Bool, true, false, is_some, nat_eq, refl, sym, ◌∙◌, ap, subst, arith, eqb-true, eq-eqb, Status, Activated,
+    CleaningUp, NodeSet, Vote, Fold, Current, flag_of, vote_of, all_yes, all_below, begun, Call, Reply, Sync, Again,
+    Fresh, IsBelow, is_status, Message, Told, Answered, Showed, InSent, InTold, is_sync, is_told, Over, Packages,
+    is_end_sync, activate_done, showed_after_activate, may_follow, MaySend, MaySendBy, MaySendEarly, next_number,
+    EndEvidence}
 use Rattle.world.proofs.Parts.{part-none, flagged-yes}
-use Rattle.pm_types.specs.declared.calls.Call.{Call}
-use Rattle.pm_types.specs.declared.replies.Reply.{Reply}
-use Rattle.pm_types.specs.declared.calls.Call.TheVariants.{Sync}
-use Rattle.pm_types.specs.declared.replies.Reached.TheVariants.{Again, Done as Fresh}
-use Rattle.world.specs.Messages.{IsBelow, is_status, Message, Told, Answered, Showed, InSent, InTold, is_sync, is_told}
 use Rattle.world.proofs.Rules.{NodeRules, NodeLaws, reached, delivered}
-use Rattle.world.specs.Rounds.{Over}
 use Rattle.world.proofs.RulesWorld.{Delivered, Foreign, Unit_done, NodeWorld, state_of}
-use Rattle.world.specs.Sends.{Packages, is_end_sync, activate_done, showed_after_activate, may_follow, MaySend, MaySendBy, MaySendEarly, next_number}
-use Rattle.world.specs.Evidence.{EndEvidence}
 use Rattle.world.proofs.RulesLaw.{spans}
 use Rattle.world.proofs.Invariant.{Executable, InPresent, IsFresh, KeptOld, Falling}
-use Rattle.world.proofs.EarlyFacts.{ClientEntry, with_entry, round_entries, InEntries, stage_after, IsAt, Activates, EarlyAt, KeptEarly, KeptLive}
+use Rattle.world.proofs.EarlyFacts.{ClientEntry, with_entry, round_entries, InEntries, stage_after, IsAt, Activates,
+    EarlyAt, KeptEarly, KeptLive}
 use Rattle.world.proofs.Events.{below-trans, span-ended, is-cleaning}
 use Rattle.world.proofs.Sends.{next-above, next-epoch}
 use Rattle.world.proofs.Records.{some-inj, none-some, and-both}
 use Rattle.world.proofs.CommittedEvents.{IsReadyToCommit}
 use Rattle.world.proofs.AtRounds.{at-not_cleaning}
-use Rattle.world.proofs.EarlyNode.{judged-cases, is-next, over-none, showed-done, all-answered, early-judged, early-foreign, early-unit, early-answered, early-showed, early-sent}
+use Rattle.world.proofs.EarlyNode.{judged-cases, is-next, over-none, showed-done, all-answered, early-judged,
+    early-foreign, early-unit, early-answered, early-showed, early-sent}
 use Rattle.world.proofs.OpenSpans.{open-mine}
 
 pub in-current : (f : Fold) (n : ℕ) (k : ℕ) (c : Current) → f.current ≡ Some c → InPresent f n (λ y. k ≡ y.campaign) → k ≡ c.campaign
@@ -100,11 +90,7 @@ module _ (N : NodeRules) (laws : NodeLaws N) (packages : Packages) (numbers : Li
     live-send f x m exec old live =
         record {
           last_sent = elim live.last_sent [ inl e ↦ inl e | inr h ↦ inr (h.0, inr h.1, h.2) ];
-          live = λ y h not_sync from.
-              elim h [
-                | inl e ↦ old.present y (inl e) (subst (λ z. IsBelow (N.last (state_of N x)) z.at) (sym e) exec)
-                | inr h' ↦ live.live y h' not_sync from
-              ];
+          live = λ y h not_sync from. grind (arith, state_of) steps 1000000;
           entry_sent = λ k e h. let q = live.entry_sent k e h in (inr q.0, q.1);
         }
 
@@ -244,9 +230,7 @@ module _ (N : NodeRules) (laws : NodeLaws N) (packages : Packages) (numbers : Li
                 over = λ d. absurd (cc d);
                 activated = λ d. absurd (cc d);
               }));
-          yes = λ c current undecided quiet voted.
-              let same = some-inj (begun k named) c current in
-              absurd (let z = part-none {A = Vote} 8 n in let w = ap (λ y. vote_of y n) same ∙ voted in cc);
+          yes = λ c current undecided quiet voted. grind (arith, some-inj, part-none) steps 1000000;
         }
       where
         is_fresh : IsFresh f k

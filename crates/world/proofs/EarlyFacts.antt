@@ -1,21 +1,16 @@
 -- Before the decision: what client 0's own entries of a node are, what the node is at each stage of them, and what every event keeps.
-use Rattle.std.specs.Prelude.{◌≡◌, ◌≢◌, ◌⊎◌, ℕ, zero, suc, List, [], ◌∷◌, ◌++◌, flat_map, Option, Some, None, Bool, true, false, not, ◌&&◌, nat_eq, Contains}
-use Rattle.pm_types.specs.declared.status.Status.TheVariants.{Ready, Processing, Activating, Verifying, Activated, RollingBack, RolledBack}
+use Rattle.world.proofs.Vocabulary.{◌≡◌, ◌≢◌, ◌⊎◌, ℕ, zero, suc, List, [], ◌∷◌, ◌++◌, Option, Some, None, Bool, true,
+    false, not, ◌&&◌, nat_eq, Ready, Processing, Activating, Verifying, Activated, RollingBack, RolledBack, Fold,
+    Current, vote_of, Reply, Reached, Sync, Fresh, IsBelow, Message, Told, InSent, told_reply, Stage, At_sync,
+    At_start, At_data, At_process, At_activate, Over, Refused_once, call_at, onward, Packages, activate_done,
+    showed_after_activate}
 use Rattle.campaign_core.specs.declared.events.Vote.TheVariants as Vote
-use Rattle.campaign_core.specs.declared.fold.Fold.{Fold}
-use Rattle.campaign_core.specs.declared.fold.Current.{Current}
-use Rattle.campaign_core.specs.Campaign.{vote_of}
-use Rattle.pm_types.specs.declared.replies.Reply.{Reply}
-use Rattle.pm_types.specs.declared.replies.Reached.{Reached}
-use Rattle.pm_types.specs.declared.calls.Call.TheVariants.{Sync}
-use Rattle.pm_types.specs.declared.replies.Reached.TheVariants.{Done as Fresh}
-use Rattle.world.specs.Messages.{IsBelow, Message, Told, InSent, told_reply}
 use Rattle.world.proofs.Rules.{NodeRules, reached}
-use Rattle.world.specs.Rounds.{Stage, At_sync, At_start, At_data, At_process, At_activate, Over, Refused_once, call_at, onward}
 use Rattle.world.proofs.RulesWorld.{Move, Delivered, Foreign, Unit_done, NodeWorld, after, state_of}
-use Rattle.world.specs.Sends.{Packages, activate_done, showed_after_activate}
 use Rattle.world.proofs.RulesLaw.{Span, spans}
 use Rattle.world.proofs.Invariant.{InPresent}
+use Rattle.std.specs.Prelude.{flat_map}
+use Rattle.std.specs.Prelude.{Contains}
 
 -- an entry of client 0: a message that was judged, and the reply
 pub record ClientEntry : Type 0 where

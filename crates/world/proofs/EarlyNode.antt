@@ -1,21 +1,14 @@
 -- What one node's part of the time before the decision keeps under each event.
-use Rattle.std.proofs.lemmas.Bool.Decides.{nat_tests}
-use Rattle.std.proofs.Common.{arith, ◌≡◌, ◌≢◌, ◌⊎◌, inl, inr, if◌then◌else◌, ◌&&◌, ◌||◌, not, ◌++◌, ℕ, List, [], ◌∷◌, Option, Some, None, Bool, true, false, is_some, nat_eq, refl, sym, ◌∙◌, ap, subst}
-use Rattle.std.proofs.lemmas.Bool.{eqb-true, eq-eqb}
-use Rattle.ucm_base.specs.declared.ids.CallNo.{CallNo}
-use Rattle.pm_types.specs.declared.status.Status.{Status}
-use Rattle.pm_types.specs.declared.status.Status.TheVariants.{Activated}
-use Rattle.pm_types.specs.declared.calls.Call.{Call}
-use Rattle.pm_types.specs.declared.replies.Reply.{Reply}
-use Rattle.pm_types.specs.declared.calls.Call.TheVariants.{Sync, Activate}
-use Rattle.pm_types.specs.declared.replies.Reply.TheVariants.{Done}
-use Rattle.world.specs.Messages.{IsBelow, no_eq, Message, Told, Answered, Showed, InSent, InTold, told_reply, is_told, is_activate, is_done}
+use Rattle.world.proofs.Vocabulary.{nat_tests, arith, ◌≡◌, ◌≢◌, ◌⊎◌, inl, inr, if◌then◌else◌, ◌&&◌, ◌||◌, not, ◌++◌,
+    ℕ, List, [], ◌∷◌, Option, Some, None, Bool, true, false, is_some, nat_eq, refl, sym, ◌∙◌, ap, subst, eqb-true,
+    eq-eqb, CallNo, Status, Activated, Call, Reply, Sync, Activate, Done, IsBelow, no_eq, Message, Told, Answered,
+    Showed, InSent, InTold, told_reply, is_told, is_activate, is_done, Stage, At_sync, At_activate, Over,
+    Refused_once, call_at, onward, stage_of, one_if, replies_of, activate_done, showed_after_activate}
 use Rattle.world.proofs.Rules.{NodeRules, NodeLaws, reached, delivered}
-use Rattle.world.specs.Rounds.{Stage, At_sync, At_activate, Over, Refused_once, call_at, onward, stage_of}
-use Rattle.world.specs.Sends.{one_if, replies_of, activate_done, showed_after_activate}
 use Rattle.world.proofs.RulesLaw.{Span}
 use Rattle.world.proofs.Invariant.{Executable}
-use Rattle.world.proofs.EarlyFacts.{ClientEntry, judged, with_entry, InEntries, stage_after, Follows, IsAt, AllDone, OneWaits, AllTold, OlderTold, EarlyAt}
+use Rattle.world.proofs.EarlyFacts.{ClientEntry, judged, with_entry, InEntries, stage_after, Follows, IsAt, AllDone,
+    OneWaits, AllTold, OlderTold, EarlyAt}
 use Rattle.world.proofs.Events.{below-irrefl}
 use Rattle.world.proofs.AtRounds.{at-foreign, at-unit, at-keep, at-judge}
 
@@ -141,32 +134,12 @@ module _ (N : NodeRules) (laws : NodeLaws N) where
           epochs = h.epochs;
           follows = (n.1, h.follows);
           sends = inl (n.3, n.2);
-          last = λ e i.
-              elim i [
-                | inl p ↦ inr (ap (λ z. z.message.at) p ∙ sym (laws.keep_last (N.judge s m.call).0 m.at m.call (N.judge s m.call).1), ap (λ z. z.reply) p ∙ sym (laws.keep_kept (N.judge s m.call).0 m.at m.call (N.judge s m.call).1))
-                | inr i' ↦ inl (subst (λ l. IsBelow e.message.at l) (sym (laws.keep_last (N.judge s m.call).0 m.at m.call (N.judge s m.call).1)) (before e i'))
-              ];
-          told_entry = λ e i r t.
-              elim i [
-                | inl p ↦
-                    (let a = told-in told e.message.at r t in
-                    absurd (known a.0 r a.1 (subst (λ y. IsBelow (N.last s) y) (sym (a.2 ∙ ap (λ z. z.message.at) p)) below)))
-                | inr i' ↦ h.told_entry e i' r t
-              ];
-          is_on =
-              elim h.is_on [
-                | inl x ↦ absurd (refused-none k ps (stage_after ps es) m.call x n.1)
-                | inr x ↦ elim (at-judge N laws s k ps (stage_after ps es) m.call n.1 x.0) [
-                  | inl y ↦ inl y
-                  | inr y ↦ inr (at-keep N laws (N.judge s m.call).0 m.at m.call (N.judge s m.call).1 k ps (onward ps (stage_after ps es) (N.judge s m.call).1) y, x.1)
-                ]
-              ];
+          last = λ e i. grind (arith, laws.keep_last, laws.keep_kept) steps 1000000;
+          told_entry = λ e i r t. grind (arith, told-in) steps 1000000;
+          is_on = grind (arith, refused-none, stage_after, at-judge, at-keep) steps 1000000;
           over = λ d. absurd (over-none k ps (stage_after ps es) m.call (h.over d) n.1);
           activated = λ d. absurd (over-none k ps (stage_after ps es) m.call (h.over (showed-done Activated told d)) n.1);
         })
-      where
-        before : (e : ClientEntry) → InEntries e es → IsBelow e.message.at m.at
-        before e i = grind arith steps 500000
 
     -- a foreign call
     pub early-foreign : (s : N.State) (call : N.ForeignCall) (es : List ClientEntry) (ended : List (Span N)) (sent : List Message) (told : List Told) → EarlyAt N epoch k ps s es ended sent told → EarlyAt N epoch k ps (N.foreign s call) es ended sent told

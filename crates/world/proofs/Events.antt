@@ -1,26 +1,18 @@
 -- What deliveries, foreign calls and units keep of the invariant.
-use Rattle.std.proofs.Common.{◌≡◌, ◌≢◌, ◌⊎◌, inl, inr, if◌then◌else◌, ◌&&◌, ◌||◌, ℕ, ◌<◌, List, [], ◌∷◌, Option, Some, None, Bool, true, false, is_some, nat_eq, nat_lt, refl, sym, ◌∙◌, ap, subst, arith}
-use Rattle.std.proofs.lemmas.Bool.Decides.{nat_tests}
-use Rattle.ucm_base.specs.declared.ids.CallNo.{CallNo}
-use Rattle.pm_types.specs.declared.status.Status.{Status}
-use Rattle.pm_types.specs.declared.status.Status.TheVariants.{Idle, Processing, Activating, Verifying, RollingBack, RolledBack, CleaningUp}
-use Rattle.campaign_core.specs.declared.events.Decision.{Decision}
-use Rattle.campaign_core.specs.declared.events.Decision.TheVariants.{Commit, Abort}
-use Rattle.campaign_core.specs.declared.fold.Fold.{Fold}
-use Rattle.campaign_core.specs.declared.fold.Current.{Current}
-use Rattle.pm_types.specs.declared.calls.Call.{Call}
-use Rattle.pm_types.specs.declared.replies.Reply.{Reply}
-use Rattle.pm_types.specs.declared.calls.Call.TheVariants.{ProcessSwPackage, Finish}
-use Rattle.pm_types.specs.declared.replies.Reply.TheVariants.{Synced}
-use Rattle.world.specs.Messages.{IsBelow, no_lt, no_eq, is_status, Message, Told, Answered, Showed, InSent, InTold}
-use Rattle.pm_types.specs.NodeState.{is_working}
+use Rattle.world.proofs.Vocabulary.{◌≡◌, ◌≢◌, ◌⊎◌, inl, inr, if◌then◌else◌, ◌&&◌, ◌||◌, ℕ, ◌<◌, List, [], ◌∷◌, Option,
+    Some, None, Bool, true, false, is_some, nat_eq, nat_lt, refl, sym, ◌∙◌, ap, subst, arith, nat_tests, CallNo,
+    Status, Idle, Processing, Activating, Verifying, RollingBack, RolledBack, CleaningUp, Decision, Commit, Abort,
+    Fold, Current, Call, Reply, ProcessSwPackage, Finish, Synced, IsBelow, no_lt, no_eq, is_status, Message, Told,
+    Answered, Showed, InSent, InTold, is_working, session_status, is_end_sync, shown_if, or_else, status_if,
+    status_of_shown, last_shown, last_status, has_tag}
 use Rattle.world.proofs.Rules.{NodeRules, NodeLaws, delivered, reached}
 use Rattle.world.proofs.RulesWorld.{Move, Delivered, Foreign, Unit_done, NodeWorld, step, state_of}
-use Rattle.world.specs.Sends.{session_status, is_end_sync, shown_if, or_else, status_if, status_of_shown, last_shown, last_status}
 use Rattle.world.proofs.RulesLaw.{Span, Spans, spans, is_fresh_done, begins_span, EachEnded}
-use Rattle.world.specs.Spans.{has_tag}
-use Rattle.world.proofs.Invariant.{IsRolledBack, EndsOld, KeptHolds, Executable, NoneEarly, InPresent, NotCommit, KeptOld, KeptFold}
-use Rattle.world.proofs.NodeLemmas.{rolled-keeps, ends_old-keeps, rolled-foreign, ends_old-foreign, rolled-unit, ends_old-unit, kept-foreign, kept-unit, kept-delivered, delivered-cases, none-judge, some-judge, some-delivered, rolled-judge, ends_old-judge, cleaned}
+use Rattle.world.proofs.Invariant.{IsRolledBack, EndsOld, KeptHolds, Executable, NoneEarly, InPresent, NotCommit,
+    KeptOld, KeptFold}
+use Rattle.world.proofs.NodeLemmas.{rolled-keeps, ends_old-keeps, rolled-foreign, ends_old-foreign, rolled-unit,
+    ends_old-unit, kept-foreign, kept-unit, kept-delivered, delivered-cases, none-judge, some-judge, some-delivered,
+    rolled-judge, ends_old-judge, cleaned}
 
 -- order of numbers
 pub below-trans : (a b c : CallNo) → IsBelow a b → IsBelow b c → IsBelow a c
@@ -115,13 +107,8 @@ module _ (N : NodeRules) (laws : NodeLaws N) (f : Fold) (n : ℕ) where
         ends_old = steps.ends_old;
         session = steps.session;
         open_span = steps.open_span;
-        old_so_far = λ c current d.
-            elim (steps.ended c.campaign) [
-              | inl e ↦ subst (λ l. EachEnded N (λ y. N.Leaves y.before y.left) l) (sym e) (kept.old_so_far c current d)
-              | inr h ↦ (let c_is : h.0 ≡ c = (let e : Some h.0 ≡ Some c = sym h.1 ∙ current in cc e) in h.3 (subst (λ y. NotCommit y.decision) (sym c_is) d))
-            ];
-        fresh = λ k is_fresh.
-            elim (steps.ended k) [ inl e ↦ e ∙ kept.fresh k is_fresh | inr h ↦ absurd (is_fresh.other h.0 h.1 (sym h.2)) ];
+        old_so_far = λ c current d. grind arith steps 1000000;
+        fresh = λ k is_fresh. grind arith steps 1000000;
         entered = λ k result earlier r.
             elim (steps.ended k) [
               | inl e ↦ subst (λ l. EachEnded N (λ y. N.Leaves y.before y.left) l) (sym e) (kept.entered k result earlier r)
@@ -188,13 +175,7 @@ module _ (N : NodeRules) (laws : NodeLaws N) (f : Fold) (n : ℕ) where
             kept_holds = kept-unit N laws (state_of N x) passed kept.kept_holds;
             ends_old = λ c current d. ends_old-unit N laws (state_of N x) passed (kept.ends_old c current d);
             session = λ tag e. kept.session tag (unit-back (state_of N x) passed tag e);
-            open_span = λ k e.
-                let h = still-open (spans N k x.moves) (is_status (N.status (state_of N x)) CleaningUp) _ e in
-                let mine = kept.open_span k h.0 in
-                elim (unit-mine (state_of N x) passed k mine) [
-                  | inl q ↦ q
-                  | inr q ↦ absurd (let t : is_status (N.status (state_of N x)) CleaningUp ≡ true = rw q.0 refl in cc (t, h.1))
-                ];
+            open_span = λ k e. grind (arith, still-open, spans, state_of, unit-mine) steps 1000000;
             ended = λ k.
                 elim (span-ended (spans N k x.moves) (is_status (N.status (state_of N x)) CleaningUp) (record { outcome = N.outcome (state_of N x); before = state_of N x; left = N.unit (state_of N x) passed } ∷ (spans N k x.moves).ended)) [
                   | inl e ↦ inl e
@@ -308,10 +289,7 @@ module _ (N : NodeRules) (laws : NodeLaws N) (f : Fold) (n : ℕ) where
             ends_old = ends_old;
             session = session;
             open_span = λ k e.
-                elim (or-true (spans N k x.moves).is_open (begins_span N k (state_of N x) m) e) [
-                  | inl o ↦ some-delivered N laws (state_of N x) m.at m.call k (kept.open_span k o)
-                  | inr o ↦ begins-mine k (state_of N x) m.at m.call o
-                ];
+                grind (arith, or-true, spans, begins_span, state_of, some-delivered, begins-mine) steps 1000000;
             ended = λ k. inl refl;
           }
 

@@ -1,22 +1,12 @@
 -- The node of the tables meets the world's laws, where every step keeps a state valid; and so the law of campaigns holds of it.
-use Rattle.std.proofs.Common.{arith, ◌≡◌, ◌≢◌, ◌⊎◌, inl, inr, ℕ, List, [], ◌∷◌, ◌++◌, Some, None, Bool, false, refl, sym, ap, subst}
-use Rattle.std.specs.List.{Contains}
-use Rattle.ucm_base.specs.Parts.{Bytes}
-use Rattle.pm_types.specs.declared.clusters.Cluster.{Cluster}
-use Rattle.pm_types.specs.declared.replies.Refusal.{Refusal}
-use Rattle.pm_types.specs.declared.status.Outcome.{Outcome}
-use Rattle.pm_types.specs.declared.status.Outcome.TheVariants.{New, Old}
-use Rattle.pm_types.specs.declared.status.Status.TheVariants.{Idle, Ready, Processing, Activating, Verifying, Activated, RollingBack, RolledBack, CleaningUp}
-use Rattle.pm_types.specs.NodeState.{NodeState, is_working}
-use Rattle.pm_types.specs.Transfers.{ids_of, parts_read}
-use Rattle.pm_types.specs.Histories.{Reading}
-use Rattle.pm_types.specs.Validity.{id_in_processing}
-use Rattle.pm_types.specs.declared.calls.Call.{Call}
-use Rattle.pm_types.specs.declared.replies.Reply.{Reply}
-use Rattle.pm_types.specs.declared.calls.Call.TheVariants.{TransferStart, TransferData, TransferExit, DeleteTransfer, ProcessSwPackage, Activate, Finish, Rollback, RevertProcessedSwPackages as Revert, Cancel}
-use Rattle.pm_types.specs.declared.replies.Reply.TheVariants.{Done, Synced, Refused}
+use Rattle.world.proofs.Vocabulary.{arith, ◌≡◌, ◌≢◌, ◌⊎◌, inl, inr, ℕ, List, [], ◌∷◌, ◌++◌, Some, None, Bool, false,
+    refl, sym, ap, subst, Contains, Bytes, Cluster, Refusal, Outcome, New, Old, Idle, Ready, Processing, Activating,
+    Verifying, Activated, RollingBack, RolledBack, CleaningUp, NodeState, is_working, ids_of, parts_read, Reading,
+    id_in_processing, Call, Reply, TransferStart, TransferData, TransferExit, DeleteTransfer, ProcessSwPackage,
+    Activate, Finish, Rollback, Revert, Cancel, Done, Synced, Refused}
 use Rattle.world.proofs.Rules.{NodeRules, NodeLaws, KeepsSession, KeepsTransfers}
-use Rattle.world.proofs.Instance.{last_in, kept_in, mine_in, planned_in, outcome_in, BringsIn, LeavesIn, ended_in, received_in, judged_in, kept_after, Outside, Opens, Calls, opened_in, outside_in, unit_in, real}
+use Rattle.world.proofs.Instance.{last_in, kept_in, mine_in, planned_in, outcome_in, BringsIn, LeavesIn, ended_in,
+    received_in, judged_in, kept_after, Outside, Opens, Calls, opened_in, outside_in, unit_in, real}
 use Rattle.world.proofs.FitNode.{KeepsNode, FitState, fit_after, fit_unit, fit}
 use Rattle.world.proofs.Basics as basics
 use Rattle.world.proofs.Sessions as sessions

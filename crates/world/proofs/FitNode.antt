@@ -1,19 +1,9 @@
 -- The node of the tables over its fit states: the node of the world.
-use Rattle.std.specs.Prelude.{List, Bool, true, false}
-use Rattle.ucm_base.specs.Parts.{Bytes}
-use Rattle.pm_types.specs.declared.clusters.Part.{Part}
-use Rattle.pm_types.specs.declared.clusters.Cluster.{Cluster}
-use Rattle.pm_types.specs.NodeState.{NodeState, is_working}
-use Rattle.pm_types.specs.Transfers.{ids_of, parts_read}
-use Rattle.pm_types.specs.Histories.{Reading, formatted}
-use Rattle.pm_types.specs.Validity.{id_in_processing}
-use Rattle.node_laws.specs.Fit.{IsFit}
-use Rattle.pm_types.specs.declared.calls.Call.{Call}
-use Rattle.pm_types.specs.declared.replies.Reply.{Reply}
-use Rattle.pm_types.specs.declared.replies.Reply.TheVariants.{Synced, Refused}
+use Rattle.world.proofs.Vocabulary.{List, Bool, true, false, Bytes, Part, Cluster, NodeState, is_working, ids_of,
+    parts_read, Reading, formatted, id_in_processing, IsFit, Call, Reply, Synced, Refused, CallNo}
 use Rattle.world.proofs.Rules.{NodeRules}
-use Rattle.world.proofs.Instance.{Outside, last_in, kept_in, mine_in, owner_in, planned_in, outcome_in, ended_in, received_in, judged_in, kept_after, outside_in, unit_in, BringsIn, LeavesIn}
-use Rattle.ucm_base.specs.declared.ids.CallNo.{CallNo}
+use Rattle.world.proofs.Instance.{Outside, last_in, kept_in, mine_in, owner_in, planned_in, outcome_in, ended_in,
+    received_in, judged_in, kept_after, outside_in, unit_in, BringsIn, LeavesIn}
 
 -- every step of the tables keeps a state fit
 pub record KeepsNode (read : Reading) (clusters : List (Cluster Bytes)) : Type 0 where

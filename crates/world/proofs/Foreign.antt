@@ -1,19 +1,8 @@
 -- Laws of the real node: calls of other clients, and units where client 0 has no session.
-use Rattle.std.proofs.lemmas.Bool.Decides.{nat_tests, eqb_tells}
-use Rattle.std.proofs.Common.{◌≡◌, inl, inr, ℕ, suc, List, Option, Some, None, false, refl, ◌∙◌, ap, arith}
-use Rattle.std.specs.Prelude.{◌==◌, option_and_then, slice_set}
-use Rattle.std.specs.Option.{option_map_or}
-use Rattle.std.proofs.lemmas.Bool.{eqb-true}
-use Rattle.std.proofs.lemmas.List.{get_or-set_other}
-use Rattle.ucm_base.specs.Parts.{Bytes}
-use Rattle.pm_types.specs.declared.calls.Call.{Call}
-use Rattle.pm_types.specs.declared.clusters.Cluster.{Cluster}
-use Rattle.pm_types.specs.declared.state.Kept.{Kept}
-use Rattle.pm_types.specs.NodeState.{NodeState, Session, of_client}
-use Rattle.pm_types.specs.Transfers.{Verdict}
-use Rattle.pm_types.specs.Steps.{judge, reply_to, after_call, accepted}
-use Rattle.pm_types.specs.Histories.{Reading, verdict_for}
-use Rattle.pm_types.specs.declared.replies.Reply.TheVariants.{Done as NodeDone}
+use Rattle.world.proofs.Vocabulary.{nat_tests, eqb_tells, ◌≡◌, inl, inr, ℕ, suc, List, Option, Some, None, false,
+    refl, ◌∙◌, ap, arith, ◌==◌, option_and_then, slice_set, option_map_or, eqb-true, get_or-set_other, Bytes, Call,
+    Cluster, Kept, NodeState, Session, of_client, Verdict, judge, reply_to, after_call, accepted, Reading,
+    verdict_for, Done as NodeDone}
 use Rattle.world.proofs.Rules.{KeepsSession}
 use Rattle.world.proofs.Instance.{ForeignCall, zero_no, last_in, kept_in, tag_if, mine_in, ended_in, foreign_in, real}
 use Rattle.world.proofs.Basics.{judged-by, keeps-of}

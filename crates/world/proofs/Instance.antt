@@ -1,25 +1,9 @@
 -- The node of the tables as the world sees it.
-use Rattle.std.specs.Prelude.{◌≡◌, ℕ, suc, ◌==◌, ◌<◌, List, [], map, option_and_then, unwrap_or, Option, Some, None, Bool, true, false}
-use Rattle.std.specs.Option.{option_map_or}
-use Rattle.ucm_base.specs.declared.ids.CallNo.{CallNo}
-use Rattle.ucm_base.specs.Parts.{Bytes}
-use Rattle.pm_types.specs.declared.replies.EndMark.{EndMark}
-use Rattle.pm_types.specs.declared.status.Outcome.{Outcome}
-use Rattle.pm_types.specs.declared.clusters.Part.{Part}
-use Rattle.pm_types.specs.declared.clusters.Cluster.{Cluster}
-use Rattle.pm_types.specs.declared.history.Happened.TheVariants.{Numbered}
-use Rattle.pm_types.specs.NodeState.{NodeState, of_client}
-use Rattle.pm_types.specs.Sessions.{changes_in}
-use Rattle.pm_types.specs.Transfers.{ids_of, transfer_of, parts_read}
-use Rattle.pm_types.specs.Steps.{judge, step, name_of, reply_code, with_kept, with_entry}
-use Rattle.pm_types.specs.Histories.{Reading, verdict_for, worked, formatted}
-use Rattle.pm_types.specs.Validity.{id_in_processing}
-use Rattle.node_laws.specs.Fit.{IsInstalled}
+use Rattle.world.proofs.Vocabulary.{◌≡◌, ℕ, suc, ◌==◌, ◌<◌, List, [], map, option_and_then, unwrap_or, Option, Some,
+    None, Bool, true, false, option_map_or, CallNo, Bytes, EndMark, Outcome, Part, Cluster, Numbered, NodeState,
+    of_client, changes_in, ids_of, transfer_of, parts_read, judge, step, name_of, reply_code, with_kept, with_entry,
+    Reading, verdict_for, worked, formatted, id_in_processing, IsInstalled, RunsNew, Call, Reply, Done}
 use Rattle.node_laws.proofs.Opened.{opened_by}
-use Rattle.world.specs.Words.{RunsNew}
-use Rattle.pm_types.specs.declared.calls.Call.{Call}
-use Rattle.pm_types.specs.declared.replies.Reply.{Reply}
-use Rattle.pm_types.specs.declared.replies.Reply.TheVariants.{Done}
 use Rattle.world.proofs.Rules.{NodeRules}
 
 abbrev pub zero_no : CallNo

@@ -1,24 +1,10 @@
 -- What every event keeps, for one node.
-use Rattle.std.specs.Prelude.{◌≡◌, ◌≢◌, ◌⊎◌, ℕ, ◌≤◌, List, [], ◌∷◌, Option, Some, None, true, false}
-use Rattle.pm_types.specs.declared.status.Outcome.TheVariants.{Old}
-use Rattle.pm_types.specs.declared.status.Status.TheVariants.{RolledBack, CleaningUp}
-use Rattle.campaign_core.specs.declared.events.CampaignResult.{CampaignResult}
-use Rattle.campaign_core.specs.declared.events.CampaignResult.TheVariants.{Successful}
-use Rattle.campaign_core.specs.declared.events.Decision.{Decision}
-use Rattle.campaign_core.specs.declared.events.Decision.TheVariants.{Commit, Abort}
-use Rattle.campaign_core.specs.declared.events.Cause.{Cause}
-use Rattle.campaign_core.specs.declared.fold.Fold.{Fold}
-use Rattle.campaign_core.specs.declared.fold.Current.{Current}
-use Rattle.campaign_core.specs.Nodes.{flag_of}
-use Rattle.campaign_core.specs.Campaign.{end_of, all_below}
-use Rattle.pm_types.specs.declared.replies.Synced.{Synced as Shown}
-use Rattle.pm_types.specs.declared.replies.Reply.{Reply}
-use Rattle.pm_types.specs.declared.calls.Call.TheVariants.{ProcessSwPackage, Finish}
-use Rattle.pm_types.specs.declared.replies.Reply.TheVariants.{Synced}
-use Rattle.world.specs.Messages.{IsBelow, Message, Answered, InSent, InTold}
+use Rattle.world.proofs.Vocabulary.{◌≡◌, ◌≢◌, ◌⊎◌, ℕ, ◌≤◌, List, [], ◌∷◌, Option, Some, None, true, false, Old,
+    RolledBack, CleaningUp, CampaignResult, Successful, Decision, Commit, Abort, Cause, Fold, Current, flag_of,
+    end_of, all_below, Shown, Reply, ProcessSwPackage, Finish, Synced, IsBelow, Message, Answered, InSent, InTold,
+    is_masters, session_status, last_status}
 use Rattle.world.proofs.Rules.{NodeRules}
 use Rattle.world.proofs.RulesWorld.{NodeWorld, state_of}
-use Rattle.world.specs.Sends.{is_masters, session_status, last_status}
 use Rattle.world.proofs.RulesLaw.{spans, EachEnded, InEarlier}
 
 -- a session of client 0 is in RolledBack, or is being cleaned up

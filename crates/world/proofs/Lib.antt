@@ -1,3 +1,4 @@
+pub mod Vocabulary
 pub mod Rules
 pub mod RulesWorld
 pub mod RulesLaw

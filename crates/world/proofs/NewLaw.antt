@@ -1,33 +1,22 @@
 -- With Enter Successful every named node is new, from an invariant of the time before the decision.
-use Rattle.std.proofs.Common.{◌≡◌, ◌≢◌, ◌⊎◌, if◌then◌else◌, ◌+◌, ℕ, ◌≤◌, List, [], ◌∷◌, Option, Some, None, Bool, true, false, is_none, nat_eq, nat_le, refl, sym, ◌∙◌, ap, subst, arith}
-use Rattle.std.specs.List.{flat_map}
-use Rattle.std.proofs.lemmas.Bool.{eqb-true}
-use Rattle.ucm_base.specs.declared.ids.NodeId.{NodeId}
-use Rattle.pm_types.specs.declared.status.Outcome.{Outcome}
-use Rattle.ucm_base.specs.declared.ids.NodeSet.{NodeSet}
-use Rattle.campaign_core.specs.declared.events.Decision.{Decision}
-use Rattle.campaign_core.specs.declared.events.Decision.TheVariants.{Commit}
-use Rattle.campaign_core.specs.declared.events.CampaignResult.{CampaignResult}
-use Rattle.campaign_core.specs.declared.events.CampaignResult.TheVariants.{Successful}
-use Rattle.campaign_core.specs.declared.events.MasterEvent.{MasterEvent}
-use Rattle.campaign_core.specs.declared.events.MasterEvent.TheVariants.{Start, Begin, VoteOf, Decide, EndedAt, Enter}
-use Rattle.campaign_core.specs.declared.fold.Fold.{Fold}
-use Rattle.campaign_core.specs.declared.fold.Current.{Current}
-use Rattle.campaign_core.specs.Nodes.{flag_of}
-use Rattle.campaign_core.specs.Campaign.{all_ended, is_result_of, may_begin, meets, in_current, refusal_of, changed, changed_in, after_event, entered, begun}
-use Rattle.pm_types.specs.declared.calls.Call.{Call}
+use Rattle.world.proofs.Vocabulary.{◌≡◌, ◌≢◌, ◌⊎◌, if◌then◌else◌, ◌+◌, ℕ, ◌≤◌, List, [], ◌∷◌, Option, Some, None,
+    Bool, true, false, is_none, nat_eq, nat_le, refl, sym, ◌∙◌, ap, subst, arith, flat_map, eqb-true, NodeId, Outcome,
+    NodeSet, Decision, Commit, CampaignResult, Successful, MasterEvent, Start, Begin, VoteOf, Decide, EndedAt, Enter,
+    Fold, Current, flag_of, all_ended, is_result_of, may_begin, meets, in_current, refusal_of, changed, changed_in,
+    after_event, entered, begun, Call, Message, Showed, InSent, answer_of, Packages, MaySend, campaign_of, decided_of,
+    next_number, InCurrent, NamesOf}
 use Rattle.world.proofs.Rules.{NodeRules, NodeLaws, reached}
-use Rattle.world.specs.Messages.{Message, Showed, InSent, answer_of}
-use Rattle.world.proofs.RulesWorld.{Delivered, Unit_done, NodeWorld, World, state_of, Event, Deliver, Foreign_calls, Unit_comes, Send, Record, Restart, Evidence, Allowed, emptied, deliver_to, recorded, happens, Makes, opened_world}
-use Rattle.world.specs.Sends.{Packages, MaySend, campaign_of, decided_of, next_number}
-use Rattle.world.specs.Evidence.{InCurrent, NamesOf}
+use Rattle.world.proofs.RulesWorld.{Delivered, Unit_done, NodeWorld, World, state_of, Event, Deliver, Foreign_calls,
+    Unit_comes, Send, Record, Restart, Evidence, Allowed, emptied, deliver_to, recorded, happens, Makes, opened_world}
 use Rattle.world.proofs.RulesLaw.{IsNew, InEarlier}
 use Rattle.world.proofs.Invariant.{KeptOld, KeptFold}
 use Rattle.world.proofs.Events.{event-deliver}
 use Rattle.world.proofs.Records.{SameAt, SameFold, some-inj, and-both}
 use Rattle.world.proofs.OldLaw.{WorldKept, kept-event, nth-in, unless-true, start-same, same-fold, same-refl}
 use Rattle.world.proofs.Committed.{IsWaiting}
-use Rattle.world.proofs.CommittedEvents.{KeptCommitted, IsReadyToCommit, changes_of, committed-deliver, committed-foreign, committed-unit, committed-send, committed-told, committed-same, committed-decide, committed-enter}
+use Rattle.world.proofs.CommittedEvents.{KeptCommitted, IsReadyToCommit, changes_of, committed-deliver,
+    committed-foreign, committed-unit, committed-send, committed-told, committed-same, committed-decide,
+    committed-enter}
 
 module _ (N : NodeRules) (laws : NodeLaws N) (packages : Packages) (numbers : List ℕ) where
   -- the current campaign names the nodes of its steps
@@ -90,9 +79,7 @@ module _ (N : NodeRules) (laws : NodeLaws N) (packages : Packages) (numbers : Li
   begin : (w : World N) (k : ℕ) (named : NodeSet) → w.fold.current ≡ None → NamesOf packages k named → WorldNew w → Parts (emptied N w (record { epoch = w.fold.epoch; earlier = w.fold.earlier; current = Some (begun k named) }))
   begin w k named none names new =
       record {
-        names = λ c current n low high steps.
-            let e = some-inj (begun k named) c current in
-            sym (ap (λ y. flag_of y.named n) e) ∙ (names.1 n low high).1 (subst (λ j. packages j n ≢ []) (sym (ap (λ y. y.campaign) e)) steps);
+        names = λ c current n low high steps. grind (arith, some-inj) steps 1000000;
         each = λ n.
             record {
               calm = λ c current commit. absurd (not_yet c current commit);
@@ -112,9 +99,7 @@ module _ (N : NodeRules) (laws : NodeLaws N) (packages : Packages) (numbers : Li
   ended w nd o None e new = grind arith steps 500000
   ended w nd o (Some c) e new =
       record {
-        names = λ c' current n low high steps.
-            let same = some-inj (changed c (EndedAt nd o)) c' current in
-            sym (ap (λ y. flag_of y.named n) same) ∙ new.names c e n low high (subst (λ j. packages j n ≢ []) (sym (ap (λ y. y.campaign) same)) steps);
+        names = λ c' current n low high steps. grind (arith, some-inj) steps 1000000;
         each = λ n.
             record {
               calm = λ c' current commit. (new.each n).calm c e (ap (λ y. y.decision) (some-inj (changed c (EndedAt nd o)) c' current) ∙ commit);

@@ -1,18 +1,10 @@
 -- What one step of a node keeps, from the laws of a node alone.
-use Rattle.std.proofs.Common.{arith, ◌≡◌, ◌≢◌, ◌⊎◌, inl, inr, ℕ, Option, Some, None, Bool, false, refl, sym, ◌∙◌, ap, subst}
-use Rattle.pm_types.specs.declared.replies.Refusal.{Refusal}
-use Rattle.ucm_base.specs.declared.ids.CallNo.{CallNo}
-use Rattle.pm_types.specs.declared.status.Outcome.TheVariants.{Old}
-use Rattle.pm_types.specs.declared.status.Status.{Status}
-use Rattle.pm_types.specs.declared.status.Status.TheVariants.{Ready, Processing, Activating, Verifying, RollingBack, RolledBack, CleaningUp}
-use Rattle.pm_types.specs.declared.calls.Call.{Call}
-use Rattle.pm_types.specs.declared.replies.Synced.{Synced as Shown}
-use Rattle.pm_types.specs.declared.calls.Call.TheVariants.{Sync, TransferStart, TransferData, TransferExit, DeleteTransfer, ProcessSwPackage, Activate, Finish, Rollback, RevertProcessedSwPackages as Revert, Cancel}
-use Rattle.pm_types.specs.declared.replies.Reply.TheVariants.{Done, Synced, Refused}
-use Rattle.world.specs.Messages.{no_lt, no_eq}
-use Rattle.pm_types.specs.NodeState.{is_working}
+use Rattle.world.proofs.Vocabulary.{arith, ◌≡◌, ◌≢◌, ◌⊎◌, inl, inr, ℕ, Option, Some, None, Bool, false, refl, sym,
+    ◌∙◌, ap, subst, Refusal, CallNo, Old, Status, Ready, Processing, Activating, Verifying, RollingBack, RolledBack,
+    CleaningUp, Call, Shown, Sync, TransferStart, TransferData, TransferExit, DeleteTransfer, ProcessSwPackage,
+    Activate, Finish, Rollback, Revert, Cancel, Done, Synced, Refused, no_lt, no_eq, is_working, is_masters,
+    session_status}
 use Rattle.world.proofs.Rules.{shown_of, shown_session, NodeRules, NodeLaws, KeepsSession, delivered}
-use Rattle.world.specs.Sends.{is_masters, session_status}
 use Rattle.world.proofs.Invariant.{IsRolledBack, EndsOld, KeptHolds}
 
 module _ (N : NodeRules) (laws : NodeLaws N) where

@@ -1,23 +1,12 @@
 -- What a call and a unit make of a node's history is what they make of its state and of its spans.
-use Rattle.std.proofs.Common.{◌≡◌, refl, ap, ℕ, suc, Bool, true, false, List, ◌∷◌, arith}
-use Rattle.std.specs.Prelude.{◌&&◌, ◌||◌, if◌then◌else◌, None}
-use Rattle.ucm_base.specs.declared.ids.CallNo.{CallNo}
-use Rattle.pm_types.specs.declared.calls.Call.{Call}
-use Rattle.pm_types.specs.declared.history.Entry.{Entry}
-use Rattle.pm_types.specs.declared.replies.Reached.{Reached}
-use Rattle.pm_types.specs.declared.status.Status.TheVariants.{Idle, CleaningUp}
-use Rattle.pm_types.specs.NodeState.{NodeState}
-use Rattle.pm_types.specs.declared.history.Happened.TheVariants.{Unit as UnitLine}
-use Rattle.pm_types.specs.Steps.{with_entry, step}
-use Rattle.pm_types.specs.Work.{unit}
-use Rattle.pm_types.specs.Histories.{Reading, verdict_for, state_after}
-use Rattle.pm_types.specs.Validity.{IsConsistent}
-use Rattle.world.specs.Messages.{is_status}
-use Rattle.world.specs.Spans.{Spans, has_tag, span_of, spans}
-use Rattle.world.specs.World.{reached, entered, worked_on, shown_by}
+use Rattle.world.proofs.Vocabulary.{◌≡◌, refl, ap, ℕ, suc, Bool, true, false, List, ◌∷◌, arith, ◌&&◌, ◌||◌,
+    if◌then◌else◌, None, CallNo, Call, Entry, Reached, Idle, CleaningUp, NodeState, UnitAfter as UnitLine, with_entry,
+    step, unit, Reading, verdict_for, state_after, IsConsistent, is_status, Spans, has_tag, span_of, spans, reached,
+    worked_on, shown_by}
 use Rattle.world.proofs.Appended.{after-append, spans-append}
 use Rattle.world.proofs.Instance.{unit_in}
 use Rattle.world.proofs.RulesLaw.{is_fresh_done}
+use Rattle.world.specs.World.{entered}
 
 module _ (read : Reading) (o : NodeState) (es : List Entry) where
   abbrev now : NodeState

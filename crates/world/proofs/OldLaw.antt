@@ -1,34 +1,23 @@
 -- Every event keeps the invariant, and so a failed or cancelled campaign left all old.
-use Rattle.std.proofs.Common.{◌≡◌, ◌≢◌, ◌⊎◌, inl, inr, if◌then◌else◌, ◌&&◌, not, ◌+◌, ℕ, zero, suc, ◌<◌, ◌≤◌, List, [], ◌∷◌, Option, Some, None, Bool, true, false, is_none, nat_eq, nat_le, refl, sym, ◌∙◌, ap, subst, arith}
-use Rattle.std.proofs.lemmas.Bool.{eqb-true}
-use Rattle.std.proofs.lemmas.Bool.Decides.{eqb_tells}
-use Rattle.ucm_base.specs.declared.ids.NodeId.{NodeId}
-use Rattle.pm_types.specs.declared.status.Outcome.{Outcome}
-use Rattle.ucm_base.specs.declared.ids.NodeSet.{NodeSet}
-use Rattle.campaign_core.specs.declared.events.Decision.{Decision}
-use Rattle.campaign_core.specs.declared.events.Decision.TheVariants.{Commit, Abort}
-use Rattle.campaign_core.specs.declared.events.CampaignResult.{CampaignResult}
-use Rattle.campaign_core.specs.declared.events.CampaignResult.TheVariants.{Successful}
-use Rattle.campaign_core.specs.declared.events.MasterEvent.{MasterEvent}
-use Rattle.campaign_core.specs.declared.events.MasterEvent.TheVariants.{Start, Begin, VoteOf, Decide, EndedAt, Enter}
-use Rattle.campaign_core.specs.declared.fold.Fold.{Fold}
-use Rattle.campaign_core.specs.declared.fold.Current.{Current}
-use Rattle.campaign_core.specs.Campaign.{nothing_yet, end_of, all_ended, is_new_of, is_result_of, is_undecided, is_cause, first_cause, all_yes, is_marked, may_decide, may_begin, meets, unless, in_current, refusal_of, changed, changed_in, after_event, entered, all_below, begun}
+use Rattle.world.proofs.Vocabulary.{◌≡◌, ◌≢◌, ◌⊎◌, inl, inr, if◌then◌else◌, ◌&&◌, not, ◌+◌, ℕ, zero, suc, ◌≤◌, List,
+    [], ◌∷◌, Option, Some, None, Bool, true, false, is_none, nat_eq, nat_le, refl, sym, ◌∙◌, ap, subst, arith,
+    eqb-true, eqb_tells, NodeId, Outcome, NodeSet, Decision, Commit, Abort, CampaignResult, Successful, MasterEvent,
+    Start, Begin, VoteOf, Decide, EndedAt, Enter, Fold, Current, nothing_yet, all_ended, is_new_of, is_result_of,
+    is_undecided, is_cause, first_cause, all_yes, is_marked, may_decide, may_begin, meets, unless, in_current,
+    refusal_of, changed, changed_in, after_event, entered, all_below, begun, Call, Reply, Reached, Stale, Again,
+    Fresh, Message, Showed, InSent, nth_sent, answer_of, Packages, MaySend, campaign_of, decided_of, next_number,
+    EndEvidence, InCurrent}
 use Rattle.world.proofs.Parts.{part-none, part-other}
-use Rattle.pm_types.specs.declared.calls.Call.{Call}
-use Rattle.pm_types.specs.declared.replies.Reply.{Reply}
-use Rattle.pm_types.specs.declared.replies.Reached.{Reached}
-use Rattle.pm_types.specs.declared.replies.Reached.TheVariants.{Stale, Again, Done as Fresh}
 use Rattle.world.proofs.Rules.{NodeRules, NodeLaws, reached, delivered}
-use Rattle.world.specs.Messages.{Message, Showed, InSent, nth_sent, answer_of}
-use Rattle.world.proofs.RulesWorld.{Delivered, Unit_done, NodeWorld, World, state_of, Event, Deliver, Foreign_calls, Unit_comes, Send, Record, Restart, Evidence, Allowed, with_node, emptied, deliver_to, recorded, happens, formatted_world, Makes, opened_world}
-use Rattle.world.specs.Sends.{Packages, MaySend, campaign_of, decided_of, next_number}
-use Rattle.world.specs.Evidence.{EndEvidence, InCurrent}
+use Rattle.world.proofs.RulesWorld.{Delivered, Unit_done, NodeWorld, World, state_of, Event, Deliver, Foreign_calls,
+    Unit_comes, Send, Record, Restart, Evidence, Allowed, with_node, emptied, deliver_to, recorded, happens,
+    formatted_world, Makes, opened_world}
 use Rattle.world.proofs.RulesLaw.{spans, IsOld, InEarlier}
 use Rattle.world.proofs.Invariant.{Executable, KeptOld, KeptFold}
 use Rattle.world.proofs.Events.{event-deliver, event-foreign, event-unit, event-answered, event-showed}
 use Rattle.world.proofs.Sends.{event-send}
-use Rattle.world.proofs.Records.{SameAt, SameFold, some-inj, and-both, below-in, forget, event-same, event-begin, event-decide, event-ended, event-enter}
+use Rattle.world.proofs.Records.{SameAt, SameFold, some-inj, and-both, below-in, forget, event-same, event-begin,
+    event-decide, event-ended, event-enter}
 
 pub nth-in : (ms : List Message) (k : ℕ) (m : Message) → nth_sent ms k ≡ Some m → InSent m ms
 nth-in [] k m e = absurd (cc e)
@@ -119,14 +108,7 @@ module _ (N : NodeRules) (laws : NodeLaws N) (packages : Packages) (numbers : Li
   kept-begin : (w : World N) (k : ℕ) (named : NodeSet) → w.fold.current ≡ None → all_below k w.fold.earlier ≡ true → WorldKept w → WorldKept (emptied N w (record { epoch = w.fold.epoch; earlier = w.fold.earlier; current = Some (begun k named) }))
   kept-begin w k named none below kept =
       record {
-        fold =
-            record {
-              undecided = λ c current d n. subst (λ y. end_of y n ≡ None) (some-inj (begun k named) c current) (part-none {A = Outcome} 8 n);
-              above = λ c current j r h e.
-                  let lt : j < k = below-in k w.fold.earlier j r below h in
-                  let same : k ≡ c.campaign = ap (λ y. y.campaign) (some-inj (begun k named) c current) in
-                  (omega arith);
-            };
+        fold = grind (arith, some-inj, part-none, below-in) steps 1000000;
         each = λ n. event-begin N laws n w.fold (w.node n) k named none below (kept.each n);
       }
 

@@ -1,17 +1,10 @@
 -- A session of client 0 is an open span of its tag.
-use Rattle.std.proofs.Common.{arith, ◌≡◌, inl, inr, if◌then◌else◌, ◌&&◌, ◌||◌, ℕ, List, [], ◌∷◌, Option, Some, None, Bool, true, false, nat_eq, refl, sym, ◌∙◌, ap, subst}
-use Rattle.std.proofs.lemmas.Bool.{eq-eqb}
-use Rattle.ucm_base.specs.declared.ids.CallNo.{CallNo}
-use Rattle.pm_types.specs.declared.status.Status.TheVariants.{Idle, CleaningUp}
-use Rattle.campaign_core.specs.Campaign.{nothing_yet}
-use Rattle.pm_types.specs.declared.calls.Call.{Call}
-use Rattle.pm_types.specs.declared.calls.Call.TheVariants.{ProcessSwPackage}
-use Rattle.pm_types.specs.declared.replies.Reached.TheVariants.{Stale, Again, Done as Fresh}
-use Rattle.world.specs.Messages.{no_lt, no_eq, is_status, is_done}
+use Rattle.world.proofs.Vocabulary.{arith, ◌≡◌, inl, inr, if◌then◌else◌, ◌&&◌, ◌||◌, ℕ, List, [], ◌∷◌, Option, Some,
+    None, Bool, true, false, nat_eq, refl, sym, ◌∙◌, ap, subst, eq-eqb, CallNo, Idle, CleaningUp, nothing_yet, Call,
+    ProcessSwPackage, Stale, Again, Fresh, no_lt, no_eq, is_status, is_done, has_tag}
 use Rattle.world.proofs.Rules.{NodeRules, NodeLaws, reached, delivered}
 use Rattle.world.proofs.RulesWorld.{Move, Delivered, Foreign, Unit_done, after}
 use Rattle.world.proofs.RulesLaw.{Span, Spans, spans, is_fresh_done, begins_span}
-use Rattle.world.specs.Spans.{has_tag}
 use Rattle.world.proofs.NodeLemmas.{none-delivered, some-delivered, cleaned}
 use Rattle.world.proofs.Events.{is-cleaning, unit-back}
 

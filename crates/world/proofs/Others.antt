@@ -1,39 +1,22 @@
 -- Laws of the real node: client 0's transfers under calls of others, and units where client 0 has no session.
-use Rattle.std.proofs.Common.{◌≡◌, inl, inr, ℕ, suc, ◌+◌, ◌<◌, List, [], ◌∷◌, ◌++◌, length, Option, Some, None, Bool, true, false, refl, sym, ◌∙◌, ap, subst, cond, arith}
-use Rattle.std.specs.Prelude.{◌==◌, ◌||◌, not, is_none, find, nat_lt, option_and_then, map, filter, if◌then◌else◌}
-use Rattle.std.specs.List.{AllByRecursion}
-use Rattle.std.specs.Option.{option_map_or}
-use Rattle.std.proofs.lemmas.Bool.{eqb-true, ltb-true}
-use Rattle.std.proofs.lemmas.Bool.Decides.{eqb_tells}
-use Rattle.std.proofs.lemmas.List.{get_or-set_other, append-nil}
-use Rattle.std.proofs.lemmas.List.Elements.{filter-append}
-use Rattle.std.proofs.lemmas.List.Folds.{find-append}
-use Rattle.ucm_base.specs.Parts.{Bytes}
-use Rattle.pm_types.specs.declared.calls.Call.{Call}
+use Rattle.world.proofs.Vocabulary.{◌≡◌, inl, inr, ℕ, suc, ◌+◌, ◌<◌, List, [], ◌∷◌, ◌++◌, length, Option, Some, None,
+    Bool, true, false, refl, sym, ◌∙◌, ap, subst, cond, arith, ◌==◌, ◌||◌, not, is_none, find, nat_lt,
+    option_and_then, map, filter, if◌then◌else◌, AllByRecursion, option_map_or, eqb-true, ltb-true, eqb_tells,
+    get_or-set_other, append-nil, filter-append, find-append, Bytes, Call, Refusal, InvalidTransferId,
+    OperationNotPermitted, Phase, Transferred, BeingProcessed, Processed, UnitAfter, Cluster, Status, Processing,
+    Activating, Verifying, RollingBack, CleaningUp, NodeState, Session, Transfer, some_passes, is_in, all_units,
+    led_by, begin_processing, stop_processing, Verdict, is_of, transfer_of, header_of, parts_read, grown, in_phase,
+    started, with_block, exited, deleted, first_refusal, judge, after_reply, refusal, refused_or, with_entry, unit_of,
+    process_unit, processed, parts_of_id, activate_unit, verify_unit, roll_back_unit, clean_up_unit, end_mark,
+    Reading, verdict_for, IsConsistent, ChangesAreDue, IsPlannedWhole, id_in_processing, numbers_rise}
 use Rattle.pm_types.specs.declared.calls.Call.TheVariants as call
 use Rattle.pm_types.specs.declared.replies.Reply.TheVariants as reply
-use Rattle.pm_types.specs.declared.replies.Refusal.{Refusal}
-use Rattle.pm_types.specs.declared.replies.Refusal.TheVariants.{InvalidTransferId, OperationNotPermitted}
-use Rattle.pm_types.specs.declared.status.Phase.{Phase}
-use Rattle.pm_types.specs.declared.status.Phase.TheVariants.{Transferred, Processing as BeingProcessed, Processed}
-use Rattle.pm_types.specs.declared.history.Happened.TheVariants.{Unit as UnitAfter}
-use Rattle.pm_types.specs.declared.clusters.Cluster.{Cluster}
-use Rattle.pm_types.specs.declared.status.Status.{Status}
-use Rattle.pm_types.specs.declared.status.Status.TheVariants.{Processing, Activating, Verifying, RollingBack, CleaningUp}
-use Rattle.pm_types.specs.NodeState.{NodeState, Session, Transfer, some_passes, is_in}
-use Rattle.pm_types.specs.Clusters.{all_units}
-use Rattle.pm_types.specs.Sessions.{led_by, begin_processing, stop_processing}
-use Rattle.pm_types.specs.Transfers.{Verdict, is_of, transfer_of, header_of, parts_read, grown, in_phase, started, with_block, exited, deleted}
-use Rattle.pm_types.specs.Refusals.{first_refusal}
-use Rattle.pm_types.specs.Steps.{judge, after_reply, refusal, refused_or, with_entry}
-use Rattle.pm_types.specs.Work.{unit_of, process_unit, processed, parts_of_id, activate_unit, verify_unit, roll_back_unit, clean_up_unit, end_mark}
-use Rattle.pm_types.specs.Histories.{Reading, verdict_for}
-use Rattle.pm_types.specs.Validity.{IsConsistent, ChangesAreDue, IsPlannedWhole, id_in_processing, numbers_rise}
 use Rattle.world.proofs.Rules.{KeepsTransfers}
 use Rattle.world.proofs.Instance.{ForeignCall, tag_if, mine_in, ended_in, foreign_in, unit_in, real}
 use Rattle.world.proofs.Basics.{judged-by, not-refused}
 use Rattle.world.proofs.Units.{unit-cases}
-use Rattle.world.proofs.TransferLaws.{KeepsNames, keeps-all, keeps-changed, find-passes, find-all, and-true, data-rest}
+use Rattle.world.proofs.TransferLaws.{KeepsNames, keeps-all, keeps-changed, find-passes, find-all, and-true,
+    data-rest}
 use Rattle.world.proofs.Foreign.{foreign-cases}
 
 -- numbers that rise

@@ -1,11 +1,7 @@
 -- The parts of nodes: after one has changed, and where each flagged one passes a test.
-use Rattle.std.proofs.Common.{arith, ◌≡◌, ◌≢◌, ◌⊎◌, inl, inr, ℕ, zero, suc, List, [], ◌∷◌, Bool, true, false, refl, ap}
-use Rattle.std.specs.Prelude.{Option, Some, None, replicate, slice_index_or, slice_set}
-use Rattle.std.proofs.lemmas.Bool.{and_parts}
-use Rattle.pm_types.specs.declared.status.Outcome.{Outcome}
-use Rattle.campaign_core.specs.declared.events.Vote.{Vote}
-use Rattle.campaign_core.specs.Nodes.{part_of, with_part, all_flagged}
-use Rattle.campaign_core.specs.Campaign.{has_ended, voted_yes}
+use Rattle.world.proofs.Vocabulary.{arith, ◌≡◌, ◌≢◌, ◌⊎◌, inl, inr, ℕ, zero, suc, List, [], ◌∷◌, Bool, true, false,
+    refl, ap, Option, Some, None, replicate, slice_index_or, slice_set, and_parts, Outcome, Vote, part_of, with_part,
+    all_flagged, has_ended, voted_yes}
 
 pub part-none : {A : Type 0} (k n : ℕ) → part_of {A = Option A} None (replicate k None) n ≡ None
 part-none k zero = refl

@@ -1,24 +1,11 @@
 -- What the records of the master keep of the invariant.
-use Rattle.std.proofs.Common.{◌≡◌, ◌≢◌, ◌⊎◌, inl, inr, ◌&&◌, ℕ, ◌<◌, ◌≤◌, List, [], ◌∷◌, ◌++◌, Option, Some, None, Bool, true, false, nat_lt, refl, sym, ◌∙◌, ap, subst, arith}
-use Rattle.std.proofs.lemmas.Bool.{ltb-true}
-use Rattle.pm_types.specs.declared.status.Status.TheVariants.{RolledBack}
-use Rattle.ucm_base.specs.declared.ids.NodeSet.{NodeSet}
-use Rattle.campaign_core.specs.declared.events.Decision.{Decision}
-use Rattle.campaign_core.specs.declared.events.Decision.TheVariants.{Commit}
-use Rattle.campaign_core.specs.declared.events.CampaignResult.{CampaignResult}
-use Rattle.campaign_core.specs.declared.events.CampaignResult.TheVariants.{Successful}
-use Rattle.campaign_core.specs.declared.fold.Fold.{Fold}
-use Rattle.campaign_core.specs.declared.fold.Current.{Current}
-use Rattle.campaign_core.specs.Nodes.{flag_of}
-use Rattle.campaign_core.specs.Campaign.{end_of, all_ended, is_result_of, all_below, begun}
+use Rattle.world.proofs.Vocabulary.{◌≡◌, ◌≢◌, ◌⊎◌, inl, inr, ◌&&◌, ℕ, ◌<◌, ◌≤◌, List, [], ◌∷◌, ◌++◌, Option, Some,
+    None, Bool, true, false, nat_lt, refl, sym, ◌∙◌, ap, subst, arith, ltb-true, RolledBack, NodeSet, Decision,
+    Commit, CampaignResult, Successful, Fold, Current, flag_of, end_of, all_ended, is_result_of, all_below, begun,
+    Finish, Synced, Message, InSent, last_status, EndEvidence}
 use Rattle.world.proofs.Parts.{flagged-ended}
-use Rattle.pm_types.specs.declared.calls.Call.TheVariants.{Finish}
-use Rattle.pm_types.specs.declared.replies.Reply.TheVariants.{Synced}
 use Rattle.world.proofs.Rules.{NodeRules, NodeLaws}
-use Rattle.world.specs.Messages.{Message, InSent}
 use Rattle.world.proofs.RulesWorld.{NodeWorld, state_of}
-use Rattle.world.specs.Sends.{last_status}
-use Rattle.world.specs.Evidence.{EndEvidence}
 use Rattle.world.proofs.RulesLaw.{spans, EachEnded, InEarlier}
 use Rattle.world.proofs.Invariant.{Executable, InPresent, NotCommit, IsFresh, KeptOld, Falling}
 use Rattle.world.proofs.Events.{below-trans, end-sync-decided}
@@ -101,9 +88,7 @@ module _ (N : NodeRules) (laws : NodeLaws N) (n : ℕ) where
         ends_old = λ c current d. let b = same.back c current in kept.ends_old b.0 b.1 (λ q. d (b.2.decision ∙ q));
         session = λ tag e. present-forth f g same (λ k. tag ≡ k) (kept.session tag e);
         open_span = kept.open_span;
-        old_so_far = λ c current d.
-            let b = same.back c current in
-            subst (λ k. EachEnded N (λ y. N.Leaves y.before y.left) (spans N k x.moves).ended) (sym b.2.campaign) (kept.old_so_far b.0 b.1 (λ q. d (b.2.decision ∙ q)));
+        old_so_far = λ c current d. grind (arith, spans) steps 1000000;
         fresh = λ k h. kept.fresh k (fresh-back f g same k h);
         entered = λ k r h q. kept.entered k r (subst (λ l. InEarlier (k, r) l) same.earlier h) q;
       }
@@ -128,10 +113,7 @@ module _ (N : NodeRules) (laws : NodeLaws N) (n : ℕ) where
         ends_old = λ c current d tag mine status. absurd (free tag mine);
         session = λ tag mine. absurd (free tag mine);
         open_span = kept.open_span;
-        old_so_far = λ c current d.
-            let q : k ≡ c.campaign = ap (λ y. y.campaign) (some-inj (begun k named) c current) in
-            subst (λ j. EachEnded N (λ y. N.Leaves y.before y.left) (spans N j x.moves).ended) q
-            (subst (λ l. EachEnded N (λ y. N.Leaves y.before y.left) l) (sym (kept.fresh k is_fresh)) tt);
+        old_so_far = λ c current d. grind (arith, some-inj, spans) steps 1000000;
         fresh = λ j h. kept.fresh j (back j h.above);
         entered = kept.entered;
       }
@@ -156,10 +138,7 @@ module _ (N : NodeRules) (laws : NodeLaws N) (n : ℕ) where
         epochs = kept.epochs;
         tags = kept.tags;
         early = kept.early;
-        decided = λ m h q c' current' same e.
-            let s : record c { decision = Some d } ≡ c' = some-inj (record c { decision = Some d }) c' current' in
-            let e' : Some d ≡ None = ap (λ y. y.decision) s ∙ e in
-            cc e';
+        decided = λ m h q c' current' same e. grind (arith, some-inj) steps 1000000;
         ordered = kept.ordered;
         begun = λ m h k fresh. kept.begun m h k (back k fresh);
         present = λ m h exec. forth (λ k. m.campaign ≡ k) (kept.present m h exec);

@@ -1,22 +1,10 @@
 -- What the law needs of a node: its observations, its three kinds of step, and the laws of them.
-use Rattle.pm_types.specs.NodeState.{is_working}
-use Rattle.pm_types.specs.declared.calls.Call.TheVariants.{Sync, TransferStart, TransferData, TransferExit, DeleteTransfer, ProcessSwPackage, Activate, Finish, Rollback, RevertProcessedSwPackages as Revert, Cancel}
-use Rattle.pm_types.specs.declared.calls.Call.{Call}
-use Rattle.pm_types.specs.declared.replies.EndMark.{EndMark}
-use Rattle.pm_types.specs.declared.replies.Reached.TheVariants.{Stale, Again, Done as Fresh}
-use Rattle.pm_types.specs.declared.replies.Reached.{Reached}
-use Rattle.pm_types.specs.declared.replies.Refusal.{Refusal}
-use Rattle.pm_types.specs.declared.replies.Reply.TheVariants.{Done, Started, Synced, Refused}
-use Rattle.pm_types.specs.declared.replies.Reply.{Reply}
-use Rattle.pm_types.specs.declared.replies.SessionMark.{SessionMark}
-use Rattle.pm_types.specs.declared.replies.Synced.{Synced as Shown}
-use Rattle.pm_types.specs.declared.status.Outcome.TheVariants.{New, Old}
-use Rattle.pm_types.specs.declared.status.Outcome.{Outcome}
-use Rattle.pm_types.specs.declared.status.Status.TheVariants.{Idle, Ready, Activated, RolledBack, Processing, Activating, Verifying, RollingBack, CleaningUp}
-use Rattle.pm_types.specs.declared.status.Status.{Status}
-use Rattle.std.specs.Prelude.{◌≡◌, ◌≢◌, ◌⊎◌, ℕ, List, [], ◌∷◌, ◌++◌, Option, Some, None, Bool, false, if◌then◌else◌, Contains}
-use Rattle.ucm_base.specs.declared.ids.CallNo.{CallNo}
-use Rattle.world.specs.Messages.{no_lt, no_eq, is_status}
+use Rattle.world.proofs.Vocabulary.{is_working, Sync, TransferStart, TransferData, TransferExit, DeleteTransfer,
+    ProcessSwPackage, Activate, Finish, Rollback, Revert, Cancel, Call, EndMark, Stale, Again, Fresh, Reached,
+    Refusal, Done, Started, Synced, Refused, Reply, SessionMark, Shown, New, Old, Outcome, Idle, Ready, Activated,
+    RolledBack, Processing, Activating, Verifying, RollingBack, CleaningUp, Status, ◌≡◌, ◌≢◌, ◌⊎◌, ℕ, List, [], ◌∷◌,
+    ◌++◌, Option, Some, None, Bool, false, if◌then◌else◌, CallNo, no_lt, no_eq, is_status}
+use Rattle.std.specs.Prelude.{Contains}
 
 -- a node, by what the master's side of it can be seen to be
 pub record NodeRules : Type 1 where

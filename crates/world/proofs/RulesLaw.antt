@@ -1,17 +1,10 @@
 -- What a campaign leaves: the spans of its sessions, and the law over every list of events.
-use Rattle.std.specs.Prelude.{◌≡◌, ◌≢◌, ◌⊎◌, ℕ, ◌≤◌, List, [], ◌∷◌, flat_map, Option, Some, Bool, false, ◌&&◌, ◌||◌, if◌then◌else◌}
-use Rattle.pm_types.specs.declared.status.Outcome.{Outcome}
-use Rattle.pm_types.specs.declared.status.Outcome.TheVariants.{New}
-use Rattle.pm_types.specs.declared.status.Status.TheVariants.{Idle, CleaningUp}
-use Rattle.campaign_core.specs.declared.events.CampaignResult.{CampaignResult}
-use Rattle.campaign_core.specs.declared.events.CampaignResult.TheVariants.{Successful}
-use Rattle.pm_types.specs.declared.replies.Reached.{Reached}
-use Rattle.pm_types.specs.declared.replies.Reached.TheVariants.{Done as Fresh}
-use Rattle.world.specs.Spans.{has_tag}
-use Rattle.world.specs.Messages.{is_status, Message, is_done}
+use Rattle.world.proofs.Vocabulary.{◌≡◌, ◌≢◌, ◌⊎◌, ℕ, ◌≤◌, List, [], ◌∷◌, Option, Some, Bool, false, ◌&&◌, ◌||◌,
+    if◌then◌else◌, Outcome, New, Idle, CleaningUp, CampaignResult, Successful, Reached, Fresh, has_tag, is_status,
+    Message, is_done, Packages}
 use Rattle.world.proofs.Rules.{NodeRules, NodeLaws, reached}
 use Rattle.world.proofs.RulesWorld.{Move, Delivered, Foreign, Unit_done, World, after, Event, opened_world, Makes}
-use Rattle.world.specs.Sends.{Packages}
+use Rattle.std.specs.Prelude.{flat_map}
 
 -- a span that has ended: its outcome, the state before the unit that ended it, and the one after
 pub record Span (N : NodeRules) : Type 0 where

@@ -1,14 +1,10 @@
 -- A world over such nodes: what happened on each, the fold of the list, and which event may happen.
-use Rattle.campaign_core.specs.Campaign.{after_event, refusal_of, nothing_yet}
-use Rattle.campaign_core.specs.declared.events.MasterEvent.TheVariants.{Start, Begin, VoteOf, EndedAt}
-use Rattle.campaign_core.specs.declared.events.MasterEvent.{MasterEvent}
-use Rattle.campaign_core.specs.declared.fold.Fold.{Fold}
-use Rattle.pm_types.specs.declared.calls.Call.{Call}
-use Rattle.std.specs.Prelude.{◌≡◌, ℕ, ◌+◌, ◌<◌, List, [], ◌∷◌, length, Option, Some, None, Bool, if◌then◌else◌, nat_eq, Contains}
-use Rattle.world.specs.Messages.{Message, Told, nth_sent, answer_of, Showed}
-use Rattle.world.specs.Sends.{Packages, next_number, MaySend, campaign_of, decided_of, empties}
-use Rattle.world.specs.Evidence.{VoteEvidence, EndEvidence, NamesOf, InCurrent}
+use Rattle.world.proofs.Vocabulary.{after_event, refusal_of, nothing_yet, Start, Begin, VoteOf, EndedAt, MasterEvent,
+    Fold, Call, ◌≡◌, ℕ, ◌+◌, ◌<◌, List, [], ◌∷◌, length, Option, Some, None, Bool, if◌then◌else◌, nat_eq, Message,
+    Told, nth_sent, answer_of, Showed, Packages, next_number, MaySend, campaign_of, decided_of, empties, VoteEvidence,
+    EndEvidence, NamesOf, InCurrent}
 use Rattle.world.proofs.Rules.{NodeRules, reached, delivered}
+use Rattle.std.specs.Prelude.{Contains}
 
 -- what happened on a node
 pub data Move (N : NodeRules) : Type 0 where

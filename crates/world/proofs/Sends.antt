@@ -1,21 +1,11 @@
 -- What a send keeps of the invariant.
-use Rattle.std.proofs.Common.{◌≡◌, ◌≢◌, inl, inr, if◌then◌else◌, ◌||◌, ◌+◌, ℕ, ◌≤◌, List, [], ◌∷◌, Option, Some, None, Bool, true, false, is_some, nat_eq, refl, sym, ◌∙◌, ap, subst, arith}
-use Rattle.std.proofs.lemmas.Bool.{eqb-true}
-use Rattle.std.proofs.lemmas.Bool.Decides.{eqb_tells}
-use Rattle.pm_types.specs.declared.status.Status.{Status}
-use Rattle.pm_types.specs.declared.status.Status.TheVariants.{RolledBack}
-use Rattle.campaign_core.specs.declared.events.Cause.{Cause}
-use Rattle.campaign_core.specs.declared.events.Decision.{Decision}
-use Rattle.campaign_core.specs.declared.events.Decision.TheVariants.{Abort}
-use Rattle.campaign_core.specs.declared.fold.Fold.{Fold}
-use Rattle.campaign_core.specs.declared.fold.Current.{Current}
-use Rattle.campaign_core.specs.Campaign.{end_of}
-use Rattle.pm_types.specs.declared.calls.Call.{Call}
-use Rattle.pm_types.specs.declared.calls.Call.TheVariants.{ProcessSwPackage, Finish}
-use Rattle.world.specs.Messages.{IsBelow, Message, InSent, is_sync}
+use Rattle.world.proofs.Vocabulary.{◌≡◌, ◌≢◌, inl, inr, if◌then◌else◌, ◌||◌, ◌+◌, ℕ, ◌≤◌, List, [], ◌∷◌, Option, Some,
+    None, Bool, true, false, is_some, nat_eq, refl, sym, ◌∙◌, ap, subst, arith, eqb-true, eqb_tells, Status,
+    RolledBack, Cause, Decision, Abort, Fold, Current, end_of, Call, ProcessSwPackage, Finish, IsBelow, Message,
+    InSent, is_sync, Packages, last_status, last_shown, end_call_at, delete_at, next_number, MaySend, MaySendBy,
+    MaySendLate}
 use Rattle.world.proofs.Rules.{NodeRules, NodeLaws}
 use Rattle.world.proofs.RulesWorld.{NodeWorld, state_of}
-use Rattle.world.specs.Sends.{Packages, last_status, last_shown, end_call_at, delete_at, next_number, MaySend, MaySendBy, MaySendLate}
 use Rattle.world.proofs.Invariant.{NoneEarly, KeptOld, KeptFold, Falling}
 use Rattle.world.proofs.Events.{below-trans, none-early-status}
 

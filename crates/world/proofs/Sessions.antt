@@ -1,29 +1,13 @@
 -- Laws of the real node: the calls on client 0's session.
-use Rattle.std.proofs.Common.{arith, ◌≡◌, ◌≢◌, ◌⊎◌, inl, inr, ℕ, List, [], ◌∷◌, Option, Some, None, Bool, true, false, refl, sym, ◌∙◌, ap, subst}
-use Rattle.std.proofs.lemmas.Bool.Decides.{nat_tests}
-use Rattle.std.specs.Prelude.{◌==◌, not, is_none, option_map, option_and_then}
-use Rattle.std.specs.Option.{option_or, option_map_or}
-use Rattle.ucm_base.specs.Parts.{Bytes}
-use Rattle.pm_types.specs.declared.calls.Call.{Call}
+use Rattle.world.proofs.Vocabulary.{arith, ◌≡◌, ◌≢◌, ◌⊎◌, inl, inr, ℕ, List, [], ◌∷◌, Option, Some, None, Bool, true,
+    false, refl, sym, ◌∙◌, ap, subst, nat_tests, ◌==◌, not, is_none, option_map, option_and_then, option_or,
+    option_map_or, Bytes, Call, Outcome, New, Old, Refusal, Change, Cluster, Status, Idle, Ready, Processing,
+    Activating, Verifying, Activated, RollingBack, RolledBack, CleaningUp, NodeState, Session, some_passes,
+    first_refusal, status_table, session_refusals, is_wrong_tag, changes_in, arrive, clean_up, begin_processing,
+    stop_processing, cancel_refusals, transfer_of, header_of, refusal, Reading, verdict_for, IsConsistent,
+    id_in_processing, ProcessSwPackage, Activate, Finish, Rollback, Revert, Done, is_status}
 use Rattle.pm_types.specs.declared.calls.Call.TheVariants as call
 use Rattle.pm_types.specs.declared.replies.Reply.TheVariants as reply
-use Rattle.pm_types.specs.declared.status.Outcome.{Outcome}
-use Rattle.pm_types.specs.declared.status.Outcome.TheVariants.{New, Old}
-use Rattle.pm_types.specs.declared.replies.Refusal.{Refusal}
-use Rattle.pm_types.specs.declared.clusters.Change.{Change}
-use Rattle.pm_types.specs.declared.clusters.Cluster.{Cluster}
-use Rattle.pm_types.specs.declared.status.Status.{Status}
-use Rattle.pm_types.specs.declared.status.Status.TheVariants.{Idle, Ready, Processing, Activating, Verifying, Activated, RollingBack, RolledBack, CleaningUp}
-use Rattle.pm_types.specs.NodeState.{NodeState, Session, some_passes}
-use Rattle.pm_types.specs.Refusals.{first_refusal}
-use Rattle.pm_types.specs.Sessions.{status_table, session_refusals, is_wrong_tag, changes_in, arrive, clean_up, begin_processing, stop_processing, cancel_refusals}
-use Rattle.pm_types.specs.Transfers.{transfer_of, header_of}
-use Rattle.pm_types.specs.Steps.{refusal}
-use Rattle.pm_types.specs.Histories.{Reading, verdict_for}
-use Rattle.pm_types.specs.Validity.{IsConsistent, id_in_processing}
-use Rattle.pm_types.specs.declared.calls.Call.TheVariants.{ProcessSwPackage, Activate, Finish, Rollback, RevertProcessedSwPackages as Revert}
-use Rattle.pm_types.specs.declared.replies.Reply.TheVariants.{Done}
-use Rattle.world.specs.Messages.{is_status}
 use Rattle.world.proofs.Instance.{tag_if, mine_in, planned_in, outcome_in, judged_in}
 use Rattle.world.proofs.Basics.{done-or-refused, done-accepted, done-none, or-none}
 

@@ -1,18 +1,9 @@
 -- A world of the tables is one of the rules: what its events make, the rules' events make too.
-use Rattle.std.proofs.Common.{arith, ◌≡◌, refl, ap, ◌∙◌, ℕ, suc, ◌<◌, Bool, false, [], ◌∷◌}
-use Rattle.std.specs.Prelude.{map, if◌then◌else◌, Some}
-use Rattle.std.specs.List.{AllByRecursion}
-use Rattle.ucm_base.specs.declared.ids.CallNo.{CallNo}
-use Rattle.pm_types.specs.declared.calls.Call.{Call}
-use Rattle.pm_types.specs.NodeState.{NodeState}
-use Rattle.pm_types.specs.Steps.{step}
-use Rattle.pm_types.specs.Work.{unit}
-use Rattle.pm_types.specs.Histories.{Reading, verdict_for}
-use Rattle.campaign_core.specs.declared.fold.Current.{Current}
-use Rattle.world.specs.Messages.{Message, Showed, no_lt, no_eq}
-use Rattle.world.specs.Spans.{Spans, Span, spans}
-use Rattle.world.specs.World.{NodeWorld, World, fold_of, state_of, reached, called, delivered, worked}
-use Rattle.world.proofs.NodeSteps.{entered-state, entered-spans, foreign-spans, worked-state, worked-status, worked-spans}
+use Rattle.world.proofs.Vocabulary.{arith, ◌≡◌, refl, ap, ◌∙◌, ℕ, suc, ◌<◌, Bool, false, [], ◌∷◌, map, if◌then◌else◌,
+    Some, AllByRecursion, CallNo, Call, NodeState, step, unit, Reading, verdict_for, Current, Message, Showed, no_lt,
+    no_eq, Spans, Span, spans, NodeWorld, World, fold_of, state_of, reached, called, delivered}
+use Rattle.world.proofs.NodeSteps.{entered-state, entered-spans, foreign-spans, worked-state, worked-status,
+    worked-spans}
 use Rattle.world.proofs.Instance.{ForeignCall, Calls, unit_in, judged_in, kept_after, saved_in}
 use Rattle.world.proofs.FitNode.{KeepsNode, FitState, fit}
 use Rattle.world.proofs.FitLaws.{state-is, unit-is}
@@ -20,6 +11,7 @@ use Rattle.world.proofs.Binding.{delivered-is}
 use Rattle.world.proofs.Rules as rules
 use Rattle.world.proofs.RulesLaw as law
 use Rattle.world.proofs.RulesWorld as engine
+use Rattle.world.specs.World.{worked}
 
 module _ (read : Reading) (keeps : KeepsNode read []) where
   abbrev pub N : rules.NodeRules

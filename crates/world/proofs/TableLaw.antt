@@ -1,20 +1,11 @@
 -- The campaign law at the node of the tables.
-use Rattle.std.proofs.Common.{◌≡◌, refl, sym, ap, subst, ◌∙◌, ℕ, suc, List, [], ◌∷◌, arith}
-use Rattle.std.specs.Prelude.{map}
-use Rattle.std.specs.List.{AllByRecursion}
-use Rattle.pm_types.specs.NodeState.{NodeState}
-use Rattle.pm_types.specs.Histories.{Reading}
-use Rattle.campaign_core.specs.declared.events.CampaignResult.{CampaignResult}
-use Rattle.campaign_core.specs.declared.events.CampaignResult.TheVariants.{Successful}
-use Rattle.campaign_core.specs.declared.fold.Fold.{Fold}
-use Rattle.node_laws.specs.Fit.{IsReading, IsFit}
+use Rattle.world.proofs.Vocabulary.{◌≡◌, refl, sym, ap, subst, ◌∙◌, ℕ, suc, List, [], ◌∷◌, arith, map, AllByRecursion,
+    NodeState, Reading, CampaignResult, Successful, Fold, IsReading, IsFit, Span, IsNew, IsOld, NodeWorld,
+    CampaignLaw, IsLeft, parts_in}
 use Rattle.node_laws.specs.Fit as fits
 use Rattle.node_laws.proofs.Kept.{keeps-fit}
 use Rattle.node_laws.proofs.Entries.{kept-fit, entry-fit}
 use Rattle.node_laws.proofs.Opened.{opened-fit}
-use Rattle.world.specs.Spans.{Span, IsNew, IsOld}
-use Rattle.world.specs.World.{NodeWorld}
-use Rattle.world.specs.Law.{CampaignLaw, IsLeft, parts_in}
 use Rattle.world.proofs.Appended.{entered-earlier}
 use Rattle.world.proofs.Instance.{Outside, Opens, Calls, saved_in, outside_in}
 use Rattle.world.proofs.FitNode.{KeepsNode, fit}

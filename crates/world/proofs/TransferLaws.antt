@@ -1,38 +1,15 @@
 -- Laws of the real node: client 0's transfers under its own calls and under units.
-use Rattle.std.proofs.Common.{◌≡◌, ◌≢◌, ◌⊎◌, ℕ, zero, suc, ◌+◌, ◌<◌, List, [], ◌∷◌, ◌++◌, length, get_or, Option, Some, None, Bool, true, false, refl, ap, subst, arith}
-use Rattle.std.specs.Prelude.{◌==◌, ◌||◌, ◌&&◌, not, find, nat_lt, option_map, option_and_then, map, filter, if◌then◌else◌}
-use Rattle.std.specs.List.{AllByRecursion, Contains}
-use Rattle.std.specs.Option.{option_map_or}
-use Rattle.std.proofs.lemmas.Bool.{eqb-true, eq-eqb}
-use Rattle.std.proofs.lemmas.List.{map-append}
-use Rattle.std.proofs.lemmas.List.Elements.{filter-append}
-use Rattle.std.proofs.lemmas.List.Folds.{find-append}
-use Rattle.ucm_base.specs.Limits.{block_limit}
-use Rattle.ucm_base.specs.Parts.{Bytes}
-use Rattle.pm_types.specs.declared.calls.Call.{Call}
+use Rattle.world.proofs.Vocabulary.{◌≡◌, ◌≢◌, ◌⊎◌, ℕ, zero, suc, ◌+◌, ◌<◌, List, [], ◌∷◌, ◌++◌, length, get_or,
+    Option, Some, None, Bool, true, false, refl, ap, subst, arith, ◌==◌, ◌||◌, ◌&&◌, not, find, nat_lt, option_map,
+    option_and_then, map, filter, if◌then◌else◌, AllByRecursion, Contains, option_map_or, eqb-true, eq-eqb,
+    map-append, filter-append, find-append, block_limit, Bytes, Call, Refusal, OperationNotPermitted, IncorrectBlock,
+    IncorrectSize, Header, Phase, Transferring, Transferred, BeingProcessed, Processed, UnitAfter, Part, Change,
+    Cluster, Status, Ready, Processing, Activating, Verifying, RollingBack, CleaningUp, NodeState, Session, Transfer,
+    some_passes, is_in, changes_of, all_units, led_by, begin_processing, is_of, ids_of, parts_read, grown, in_phase,
+    exited, with_entry, unit_of, process_unit, processed, parts_of_id, activate_unit, verify_unit, roll_back_unit,
+    Reading, verdict_for, IsConsistent, IsSound, id_in_processing, IsFit, TransferStart, TransferData, TransferExit,
+    ProcessSwPackage, Done, Started}
 use Rattle.pm_types.specs.declared.calls.Call.TheVariants as call
-use Rattle.pm_types.specs.declared.replies.Refusal.{Refusal}
-use Rattle.pm_types.specs.declared.replies.Refusal.TheVariants.{OperationNotPermitted, IncorrectBlock, IncorrectSize}
-use Rattle.pm_types.specs.declared.transfers.Header.{Header}
-use Rattle.pm_types.specs.declared.status.Phase.{Phase}
-use Rattle.pm_types.specs.declared.status.Phase.TheVariants.{Transferring, Transferred, Processing as BeingProcessed, Processed}
-use Rattle.pm_types.specs.declared.history.Happened.TheVariants.{Unit as UnitAfter}
-use Rattle.pm_types.specs.declared.clusters.Part.{Part}
-use Rattle.pm_types.specs.declared.clusters.Change.{Change}
-use Rattle.pm_types.specs.declared.clusters.Cluster.{Cluster}
-use Rattle.pm_types.specs.declared.status.Status.{Status}
-use Rattle.pm_types.specs.declared.status.Status.TheVariants.{Ready, Processing, Activating, Verifying, RollingBack, CleaningUp}
-use Rattle.pm_types.specs.NodeState.{NodeState, Session, Transfer, some_passes, is_in}
-use Rattle.pm_types.specs.Clusters.{changes_of, all_units}
-use Rattle.pm_types.specs.Sessions.{led_by, begin_processing}
-use Rattle.pm_types.specs.Transfers.{is_of, ids_of, parts_read, grown, in_phase, exited}
-use Rattle.pm_types.specs.Steps.{with_entry}
-use Rattle.pm_types.specs.Work.{unit_of, process_unit, processed, parts_of_id, activate_unit, verify_unit, roll_back_unit}
-use Rattle.pm_types.specs.Histories.{Reading, verdict_for}
-use Rattle.pm_types.specs.Validity.{IsConsistent, IsSound, id_in_processing}
-use Rattle.node_laws.specs.Fit.{IsFit}
-use Rattle.pm_types.specs.declared.calls.Call.TheVariants.{TransferStart, TransferData, TransferExit, ProcessSwPackage}
-use Rattle.pm_types.specs.declared.replies.Reply.TheVariants.{Done, Started}
 use Rattle.world.proofs.Rules.{KeepsTransfers}
 use Rattle.world.proofs.Instance.{tag_if, mine_in, planned_in, ended_in, received_in, judged_in, unit_in, real}
 use Rattle.world.proofs.Basics.{judged-by, done-none, not-refused}

@@ -1,22 +1,12 @@
 -- Laws of the real node: work units.
-use Rattle.std.proofs.Common.{◌≡◌, ◌⊎◌, ℕ, List, [], ◌∷◌, Option, Some, None, Bool, false, refl, ◌∙◌, ap, subst, arith}
-use Rattle.std.specs.Prelude.{IfSome, option_map, option_and_then, map, unwrap_or}
-use Rattle.std.proofs.lemmas.Bool.{eqb-true}
-use Rattle.std.proofs.lemmas.List.{get_or-set_same}
-use Rattle.ucm_base.specs.Parts.{Bytes}
-use Rattle.pm_types.specs.declared.status.Outcome.{Outcome}
-use Rattle.pm_types.specs.declared.status.Outcome.TheVariants.{New, Old}
-use Rattle.pm_types.specs.declared.history.Happened.TheVariants.{Unit as UnitAfter}
-use Rattle.pm_types.specs.declared.clusters.Change.{Change}
-use Rattle.pm_types.specs.declared.status.Status.{Status}
-use Rattle.pm_types.specs.declared.status.Status.TheVariants.{Idle, Processing, Activating, Verifying, Activated, RollingBack, RolledBack, CleaningUp}
-use Rattle.pm_types.specs.NodeState.{NodeState, Session, is_working}
-use Rattle.pm_types.specs.Clusters.{cluster_of}
+use Rattle.world.proofs.Vocabulary.{◌≡◌, ◌⊎◌, ℕ, List, [], ◌∷◌, Option, Some, None, Bool, false, refl, ◌∙◌, ap, subst,
+    arith, IfSome, option_map, option_and_then, map, unwrap_or, eqb-true, get_or-set_same, Bytes, Outcome, New, Old,
+    UnitAfter, Change, Status, Idle, Processing, Activating, Verifying, Activated, RollingBack, RolledBack,
+    CleaningUp, NodeState, Session, is_working, cluster_of, with_entry, unit_of, IsConsistent, should_run,
+    id_in_processing}
 use Rattle.world.proofs.WordLaws.{run_parts, planned-run, runs-new}
-use Rattle.pm_types.specs.Steps.{with_entry}
-use Rattle.pm_types.specs.Work.{unit_of}
-use Rattle.pm_types.specs.Validity.{IsConsistent, should_run, id_in_processing}
-use Rattle.world.proofs.Instance.{last_in, kept_in, mine_in, planned_in, outcome_in, ended_in, unit_in, BringsIn, LeavesIn}
+use Rattle.world.proofs.Instance.{last_in, kept_in, mine_in, planned_in, outcome_in, ended_in, unit_in, BringsIn,
+    LeavesIn}
 
 -- a unit is nothing, or what the work table says
 pub unit-cases : (s : NodeState) (passed : Bool) (P : NodeState → Type 0) → P s → ((x : Session) → s.session ≡ Some x → (t : NodeState) → unit_of s x passed s.status ≡ Some t → P (with_entry (UnitAfter t.status) t)) → P (unit_in s passed)

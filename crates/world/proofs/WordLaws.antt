@@ -1,22 +1,9 @@
 -- What planned changes make of each cluster.
-use Rattle.std.proofs.Common.{arith, ◌≡◌, inl, inr, ℕ, List, [], ◌∷◌, Some, None, Bool, true, false, refl, sym, ◌∙◌, ap, subst, cond}
-use Rattle.std.specs.Prelude.{◌||◌, ◌&&◌, not, find, filter, map}
-use Rattle.std.specs.Option.{option_or}
-use Rattle.std.specs.Ordering.{nat_cmp, is_lt, is_eq, ordering_reverse}
-use Rattle.std.specs.Cmp.Lexicographic.{slice_cmp, texts_ties}
-use Rattle.std.specs.Str.{bytes_eq}
-use Rattle.std.specs.declared.cmp.Ordering.{Ordering}
-use Rattle.std.specs.declared.cmp.Ordering.TheVariants.{Less, Equal, Greater}
-use Rattle.std.proofs.lemmas.Cmp.{nat_list_cmp_total}
-use Rattle.std.proofs.lemmas.Slice.Eq.{bytes_eq-Decides}
-use Rattle.std.proofs.lemmas.List.Folds.{find-append}
-use Rattle.ucm_base.specs.Names.{name_lt, has_name, all_differ}
-use Rattle.ucm_base.specs.Parts.{Bytes}
-use Rattle.pm_types.specs.declared.clusters.Part.{Part}
-use Rattle.pm_types.specs.declared.clusters.Cluster.{Cluster}
-use Rattle.pm_types.specs.declared.clusters.Change.{Change}
-use Rattle.pm_types.specs.Clusters.{cluster_of, cluster_at, without, with_cluster, brought, changed_by, planned}
-use Rattle.world.specs.Words.{InParts, left_by, RunsNew}
+use Rattle.world.proofs.Vocabulary.{arith, ◌≡◌, inl, inr, ℕ, List, [], ◌∷◌, Some, None, Bool, true, false, refl, sym,
+    ◌∙◌, ap, subst, cond, ◌||◌, ◌&&◌, not, find, filter, map, option_or, nat_cmp, is_lt, is_eq, ordering_reverse,
+    slice_cmp, texts_ties, bytes_eq, Ordering, Less, Equal, Greater, nat_list_cmp_total, bytes_eq-Decides,
+    find-append, name_lt, has_name, all_differ, Bytes, Part, Cluster, Change, cluster_of, cluster_at, without,
+    with_cluster, brought, changed_by, planned, InParts, left_by, RunsNew}
 
 -- names
 eq-names : (a b : List ℕ) → bytes_eq a b ≡ true → a ≡ b

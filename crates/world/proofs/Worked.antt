@@ -1,30 +1,12 @@
 -- Two closed lists of events: one node installs a cluster and the campaign ends successful, or its check fails and it ends failed.
-use Rattle.std.specs.Prelude.{◌≡◌, List, [], ◌∷◌, ◌++◌, Some, None, true, false, Ok, if◌then◌else◌, nat_eq, replicate}
-use Rattle.std.proofs.Common.{refl, inl, arith}
-use Rattle.ucm_base.specs.Parts.{Bytes}
-use Rattle.ucm_base.specs.declared.ids.NodeSet.{NodeSet}
-use Rattle.ucm_base.specs.declared.parts.Action.TheVariants.{Install}
-use Rattle.pm_types.specs.declared.calls.Call.{Call}
-use Rattle.pm_types.specs.declared.calls.Call.TheVariants.{Sync, TransferStart, TransferData, TransferExit, ProcessSwPackage, Activate, Finish}
-use Rattle.pm_types.specs.declared.clusters.Cluster.{Cluster}
-use Rattle.pm_types.specs.declared.clusters.Part.{Part}
-use Rattle.pm_types.specs.declared.status.Outcome.{Outcome}
-use Rattle.pm_types.specs.declared.status.Outcome.TheVariants.{New, Old}
-use Rattle.pm_types.specs.Histories.{Reading}
+use Rattle.world.proofs.Vocabulary.{◌≡◌, List, [], ◌∷◌, ◌++◌, Some, None, true, false, Ok, if◌then◌else◌, nat_eq,
+    replicate, refl, inl, arith, Bytes, NodeSet, Install, Call, Sync, TransferStart, TransferData, TransferExit,
+    ProcessSwPackage, Activate, Finish, Cluster, Part, Outcome, New, Old, Reading, Commit, Abort, Successful, Failed,
+    MasterEvent, Start, Begin, PhaseTo, VoteOf, Decide, EndedAt, Enter, Shown, NamesOf, Packages, IsReading,
+    IsEntered, spans, World, NodeWorld, Event, Deliver, Work, Send, Record, opened, happens, state_of, Makes}
 use Rattle.campaign_core.specs.declared.events.Phase.TheVariants as Phase
 use Rattle.campaign_core.specs.declared.events.Vote.TheVariants as Vote
 use Rattle.campaign_core.specs.declared.events.Cause.TheVariants as Cause
-use Rattle.campaign_core.specs.declared.events.Decision.TheVariants.{Commit, Abort}
-use Rattle.campaign_core.specs.declared.events.CampaignResult.TheVariants.{Successful, Failed}
-use Rattle.campaign_core.specs.declared.events.MasterEvent.{MasterEvent}
-use Rattle.campaign_core.specs.declared.events.MasterEvent.TheVariants.{Start, Begin, PhaseTo, VoteOf, Decide, EndedAt, Enter}
-use Rattle.pm_types.specs.declared.replies.Synced.{Synced as Shown}
-use Rattle.world.specs.Evidence.{NamesOf}
-use Rattle.world.specs.Sends.{Packages}
-use Rattle.node_laws.specs.Fit.{IsReading}
-use Rattle.world.specs.Law.{IsEntered}
-use Rattle.world.specs.Spans.{spans}
-use Rattle.world.specs.World.{World, NodeWorld, Event, Deliver, Work, Send, Record, opened, happens, state_of, Makes}
 
 -- every package installs this cluster
 abbrev part : Part Bytes

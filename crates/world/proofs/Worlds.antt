@@ -1,22 +1,9 @@
 -- Whole worlds: every event of the tables is one of the rules.
-use Rattle.std.proofs.Common.{◌≡◌, refl, sym, ap, subst, ◌∙◌, ℕ, zero, suc, ◌+◌, ◌<◌, ◌≤◌, Bool, List, [], ◌∷◌, length, arith}
-use Rattle.std.specs.Prelude.{Option, Some, None}
-use Rattle.std.specs.List.{AllByRecursion}
-use Rattle.ucm_base.specs.Parts.{Bytes}
-use Rattle.ucm_base.specs.declared.ids.CallNo.{CallNo}
-use Rattle.pm_types.specs.declared.calls.Call.{Call}
-use Rattle.pm_types.specs.declared.clusters.Cluster.{Cluster}
-use Rattle.pm_types.specs.Histories.{Reading}
-use Rattle.campaign_core.specs.declared.events.MasterEvent.{MasterEvent}
-use Rattle.campaign_core.specs.declared.events.MasterEvent.TheVariants.{Start}
-use Rattle.campaign_core.specs.declared.fold.Current.{Current}
-use Rattle.campaign_core.specs.declared.fold.Fold.{Fold}
-use Rattle.campaign_core.specs.Campaign.{campaign, refusal_of, after_event}
-use Rattle.node_laws.specs.Fit.{IsInstalled}
-use Rattle.world.specs.Messages.{Message, nth_sent}
-use Rattle.world.specs.Sends.{Packages, MaySend, next_number, campaign_of, decided_of}
-use Rattle.world.specs.Evidence.{InCurrent}
-use Rattle.world.specs.World.{NodeWorld, World, fold_of, Event, Deliver, Foreign, Work, Send, Record, Restart, HasEvidence, IsAllowed, delivered, message, with_node, recorded, happens, opened, Makes}
+use Rattle.world.proofs.Vocabulary.{◌≡◌, refl, sym, ap, subst, ◌∙◌, ℕ, zero, suc, ◌+◌, ◌<◌, ◌≤◌, Bool, List, [], ◌∷◌,
+    length, arith, Option, Some, None, AllByRecursion, Bytes, CallNo, Call, Cluster, Reading, MasterEvent, Start,
+    Current, Fold, campaign, refusal_of, after_event, IsInstalled, Message, nth_sent, Packages, MaySend, next_number,
+    campaign_of, decided_of, InCurrent, NodeWorld, World, fold_of, Event, Deliver, Foreign, Work, Send, Record,
+    Restart, HasEvidence, IsAllowed, delivered, message, with_node, recorded, happens, opened, Makes}
 use Rattle.world.proofs.Appended.{fold-append}
 use Rattle.world.proofs.Instance.{ForeignCall, Opens, Calls}
 use Rattle.world.proofs.FitNode.{KeepsNode, fit}
