@@ -1,7 +1,7 @@
 -- One transfer changes, and the others stay.
-use Rattle.node_laws.proofs.Vocabulary.{◌≡◌, refl, sym, subst, ap, ℕ, ◌<◌, Bool, true, false, List, [], ◌∷◌, cond,
-    arith, ◌==◌, ◌||◌, if◌then◌else◌, option_map, Option, Some, find, map, list_any, AllByRecursion, and_parts,
-    eqb-true, Transfer, is_of, numbers_rise}
+use Rattle.node_laws.proofs.Names.{◌≡◌, refl, sym, subst, ap, ℕ, ◌<◌, Bool, true, false, List, [], ◌∷◌, cond, arith}
+use Rattle.node_laws.proofs.Names.{◌==◌, ◌||◌, if◌then◌else◌, option_map, Option, Some, find, map, list_any}
+use Rattle.node_laws.proofs.Names.{AllByRecursion, and_parts, eqb-true, Transfer, is_of, numbers_rise}
 use Rattle.node_laws.proofs.Lists.{each-imp, each-both, each-map, each-unmap, found-has, rise-above, rise-tail}
 
 abbrev pub ids : List Transfer → List ℕ

@@ -1,12 +1,13 @@
 -- A package that isn't refused leaves the names of planned parts different, and not too many.
-use Rattle.node_laws.proofs.Vocabulary.{◌≡◌, refl, sym, subst, ap, ◌∙◌, ℕ, ◌≤◌, Bool, true, false, List, [], ◌∷◌,
-    ◌++◌, length, append_assoc, arith, not, ◌&&◌, ◌||◌, map, nat_le, None, list_any, AllByRecursion, bytes_eq,
-    both_true, and_parts, leb-false, map-append, append-nil, Action, Install, cluster_limit, all_differ, has_name,
-    different_names, Bytes, Change, Cluster, Part, first_refusal, cluster_of, has_cluster, part_refusals,
-    parts_refusal, applies, suits, is_install, names_among}
+use Rattle.node_laws.proofs.Names.{◌≡◌, refl, sym, subst, ap, ◌∙◌, ℕ, ◌≤◌, Bool, true, false, List, [], ◌∷◌, ◌++◌}
+use Rattle.node_laws.proofs.Names.{length, append_assoc, arith, not, ◌&&◌, ◌||◌, map, nat_le, None, list_any}
+use Rattle.node_laws.proofs.Names.{AllByRecursion, bytes_eq, both_true, and_parts, leb-false, map-append, append-nil}
+use Rattle.node_laws.proofs.Names.{Action, Install, cluster_limit, all_differ, has_name, different_names, Bytes}
+use Rattle.node_laws.proofs.Names.{Change, Cluster, Part, first_refusal, cluster_of, has_cluster, part_refusals}
+use Rattle.node_laws.proofs.Names.{parts_refusal, applies, suits, is_install, names_among}
 use Rattle.node_laws.proofs.Lists.{each-append}
-use Rattle.node_laws.proofs.NameLists.{Within, has-self, has-append, within-self, within-left, within-right,
-    within-trans, within-more, fewer-within, one-more, name-swap, has-within}
+use Rattle.node_laws.proofs.NameLists.{Within, has-self, has-append, within-self, within-left, within-right}
+use Rattle.node_laws.proofs.NameLists.{within-trans, within-more, fewer-within, one-more, name-swap, has-within}
 use Rattle.node_laws.proofs.Planned.{names_of, changed_names}
 use Rattle.node_laws.proofs.Refusals.{rows-clear, both-none, neither, not-false}
 

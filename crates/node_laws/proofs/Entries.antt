@@ -1,8 +1,8 @@
 -- A reply that is kept and an entry with its line leave a state fit.
-use Rattle.node_laws.proofs.Vocabulary.{◌≡◌, refl, ℕ, zero, suc, ◌+◌, ◌-◌, ◌≤◌, true, List, [], ◌∷◌, ◌++◌, length,
-    drop, length-append, length-drop, add-zero, arith, ◌==◌, min, Option, Some, both_true, length-set, and_parts,
-    eq-eqb, line_limit, CallNo, Happened, Line, Reply, Kept, NodeState, newest, with_entry, with_kept, Reading,
-    places_from, IsFit}
+use Rattle.node_laws.proofs.Names.{◌≡◌, refl, ℕ, zero, suc, ◌+◌, ◌-◌, ◌≤◌, true, List, [], ◌∷◌, ◌++◌, length, drop}
+use Rattle.node_laws.proofs.Names.{length-append, length-drop, add-zero, arith, ◌==◌, min, Option, Some, both_true}
+use Rattle.node_laws.proofs.Names.{length-set, and_parts, eq-eqb, line_limit, CallNo, Happened, Line, Reply, Kept}
+use Rattle.node_laws.proofs.Names.{NodeState, newest, with_entry, with_kept, Reading, places_from, IsFit}
 
 places-append : (place : ℕ) (ls : List Line) (l : Line) → places_from place ls ≡ true → l.place ≡ place + length ls → places_from place (ls ++ l ∷ []) ≡ true
 places-append place [] l h e = both_true (eq-eqb _ _ (omega (arith, e))) refl

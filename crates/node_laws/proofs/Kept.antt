@@ -1,13 +1,15 @@
 -- What a node does leaves its state fit.
-use Rattle.node_laws.proofs.Vocabulary.{◌≡◌, refl, sym, subst, ap, ℕ, ◌+◌, ◌<◌, Bool, true, false, List, [], ◌∷◌,
-    arith, nat_lt, option_map, option_and_then, unwrap_or, if◌then◌else◌, Option, Some, None, Ordering, Greater,
-    client_limit, Bytes, CallNo, Call, Sync, TransferStart, TransferData, TransferExit, DeleteTransfer,
-    ProcessSwPackage, Activate, Finish, Rollback, RevertProcessedSwPackages, Cancel, Cluster, Entry, Numbered,
-    UnitDone, UnitLine, Answered, Refusal, Reply, Refused, Status, Processing, Activating, Verifying, RollingBack,
-    CleaningUp, Kept, NodeState, Session, of_client, all_units, parts_of, refusal, accepted, acceptance, refused_or,
-    reply_to, after_reply, judge, after_call, executed, by_order, by_last, call_no_cmp, step, with_entry, unit_of,
-    process_unit, processed, parts_of_id, Reading, verdict_for, worked, formatted, after_entry, state_after, IsNext,
-    IsLegal, IsReading, IsFit, IsInstalled, KeepsFit}
+use Rattle.node_laws.proofs.Names.{◌≡◌, refl, sym, subst, ap, ℕ, ◌+◌, ◌<◌, Bool, true, false, List, [], ◌∷◌, arith}
+use Rattle.node_laws.proofs.Names.{nat_lt, option_map, option_and_then, unwrap_or, if◌then◌else◌, Option, Some, None}
+use Rattle.node_laws.proofs.Names.{Ordering, Greater, client_limit, Bytes, CallNo, Call, Sync, TransferStart}
+use Rattle.node_laws.proofs.Names.{TransferData, TransferExit, DeleteTransfer, ProcessSwPackage, Activate, Finish}
+use Rattle.node_laws.proofs.Names.{Rollback, RevertProcessedSwPackages, Cancel, Cluster, Entry, Numbered, UnitDone}
+use Rattle.node_laws.proofs.Names.{UnitLine, Answered, Refusal, Reply, Refused, Status, Processing, Activating}
+use Rattle.node_laws.proofs.Names.{Verifying, RollingBack, CleaningUp, Kept, NodeState, Session, of_client, all_units}
+use Rattle.node_laws.proofs.Names.{parts_of, refusal, accepted, acceptance, refused_or, reply_to, after_reply, judge}
+use Rattle.node_laws.proofs.Names.{after_call, executed, by_order, by_last, call_no_cmp, step, with_entry, unit_of}
+use Rattle.node_laws.proofs.Names.{process_unit, processed, parts_of_id, Reading, verdict_for, worked, formatted}
+use Rattle.node_laws.proofs.Names.{after_entry, state_after, IsNext, IsLegal, IsReading, IsFit, IsInstalled, KeepsFit}
 use Rattle.node_laws.proofs.Refusals.{both-none}
 use Rattle.node_laws.proofs.Sessions.{Busy, busy-of, base-of}
 use Rattle.node_laws.proofs.Quiet.{processes}

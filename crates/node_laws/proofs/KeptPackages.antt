@@ -1,29 +1,33 @@
 -- The call that takes a package into processing, and the call that stops it, leave a state fit.
-use Rattle.node_laws.proofs.Vocabulary.{◌≡◌, ◌⊎◌, inl, inr, refl, sym, subst, ap, ◌∙◌, ℕ, ◌<◌, ◌≤◌, Bool, true, false,
-    List, [], ◌∷◌, ◌++◌, length, arith, ◌==◌, ◌&&◌, ◌||◌, not, nat_lt, is_some, is_none, if◌then◌else◌, map,
-    unwrap_or, option_map, IsSomeAnd, Option, Some, None, option_or, option_map_or, AllByRecursion, eqb-true, eq-eqb,
-    lt-ltb, map-append, append-nil, client_limit, cluster_limit, all_differ, names_rise, Bytes, ProcessSwPackage,
-    Cancel, Change, Part, Refusal, OperationNotPermitted, InvalidTransferId, Outcome, Old, Phase, Transferred,
-    BeingProcessed, Processed, Status, Idle, Ready, Processing, CleaningUp, NodeState, Session, Transfer, is_in,
-    has_status, some_passes, phase_code, first_refusal, cluster_of, all_units, To, Resume, status_table,
-    session_refusals, process_refusal, cancel_refusals, parts_refusal, is_wrong_tag, changes_in, applies, names_among,
-    new_session, begin_processing, stop_processing, arrive, led_by, is_of, transfer_of, header_of, parts_of, Reading,
-    SessionIsDue, should_run, LeavesOneToVerify, IsWholeFromTransferred, IsPlannedWhole, is_processed, parts_in,
-    may_plan_nothing, numbers_rise, IsFit}
+use Rattle.node_laws.proofs.Names.{◌≡◌, ◌⊎◌, inl, inr, refl, sym, subst, ap, ◌∙◌, ℕ, ◌<◌, ◌≤◌, Bool, true, false}
+use Rattle.node_laws.proofs.Names.{List, [], ◌∷◌, ◌++◌, length, arith, ◌==◌, ◌&&◌, ◌||◌, not, nat_lt, is_some}
+use Rattle.node_laws.proofs.Names.{is_none, if◌then◌else◌, map, unwrap_or, option_map, IsSomeAnd, Option, Some, None}
+use Rattle.node_laws.proofs.Names.{option_or, option_map_or, AllByRecursion, eqb-true, eq-eqb, lt-ltb, map-append}
+use Rattle.node_laws.proofs.Names.{append-nil, client_limit, cluster_limit, all_differ, names_rise, Bytes}
+use Rattle.node_laws.proofs.Names.{ProcessSwPackage, Cancel, Change, Part, Refusal, OperationNotPermitted}
+use Rattle.node_laws.proofs.Names.{InvalidTransferId, Outcome, Old, Phase, Transferred, BeingProcessed, Processed}
+use Rattle.node_laws.proofs.Names.{Status, Idle, Ready, Processing, CleaningUp, NodeState, Session, Transfer, is_in}
+use Rattle.node_laws.proofs.Names.{has_status, some_passes, phase_code, first_refusal, cluster_of, all_units, To}
+use Rattle.node_laws.proofs.Names.{Resume, status_table, session_refusals, process_refusal, cancel_refusals}
+use Rattle.node_laws.proofs.Names.{parts_refusal, is_wrong_tag, changes_in, applies, names_among, new_session}
+use Rattle.node_laws.proofs.Names.{begin_processing, stop_processing, arrive, led_by, is_of, transfer_of, header_of}
+use Rattle.node_laws.proofs.Names.{parts_of, Reading, SessionIsDue, should_run, LeavesOneToVerify}
+use Rattle.node_laws.proofs.Names.{IsWholeFromTransferred, IsPlannedWhole, is_processed, parts_in, may_plan_nothing}
+use Rattle.node_laws.proofs.Names.{numbers_rise, IsFit}
 use Rattle.node_laws.proofs.Lists.{each-append, each-first, each-imp, found-has}
 use Rattle.node_laws.proofs.NameLists.{Within, within-self, within-left, within-right, fewer-within}
 use Rattle.node_laws.proofs.Planned.{names_of, changed_names}
-use Rattle.node_laws.proofs.Changed.{ids, found, found-is, changed, each-changed, all-changed, any-changed,
-    found-changed}
-use Rattle.node_laws.proofs.Refusals.{rows-clear, both-none, neither, not-false, some-transfer, some-header,
-    is-transferred, is-processing}
+use Rattle.node_laws.proofs.Changed.{ids, found, found-is, changed, each-changed, all-changed, any-changed}
+use Rattle.node_laws.proofs.Changed.{found-changed}
+use Rattle.node_laws.proofs.Refusals.{rows-clear, both-none, neither, not-false, some-transfer, some-header}
+use Rattle.node_laws.proofs.Refusals.{is-transferred, is-processing}
 use Rattle.node_laws.proofs.Sessions.{Base, Busy, Free, InProcessing, base-of, busy-of, free-of, busy-is}
 use Rattle.node_laws.proofs.KeptSessions.{or-true, at-status}
-use Rattle.node_laws.proofs.KeptUnits.{both-in, left-in, changes-in, all_of, clusters-in, parts-in, all-in,
-    names-fewer}
+use Rattle.node_laws.proofs.KeptUnits.{both-in, left-in, changes-in, all_of, clusters-in, parts-in, all-in}
+use Rattle.node_laws.proofs.KeptUnits.{names-fewer}
 use Rattle.node_laws.proofs.Differ.{differ-first, differ-kept, each-applies, few-kept}
-use Rattle.node_laws.proofs.KeptProcessing.{rephased, names-kept, late_transferred, being_processed, read-rephased,
-    base-rephased, in-other, some-units, names-of-parts}
+use Rattle.node_laws.proofs.KeptProcessing.{rephased, names-kept, late_transferred, being_processed, read-rephased}
+use Rattle.node_laws.proofs.KeptProcessing.{base-rephased, in-other, some-units, names-of-parts}
 
 -- a session that has nothing in processing, or is about to begin
 record Waits (s : NodeState) (x : Session) : Type 0 where

@@ -1,11 +1,13 @@
 -- Processing a package: the call that begins it, a unit of it, its last unit, and the call that stops it.
-use Rattle.node_laws.proofs.Vocabulary.{◌≡◌, refl, sym, subst, ap, ◌∙◌, ℕ, ◌+◌, ◌<◌, ◌≤◌, Bool, true, false, List, [],
-    ◌∷◌, ◌++◌, length, length-append, arith, ◌==◌, ◌&&◌, ◌||◌, nat_lt, filter, find, map, Option, Some, None,
-    list_any, AllByRecursion, and_parts, eqb-true, eq-eqb, lt-ltb, both_true, map-append, append-nil, sum_by-cons,
-    filter-append, cluster_limit, all_differ, Bytes, Change, Part, Phase, Transferred, BeingProcessed, Processed,
-    Status, Ready, Processing, NodeState, Session, Transfer, is_in, some_passes, cluster_of, changes_of, units_of,
-    all_units, names_among, is_of, parts_of, in_phase, Reading, IsSound, IsWholeFromTransferred, IsPlannedWhole,
-    is_processed, PartsApply, processed, parts_of_id, IsFit, IsRead}
+use Rattle.node_laws.proofs.Names.{◌≡◌, refl, sym, subst, ap, ◌∙◌, ℕ, ◌+◌, ◌<◌, ◌≤◌, Bool, true, false, List, [], ◌∷◌}
+use Rattle.node_laws.proofs.Names.{◌++◌, length, length-append, arith, ◌==◌, ◌&&◌, ◌||◌, nat_lt, filter, find, map}
+use Rattle.node_laws.proofs.Names.{Option, Some, None, list_any, AllByRecursion, and_parts, eqb-true, eq-eqb, lt-ltb}
+use Rattle.node_laws.proofs.Names.{both_true, map-append, append-nil, sum_by-cons, filter-append, cluster_limit}
+use Rattle.node_laws.proofs.Names.{all_differ, Bytes, Change, Part, Phase, Transferred, BeingProcessed, Processed}
+use Rattle.node_laws.proofs.Names.{Status, Ready, Processing, NodeState, Session, Transfer, is_in, some_passes}
+use Rattle.node_laws.proofs.Names.{cluster_of, changes_of, units_of, all_units, names_among, is_of, parts_of}
+use Rattle.node_laws.proofs.Names.{in_phase, Reading, IsSound, IsWholeFromTransferred, IsPlannedWhole, is_processed}
+use Rattle.node_laws.proofs.Names.{PartsApply, processed, parts_of_id, IsFit, IsRead}
 use Rattle.node_laws.proofs.Lists.{each-append, each-imp, found-has}
 use Rattle.node_laws.proofs.Planned.{changed_names}
 use Rattle.node_laws.proofs.Changed.{found, found-is, changed, each-changed, all-changed, KeepsNames}

@@ -1,10 +1,11 @@
 -- Calls that move a session from one status to another leave a state fit.
-use Rattle.node_laws.proofs.Vocabulary.{◌≡◌, refl, sym, subst, ℕ, ◌≤◌, Bool, true, false, List, [], ◌++◌, length,
-    arith, ◌||◌, nat_lt, is_some, is_none, option_map, IfSome, Option, Some, None, option_map_or, cluster_limit,
-    names_rise, Bytes, Call, Cluster, Outcome, New, Old, Status, Ready, Processing, Activating, Verifying, Activated,
-    RollingBack, RolledBack, CleaningUp, NodeState, Session, has_status, first_refusal, Goal, To, CleanUp,
-    status_table, session_refusals, arrive, led_by, names_among, Reading, SessionIsDue, should_run, LeavesOneToVerify,
-    may_plan_nothing, parts_in, IsFit}
+use Rattle.node_laws.proofs.Names.{◌≡◌, refl, sym, subst, ℕ, ◌≤◌, Bool, true, false, List, [], ◌++◌, length, arith}
+use Rattle.node_laws.proofs.Names.{◌||◌, nat_lt, is_some, is_none, option_map, IfSome, Option, Some, None}
+use Rattle.node_laws.proofs.Names.{option_map_or, cluster_limit, names_rise, Bytes, Call, Cluster, Outcome, New, Old}
+use Rattle.node_laws.proofs.Names.{Status, Ready, Processing, Activating, Verifying, Activated, RollingBack}
+use Rattle.node_laws.proofs.Names.{RolledBack, CleaningUp, NodeState, Session, has_status, first_refusal, Goal, To}
+use Rattle.node_laws.proofs.Names.{CleanUp, status_table, session_refusals, arrive, led_by, names_among, Reading}
+use Rattle.node_laws.proofs.Names.{SessionIsDue, should_run, LeavesOneToVerify, may_plan_nothing, parts_in, IsFit}
 use Rattle.pm_types.specs.declared.calls.Call.TheVariants as call
 use Rattle.node_laws.proofs.Planned.{names_of}
 use Rattle.node_laws.proofs.Refusals.{rows-clear}

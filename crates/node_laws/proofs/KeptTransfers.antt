@@ -1,19 +1,21 @@
 -- The four calls on transfers leave a state fit.
-use Rattle.node_laws.proofs.Vocabulary.{◌≡◌, refl, sym, subst, ap, ◌∙◌, ℕ, ◌+◌, ◌<◌, ◌≤◌, Bool, true, false, List, [],
-    ◌∷◌, ◌++◌, length, length-append, arith, lit≤, ◌==◌, ◌||◌, not, nat_lt, nat_le, map, Option, Some, None, Ok, Err,
-    option_map_or, option_or, leb-false, ltb-false, map-append, length-map, client_limit, package_limit, block_limit,
-    transfer_limit, last_id, all_differ, Header, Phase, Transferring, Transferred, BeingProcessed, Processed,
-    NodeState, Transfer, is_in, some_passes, phase_code, cluster_of, first_refusal, Verdict, transfer_of, header_of,
-    parts_read, verdict_refusal, fresh, grown, in_phase, started, with_block, exited, deleted, start_refusals,
-    data_refusals, exit_refusals, delete_refusals, Reading, IsSound, IsWholeFromTransferred, numbers_rise, IsFit,
-    IsRead, IsReading}
-use Rattle.node_laws.proofs.Lists.{each-append, each-imp, each-map, each-filter, length-filter, rise-append,
-    rise-filter}
+use Rattle.node_laws.proofs.Names.{◌≡◌, refl, sym, subst, ap, ◌∙◌, ℕ, ◌+◌, ◌<◌, ◌≤◌, Bool, true, false, List, [], ◌∷◌}
+use Rattle.node_laws.proofs.Names.{◌++◌, length, length-append, arith, lit≤, ◌==◌, ◌||◌, not, nat_lt, nat_le, map}
+use Rattle.node_laws.proofs.Names.{Option, Some, None, Ok, Err, option_map_or, option_or, leb-false, ltb-false}
+use Rattle.node_laws.proofs.Names.{map-append, length-map, client_limit, package_limit, block_limit, transfer_limit}
+use Rattle.node_laws.proofs.Names.{last_id, all_differ, Header, Phase, Transferring, Transferred, BeingProcessed}
+use Rattle.node_laws.proofs.Names.{Processed, NodeState, Transfer, is_in, some_passes, phase_code, cluster_of}
+use Rattle.node_laws.proofs.Names.{first_refusal, Verdict, transfer_of, header_of, parts_read, verdict_refusal, fresh}
+use Rattle.node_laws.proofs.Names.{grown, in_phase, started, with_block, exited, deleted, start_refusals}
+use Rattle.node_laws.proofs.Names.{data_refusals, exit_refusals, delete_refusals, Reading, IsSound}
+use Rattle.node_laws.proofs.Names.{IsWholeFromTransferred, numbers_rise, IsFit, IsRead, IsReading}
+use Rattle.node_laws.proofs.Lists.{each-append, each-imp, each-map, each-filter, length-filter, rise-append}
+use Rattle.node_laws.proofs.Lists.{rise-filter}
 use Rattle.node_laws.proofs.Changed.{ids, found, changed, all-changed, KeepsNames, ids-changed}
 use Rattle.node_laws.proofs.Refusals.{rows-clear, both-none, neither, not-false, some-header, is-transferring}
 use Rattle.node_laws.proofs.Sessions.{Held, base-of}
-use Rattle.node_laws.proofs.Quiet.{IsEarly, transferring, transferred, quiet-consistent, quiet-started, quiet-changed,
-    quiet-deleted}
+use Rattle.node_laws.proofs.Quiet.{IsEarly, transferring, transferred, quiet-consistent, quiet-started, quiet-changed}
+use Rattle.node_laws.proofs.Quiet.{quiet-deleted}
 
 -- a transfer more
 held-started : (next client size : ℕ) (ts : List Transfer) → client < client_limit → Held next ts → nat_lt package_limit size ≡ false → nat_le transfer_limit (length ts) ≡ false → (next == last_id) ≡ false

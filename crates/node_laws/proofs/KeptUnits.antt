@@ -1,10 +1,11 @@
 -- Units of work, beside those in Processing, leave a state fit.
-use Rattle.node_laws.proofs.Vocabulary.{◌≡◌, refl, sym, subst, ap, ◌∙◌, ℕ, ◌+◌, ◌≤◌, Bool, true, false, List, [], ◌∷◌,
-    ◌++◌, length, arith, ◌||◌, not, nat_lt, if◌then◌else◌, filter, map, slice_set, Some, length-set, ltb-true,
-    map-append, cluster_limit, Bytes, Cluster, Change, Part, BeingProcessed, Processed, Idle, Activating, Verifying,
-    Activated, RollingBack, CleaningUp, NodeState, Session, Transfer, is_in, cluster_of, names_among, option_map_or,
-    names_rise, parts_of_id, activate_unit, verify_unit, roll_back_unit, clean_up_unit, end_mark, Reading, parts_in,
-    IsFit}
+use Rattle.node_laws.proofs.Names.{◌≡◌, refl, sym, subst, ap, ◌∙◌, ℕ, ◌+◌, ◌≤◌, Bool, true, false, List, [], ◌∷◌}
+use Rattle.node_laws.proofs.Names.{◌++◌, length, arith, ◌||◌, not, nat_lt, if◌then◌else◌, filter, map, slice_set}
+use Rattle.node_laws.proofs.Names.{Some, length-set, ltb-true, map-append, cluster_limit, Bytes, Cluster, Change}
+use Rattle.node_laws.proofs.Names.{Part, BeingProcessed, Processed, Idle, Activating, Verifying, Activated}
+use Rattle.node_laws.proofs.Names.{RollingBack, CleaningUp, NodeState, Session, Transfer, is_in, cluster_of}
+use Rattle.node_laws.proofs.Names.{names_among, option_map_or, names_rise, parts_of_id, activate_unit, verify_unit}
+use Rattle.node_laws.proofs.Names.{roll_back_unit, clean_up_unit, end_mark, Reading, parts_in, IsFit}
 use Rattle.node_laws.proofs.Lists.{each-append, each-imp, each-filter, each-passes, length-filter, rise-filter}
 use Rattle.node_laws.proofs.NameLists.{Within, within-self, within-left, within-right, within-trans, fewer-within}
 use Rattle.node_laws.proofs.Planned.{names_of, changed_names, planned-rise, planned-within}

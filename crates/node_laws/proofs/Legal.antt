@@ -1,7 +1,7 @@
 -- The history that calls make is legal.
-use Rattle.node_laws.proofs.Vocabulary.{◌≡◌, ◌++◌, ◌∙◌, [], ◌∷◌, Option, Some, None, refl, ap, Ordering, Greater,
-    Reached, Kept, NodeState, of_client, by_last, by_order, call_no_cmp, executed, Reading, IsLegal, verdict_for,
-    MakesLegal, entries_of, entry_of}
+use Rattle.node_laws.proofs.Names.{◌≡◌, ◌++◌, ◌∙◌, [], ◌∷◌, Option, Some, None, refl, ap, Ordering, Greater, Reached}
+use Rattle.node_laws.proofs.Names.{Kept, NodeState, of_client, by_last, by_order, call_no_cmp, executed, Reading}
+use Rattle.node_laws.proofs.Names.{IsLegal, verdict_for, MakesLegal, entries_of, entry_of}
 
 module _ (read : Reading) where
   pub makes-legal : MakesLegal read

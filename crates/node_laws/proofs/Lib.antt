@@ -1,4 +1,4 @@
-pub mod Vocabulary
+pub mod Names
 pub mod Lists
 pub mod NameLists
 pub mod Planned

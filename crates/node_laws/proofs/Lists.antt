@@ -1,6 +1,7 @@
 -- Facts of each element of a list, searches, and rising numbers.
-use Rattle.node_laws.proofs.Vocabulary.{◌≡◌, refl, ℕ, ◌<◌, ◌≤◌, Bool, true, false, List, [], ◌∷◌, ◌++◌, length, arith,
-    cond, find, filter, map, nat_lt, Some, list_any, AllByRecursion, both_true, and_parts, ltb-true, numbers_rise}
+use Rattle.node_laws.proofs.Names.{◌≡◌, refl, ℕ, ◌<◌, ◌≤◌, Bool, true, false, List, [], ◌∷◌, ◌++◌, length, arith}
+use Rattle.node_laws.proofs.Names.{cond, find, filter, map, nat_lt, Some, list_any, AllByRecursion, both_true}
+use Rattle.node_laws.proofs.Names.{and_parts, ltb-true, numbers_rise}
 
 pub each-append : {X : Type 0} (P : X → Type 0) (xs ys : List X) → AllByRecursion P xs → AllByRecursion P ys → AllByRecursion P (xs ++ ys)
 each-append P [] ys h k = k

@@ -1,7 +1,8 @@
 -- Lists of names: which are different, and which rise.
-use Rattle.node_laws.proofs.Vocabulary.{◌≡◌, refl, sym, ap, ◌∙◌, ℕ, ◌+◌, ◌≤◌, Bool, true, false, List, [], ◌∷◌, ◌++◌,
-    length, arith, ◌||◌, not, cond, filter, map, AllByRecursion, bytes_eq, nat_cmp, is_lt, slice_cmp, Ordering, Less,
-    nat_list_cmp_total, bytes_eq-Decides, and_parts, name_lt, has_name, different_names, names_rise}
+use Rattle.node_laws.proofs.Names.{◌≡◌, refl, sym, ap, ◌∙◌, ℕ, ◌+◌, ◌≤◌, Bool, true, false, List, [], ◌∷◌, ◌++◌}
+use Rattle.node_laws.proofs.Names.{length, arith, ◌||◌, not, cond, filter, map, AllByRecursion, bytes_eq, nat_cmp}
+use Rattle.node_laws.proofs.Names.{is_lt, slice_cmp, Ordering, Less, nat_list_cmp_total, bytes_eq-Decides, and_parts}
+use Rattle.node_laws.proofs.Names.{name_lt, has_name, different_names, names_rise}
 use Rattle.node_laws.proofs.Lists.{each-append, each-imp, each-both, each-map, each-unmap, each-filter}
 
 pub name-eq : (a b : List ℕ) → bytes_eq a b ≡ true → a ≡ b

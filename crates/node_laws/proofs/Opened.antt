@@ -1,6 +1,6 @@
 -- A node without a session stays fit with other clusters.
-use Rattle.node_laws.proofs.Vocabulary.{subst, List, Option, Some, None, Bytes, Cluster, NodeState, Session, Reading,
-    IsFit, IsInstalled}
+use Rattle.node_laws.proofs.Names.{subst, List, Option, Some, None, Bytes, Cluster, NodeState, Session, Reading}
+use Rattle.node_laws.proofs.Names.{IsFit, IsInstalled}
 use Rattle.node_laws.proofs.Sessions.{base-of, free-of, free-is, by-session}
 
 -- what runs where a node without a session is opened with these clusters

@@ -1,10 +1,10 @@
 -- Planned changes leave clusters in order of name, and bring no other names than their own.
-use Rattle.node_laws.proofs.Vocabulary.{arith, ◌≡◌, sym, ap, subst, ◌∙◌, ℕ, Bool, true, List, [], ◌∷◌, ◌++◌, not,
-    filter, map, bytes_eq, map-append, Action, Remove, name_lt, names_rise, Bytes, Change, Cluster, Part, cluster_of,
-    with_cluster, brought, changed_as, changed_by, planned}
+use Rattle.node_laws.proofs.Names.{arith, ◌≡◌, sym, ap, subst, ◌∙◌, ℕ, Bool, true, List, [], ◌∷◌, ◌++◌, not, filter}
+use Rattle.node_laws.proofs.Names.{map, bytes_eq, map-append, Action, Remove, name_lt, names_rise, Bytes, Change}
+use Rattle.node_laws.proofs.Names.{Cluster, Part, cluster_of, with_cluster, brought, changed_as, changed_by, planned}
 use Rattle.node_laws.proofs.Lists.{each-append, each-map, each-unmap, each-filter, each-passes}
-use Rattle.node_laws.proofs.NameLists.{Within, within-self, within-more, within-left, within-right, within-trans,
-    has-self, names-onto, names-around, names-filter}
+use Rattle.node_laws.proofs.NameLists.{Within, within-self, within-more, within-left, within-right, within-trans}
+use Rattle.node_laws.proofs.NameLists.{has-self, names-onto, names-around, names-filter}
 
 abbrev pub names_of : List (Cluster Bytes) → List (List ℕ)
 names_of cs = map (λ c. c.name) cs

@@ -1,7 +1,7 @@
 -- What a call that isn't refused shows.
-use Rattle.node_laws.proofs.Vocabulary.{arith, ◌≡◌, refl, Bool, true, false, List, [], ◌∷◌, not, ◌||◌, is_none,
-    Option, Some, None, AllByRecursion, option_or, Header, Refusal, Transferring, Transferred, BeingProcessed,
-    Transfer, is_in, first_refusal, header_of}
+use Rattle.node_laws.proofs.Names.{arith, ◌≡◌, refl, Bool, true, false, List, [], ◌∷◌, not, ◌||◌, is_none, Option}
+use Rattle.node_laws.proofs.Names.{Some, None, AllByRecursion, option_or, Header, Refusal, Transferring, Transferred}
+use Rattle.node_laws.proofs.Names.{BeingProcessed, Transfer, is_in, first_refusal, header_of}
 
 -- no test of a table that doesn't refuse holds
 pub rows-clear : (rows : List (Bool × Refusal)) → first_refusal rows ≡ None → AllByRecursion (λ row. row.0 ≡ false) rows

@@ -1,10 +1,12 @@
 -- A consistent state, by whether it has a session.
-use Rattle.node_laws.proofs.Vocabulary.{arith, ◌≡◌, refl, subst, ℕ, ◌-◌, ◌<◌, ◌≤◌, true, false, List, [], ◌++◌,
-    length, ◌==◌, min, option_and_then, Option, Some, None, IfSome, IsSomeAnd, is_some, find, map, option_map_or,
-    AllByRecursion, client_limit, cluster_limit, transfer_limit, package_limit, last_id, line_limit, names_rise,
-    Bytes, Status, Idle, Processing, CleaningUp, BeingProcessed, Processed, NodeState, Session, Transfer, is_in,
-    has_status, some_passes, all_units, names_among, is_of, IsConsistent, SessionIsDue, should_run, ChangesAreOf,
-    ChangesAreDue, PartsApply, parts_in, LeavesOneToVerify, IsSound, numbers_rise, places_from}
+use Rattle.node_laws.proofs.Names.{arith, ◌≡◌, refl, subst, ℕ, ◌-◌, ◌<◌, ◌≤◌, true, false, List, [], ◌++◌, length}
+use Rattle.node_laws.proofs.Names.{◌==◌, min, option_and_then, Option, Some, None, IfSome, IsSomeAnd, is_some, find}
+use Rattle.node_laws.proofs.Names.{map, option_map_or, AllByRecursion, client_limit, cluster_limit, transfer_limit}
+use Rattle.node_laws.proofs.Names.{package_limit, last_id, line_limit, names_rise, Bytes, Status, Idle, Processing}
+use Rattle.node_laws.proofs.Names.{CleaningUp, BeingProcessed, Processed, NodeState, Session, Transfer, is_in}
+use Rattle.node_laws.proofs.Names.{has_status, some_passes, all_units, names_among, is_of, IsConsistent, SessionIsDue}
+use Rattle.node_laws.proofs.Names.{should_run, ChangesAreOf, ChangesAreDue, PartsApply, parts_in, LeavesOneToVerify}
+use Rattle.node_laws.proofs.Names.{IsSound, numbers_rise, places_from}
 use Rattle.node_laws.proofs.Planned.{names_of}
 
 -- the transfers, where ids below the next one were given

@@ -1,10 +1,11 @@
 -- What the node is at each stage of the rounds: kept by foreign calls and units, and led on by the stage's call. From the laws of a node alone.
-use Rattle.world.proofs.Vocabulary.{arith, ◌≡◌, ◌≢◌, ◌⊎◌, inl, inr, ℕ, zero, suc, List, [], ◌∷◌, ◌++◌, length, take,
-    drop, Some, None, Bool, refl, sym, ◌∙◌, ap, subst, append_assoc, Contains, flat_map, take-append-drop, append-nil,
-    Contains-push, Contains-append_left, flat_map-append, Refusal, Processing, CleaningUp, Call, Reply, Sync,
-    TransferStart, TransferData, TransferExit, ProcessSwPackage, Activate, Done, Started, Refused, is_working, Stage,
-    At_sync, At_start, At_data, At_process, At_activate, Over, Refused_once, call_at, onward, next_package,
-    next_processed}
+use Rattle.world.proofs.Names.{arith, ◌≡◌, ◌≢◌, ◌⊎◌, inl, inr, ℕ, zero, suc, List, [], ◌∷◌, ◌++◌, length, take, drop}
+use Rattle.world.proofs.Names.{Some, None, Bool, refl, sym, ◌∙◌, ap, subst, append_assoc, Contains, flat_map}
+use Rattle.world.proofs.Names.{take-append-drop, append-nil, Contains-push, Contains-append_left, flat_map-append}
+use Rattle.world.proofs.Names.{Refusal, Processing, CleaningUp, Call, Reply, Sync, TransferStart, TransferData}
+use Rattle.world.proofs.Names.{TransferExit, ProcessSwPackage, Activate, Done, Started, Refused, is_working, Stage}
+use Rattle.world.proofs.Names.{At_sync, At_start, At_data, At_process, At_activate, Over, Refused_once, call_at}
+use Rattle.world.proofs.Names.{onward, next_package, next_processed}
 use Rattle.world.proofs.Rules.{NodeRules, NodeLaws, KeepsSession, KeepsTransfers}
 use Rattle.world.proofs.EarlyFacts.{Hold, Apart, Has, Sends, Fills, Activates, IsAt}
 

@@ -1,10 +1,12 @@
 -- Laws of the real node: what is kept, what a refusal leaves, Sync, and the calls on a session.
-use Rattle.world.proofs.Vocabulary.{nat_tests, ◌≡◌, ◌⊎◌, inl, inr, ℕ, List, [], ◌∷◌, Option, Some, None, Bool, true,
-    false, refl, sym, ◌∙◌, ap, arith, ◌==◌, not, option_map, option_and_then, if◌then◌else◌, option_or, option_map_or,
-    eqb-true, get_or-set_same, CallNo, Bytes, SessionMark, Refusal, Cluster, Status, Idle, Kept, NodeState, Session,
-    of_client, first_refusal, Verdict, ids_of, judge, reply_to, refusal, accepted, refused_or, Reading, verdict_for,
-    formatted, IsConsistent, SessionIsDue, Call, Shown, Reply, Sync, TransferStart, TransferData, TransferExit,
-    DeleteTransfer, ProcessSwPackage, Activate, Finish, Rollback, Revert, Done, Started, Synced, Refused, is_status}
+use Rattle.world.proofs.Names.{nat_tests, ◌≡◌, ◌⊎◌, inl, inr, ℕ, List, [], ◌∷◌, Option, Some, None, Bool, true, false}
+use Rattle.world.proofs.Names.{refl, sym, ◌∙◌, ap, arith, ◌==◌, not, option_map, option_and_then, if◌then◌else◌}
+use Rattle.world.proofs.Names.{option_or, option_map_or, eqb-true, get_or-set_same, CallNo, Bytes, SessionMark}
+use Rattle.world.proofs.Names.{Refusal, Cluster, Status, Idle, Kept, NodeState, Session, of_client, first_refusal}
+use Rattle.world.proofs.Names.{Verdict, ids_of, judge, reply_to, refusal, accepted, refused_or, Reading, verdict_for}
+use Rattle.world.proofs.Names.{formatted, IsConsistent, SessionIsDue, Call, Shown, Reply, Sync, TransferStart}
+use Rattle.world.proofs.Names.{TransferData, TransferExit, DeleteTransfer, ProcessSwPackage, Activate, Finish}
+use Rattle.world.proofs.Names.{Rollback, Revert, Done, Started, Synced, Refused, is_status}
 use Rattle.pm_types.specs.declared.calls.Call.TheVariants as call
 use Rattle.pm_types.specs.declared.replies.Reply.TheVariants as reply
 use Rattle.world.proofs.Rules.{shown_of as seen_of, shown_session, KeepsSession, KeepsTransfers}

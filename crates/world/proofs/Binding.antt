@@ -1,6 +1,7 @@
 -- The world's delivery of a call of the master is the node's step: Stale, Again, or judged, kept and entered.
-use Rattle.world.proofs.Vocabulary.{◌≡◌, ◌<◌, List, true, false, arith, Ordering, Less, Equal, Greater, CallNo, Bytes,
-    Cluster, NodeState, step, executed, call_no_cmp, Reading, verdict_for, Call, Reached, no_lt, no_eq}
+use Rattle.world.proofs.Names.{◌≡◌, ◌<◌, List, true, false, arith, Ordering, Less, Equal, Greater, CallNo, Bytes}
+use Rattle.world.proofs.Names.{Cluster, NodeState, step, executed, call_no_cmp, Reading, verdict_for, Call, Reached}
+use Rattle.world.proofs.Names.{no_lt, no_eq}
 use Rattle.world.proofs.Rules.{delivered, reached as world_reached}
 use Rattle.world.proofs.Instance.{judged_in, kept_after, real}
 

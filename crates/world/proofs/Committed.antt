@@ -1,7 +1,8 @@
 -- From the decision Commit on: a session that is Activated for the campaign ends as New, once.
-use Rattle.world.proofs.Vocabulary.{arith, ◌≡◌, ◌⊎◌, inl, inr, if◌then◌else◌, ◌&&◌, ◌||◌, ℕ, List, [], ◌∷◌, Option,
-    Some, Bool, true, false, refl, sym, ◌∙◌, subst, New, Status, Activated, CleaningUp, Commit, Call, Sync,
-    DeleteTransfer, Finish, is_status, Message, is_sync, end_call_at, delete_at}
+use Rattle.world.proofs.Names.{arith, ◌≡◌, ◌⊎◌, inl, inr, if◌then◌else◌, ◌&&◌, ◌||◌, ℕ, List, [], ◌∷◌, Option, Some}
+use Rattle.world.proofs.Names.{Bool, true, false, refl, sym, ◌∙◌, subst, New, Status, Activated, CleaningUp, Commit}
+use Rattle.world.proofs.Names.{Call, Sync, DeleteTransfer, Finish, is_status, Message, is_sync, end_call_at}
+use Rattle.world.proofs.Names.{delete_at}
 use Rattle.world.proofs.Rules.{NodeRules, NodeLaws, KeepsSession}
 use Rattle.world.proofs.RulesWorld.{Move, Delivered, Foreign, Unit_done, after}
 use Rattle.world.proofs.RulesLaw.{Spans, spans, begins_span, IsNew}

@@ -1,8 +1,9 @@
 -- What every event keeps of the half for successful campaigns, from the decision Commit on.
-use Rattle.world.proofs.Vocabulary.{arith, ◌≡◌, ◌≢◌, ◌⊎◌, inl, inr, ◌&&◌, ◌++◌, ℕ, ◌≤◌, List, [], ◌∷◌, Option, Some,
-    None, Bool, true, false, is_some, refl, sym, ◌∙◌, ap, subst, nat_tests, flat_map, Idle, Decision, Commit,
-    CampaignResult, Successful, Fold, Current, flag_of, all_ended, is_result_of, Call, IsBelow, is_status, Message,
-    Told, InSent, Packages, last_status, last_shown, next_number, MaySend, MaySendBy, MaySendLate, has_tag}
+use Rattle.world.proofs.Names.{arith, ◌≡◌, ◌≢◌, ◌⊎◌, inl, inr, ◌&&◌, ◌++◌, ℕ, ◌≤◌, List, [], ◌∷◌, Option, Some, None}
+use Rattle.world.proofs.Names.{Bool, true, false, is_some, refl, sym, ◌∙◌, ap, subst, nat_tests, flat_map, Idle}
+use Rattle.world.proofs.Names.{Decision, Commit, CampaignResult, Successful, Fold, Current, flag_of, all_ended}
+use Rattle.world.proofs.Names.{is_result_of, Call, IsBelow, is_status, Message, Told, InSent, Packages, last_status}
+use Rattle.world.proofs.Names.{last_shown, next_number, MaySend, MaySendBy, MaySendLate, has_tag}
 use Rattle.world.proofs.Rules.{NodeRules, NodeLaws, reached, delivered}
 use Rattle.world.proofs.RulesWorld.{Delivered, Foreign, Unit_done, NodeWorld, state_of}
 use Rattle.world.proofs.RulesLaw.{begins_span, is_fresh_done, IsNew, InEarlier}
@@ -10,8 +11,8 @@ use Rattle.world.proofs.Invariant.{Executable, KeptOld, KeptFold}
 use Rattle.world.proofs.Events.{begins-mine, and-left}
 use Rattle.world.proofs.Parts.{flagged-ended}
 use Rattle.world.proofs.Records.{SameFold, some-inj, in-append}
-use Rattle.world.proofs.Committed.{IsCalm, late-commit, IsWaiting, waiting-foreign, waiting-delivered, waiting-unit,
-    new-foreign, new-unit, new-delivered}
+use Rattle.world.proofs.Committed.{IsCalm, late-commit, IsWaiting, waiting-foreign, waiting-delivered, waiting-unit}
+use Rattle.world.proofs.Committed.{new-foreign, new-unit, new-delivered}
 
 bool-cases : (b : Bool) → (b ≡ true → ⊥) → b ≡ false
 bool-cases true f = absurd (f refl)

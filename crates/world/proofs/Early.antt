@@ -1,26 +1,29 @@
 -- Before the decision: every event of the world keeps it, and at Decide Commit each named node is ready.
-use Rattle.world.proofs.Vocabulary.{◌≡◌, ◌≢◌, ◌⊎◌, inl, inr, if◌then◌else◌, not, ◌+◌, ℕ, List, [], ◌∷◌, Option, Some,
-    None, Bool, true, false, is_some, is_none, nat_eq, nat_le, refl, sym, ◌∙◌, ap, subst, arith, eqb-true, eqb_tells,
-    NodeId, Outcome, Activated, NodeSet, Vote, Decision, Commit, CampaignResult, MasterEvent, Start, Begin, VoteOf,
-    Decide, EndedAt, Enter, Fold, Current, flag_of, nothing_yet, vote_of, end_of, all_below, may_begin, in_current,
-    refusal_of, changed, changed_in, after_event, entered, begun, Call, Reply, Reached, Stale, Again, Fresh, Message,
-    Answered, Showed, InSent, nth_sent, answer_of, Packages, showed_after_activate, MaySend, campaign_of, decided_of,
-    next_number, EndEvidence, InCurrent, VoteEvidence}
+use Rattle.world.proofs.Names.{◌≡◌, ◌≢◌, ◌⊎◌, inl, inr, if◌then◌else◌, not, ◌+◌, ℕ, List, [], ◌∷◌, Option, Some, None}
+use Rattle.world.proofs.Names.{Bool, true, false, is_some, is_none, nat_eq, nat_le, refl, sym, ◌∙◌, ap, subst, arith}
+use Rattle.world.proofs.Names.{eqb-true, eqb_tells, NodeId, Outcome, Activated, NodeSet, Vote, Decision, Commit}
+use Rattle.world.proofs.Names.{CampaignResult, MasterEvent, Start, Begin, VoteOf, Decide, EndedAt, Enter, Fold}
+use Rattle.world.proofs.Names.{Current, flag_of, nothing_yet, vote_of, end_of, all_below, may_begin, in_current}
+use Rattle.world.proofs.Names.{refusal_of, changed, changed_in, after_event, entered, begun, Call, Reply, Reached}
+use Rattle.world.proofs.Names.{Stale, Again, Fresh, Message, Answered, Showed, InSent, nth_sent, answer_of, Packages}
+use Rattle.world.proofs.Names.{showed_after_activate, MaySend, campaign_of, decided_of, next_number, EndEvidence}
+use Rattle.world.proofs.Names.{InCurrent, VoteEvidence}
 use Rattle.world.proofs.Parts.{part-other, part-with, flagged-ended}
 use Rattle.world.proofs.Rules.{NodeRules, NodeLaws, reached}
-use Rattle.world.proofs.RulesWorld.{Delivered, Foreign, Unit_done, NodeWorld, World, state_of, Event, Deliver,
-    Foreign_calls, Unit_comes, Send, Record, Restart, Evidence, Allowed, with_node, emptied, deliver_to, recorded,
-    happens, opened_world}
+use Rattle.world.proofs.RulesWorld.{Delivered, Foreign, Unit_done, NodeWorld, World, state_of, Event, Deliver}
+use Rattle.world.proofs.RulesWorld.{Foreign_calls, Unit_comes, Send, Record, Restart, Evidence, Allowed, with_node}
+use Rattle.world.proofs.RulesWorld.{emptied, deliver_to, recorded, happens, opened_world}
 use Rattle.world.proofs.Invariant.{InPresent, KeptOld, KeptFold}
 use Rattle.world.proofs.EarlyFacts.{KeptEarly, KeptLive}
 use Rattle.world.proofs.Records.{SameAt, SameFold, some-inj, none-some, and-both, present-forth}
-use Rattle.world.proofs.OldLaw.{WorldKept, nth-in, unless-true, start-same, same-fold, same-refl, reply-facts,
-    kept-send}
+use Rattle.world.proofs.OldLaw.{WorldKept, nth-in, unless-true, start-same, same-fold, same-refl, reply-facts}
+use Rattle.world.proofs.OldLaw.{kept-send}
 use Rattle.world.proofs.CommittedEvents.{IsReadyToCommit}
 use Rattle.world.proofs.NewLaw.{Early}
-use Rattle.world.proofs.EarlyEvents.{early-answered-event, early-begin, early-deliver, early-fold,
-    early-foreign-event, early-no, early-send, early-showed-event, early-unit-event, last-facts, live-deliver,
-    live-ended, live-fold, live-foreign, live-send, live-told, live-unit, next-exec, ready-node}
+use Rattle.world.proofs.EarlyEvents.{early-answered-event, early-begin, early-deliver, early-fold}
+use Rattle.world.proofs.EarlyEvents.{early-foreign-event, early-no, early-send, early-showed-event, early-unit-event}
+use Rattle.world.proofs.EarlyEvents.{last-facts, live-deliver, live-ended, live-fold, live-foreign, live-send}
+use Rattle.world.proofs.EarlyEvents.{live-told, live-unit, next-exec, ready-node}
 
 module _ (N : NodeRules) (laws : NodeLaws N) (packages : Packages) (numbers : List ℕ) where
   -- all nodes

@@ -1,9 +1,10 @@
 -- Before the decision: what client 0's own entries of a node are, what the node is at each stage of them, and what every event keeps.
-use Rattle.world.proofs.Vocabulary.{◌≡◌, ◌≢◌, ◌⊎◌, ℕ, zero, suc, List, [], ◌∷◌, ◌++◌, Option, Some, None, Bool, true,
-    false, not, ◌&&◌, nat_eq, Ready, Processing, Activating, Verifying, Activated, RollingBack, RolledBack, Fold,
-    Current, vote_of, Reply, Reached, Sync, Fresh, IsBelow, Message, Told, InSent, told_reply, Stage, At_sync,
-    At_start, At_data, At_process, At_activate, Over, Refused_once, call_at, onward, Packages, activate_done,
-    showed_after_activate}
+use Rattle.world.proofs.Names.{◌≡◌, ◌≢◌, ◌⊎◌, ℕ, zero, suc, List, [], ◌∷◌, ◌++◌, Option, Some, None, Bool, true}
+use Rattle.world.proofs.Names.{false, not, ◌&&◌, nat_eq, Ready, Processing, Activating, Verifying, Activated}
+use Rattle.world.proofs.Names.{RollingBack, RolledBack, Fold, Current, vote_of, Reply, Reached, Sync, Fresh, IsBelow}
+use Rattle.world.proofs.Names.{Message, Told, InSent, told_reply, Stage, At_sync, At_start, At_data, At_process}
+use Rattle.world.proofs.Names.{At_activate, Over, Refused_once, call_at, onward, Packages, activate_done}
+use Rattle.world.proofs.Names.{showed_after_activate}
 use Rattle.campaign_core.specs.declared.events.Vote.TheVariants as Vote
 use Rattle.world.proofs.Rules.{NodeRules, reached}
 use Rattle.world.proofs.RulesWorld.{Move, Delivered, Foreign, Unit_done, NodeWorld, after, state_of}

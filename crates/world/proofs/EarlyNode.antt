@@ -1,14 +1,15 @@
 -- What one node's part of the time before the decision keeps under each event.
-use Rattle.world.proofs.Vocabulary.{nat_tests, arith, ◌≡◌, ◌≢◌, ◌⊎◌, inl, inr, if◌then◌else◌, ◌&&◌, ◌||◌, not, ◌++◌,
-    ℕ, List, [], ◌∷◌, Option, Some, None, Bool, true, false, is_some, nat_eq, refl, sym, ◌∙◌, ap, subst, eqb-true,
-    eq-eqb, CallNo, Status, Activated, Call, Reply, Sync, Activate, Done, IsBelow, no_eq, Message, Told, Answered,
-    Showed, InSent, InTold, told_reply, is_told, is_activate, is_done, Stage, At_sync, At_activate, Over,
-    Refused_once, call_at, onward, stage_of, one_if, replies_of, activate_done, showed_after_activate}
+use Rattle.world.proofs.Names.{nat_tests, arith, ◌≡◌, ◌≢◌, ◌⊎◌, inl, inr, if◌then◌else◌, ◌&&◌, ◌||◌, not, ◌++◌, ℕ}
+use Rattle.world.proofs.Names.{List, [], ◌∷◌, Option, Some, None, Bool, true, false, is_some, nat_eq, refl, sym, ◌∙◌}
+use Rattle.world.proofs.Names.{ap, subst, eqb-true, eq-eqb, CallNo, Status, Activated, Call, Reply, Sync, Activate}
+use Rattle.world.proofs.Names.{Done, IsBelow, no_eq, Message, Told, Answered, Showed, InSent, InTold, told_reply}
+use Rattle.world.proofs.Names.{is_told, is_activate, is_done, Stage, At_sync, At_activate, Over, Refused_once}
+use Rattle.world.proofs.Names.{call_at, onward, stage_of, one_if, replies_of, activate_done, showed_after_activate}
 use Rattle.world.proofs.Rules.{NodeRules, NodeLaws, reached, delivered}
 use Rattle.world.proofs.RulesLaw.{Span}
 use Rattle.world.proofs.Invariant.{Executable}
-use Rattle.world.proofs.EarlyFacts.{ClientEntry, judged, with_entry, InEntries, stage_after, Follows, IsAt, AllDone,
-    OneWaits, AllTold, OlderTold, EarlyAt}
+use Rattle.world.proofs.EarlyFacts.{ClientEntry, judged, with_entry, InEntries, stage_after, Follows, IsAt, AllDone}
+use Rattle.world.proofs.EarlyFacts.{OneWaits, AllTold, OlderTold, EarlyAt}
 use Rattle.world.proofs.Events.{below-irrefl}
 use Rattle.world.proofs.AtRounds.{at-foreign, at-unit, at-keep, at-judge}
 

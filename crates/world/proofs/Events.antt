@@ -1,18 +1,19 @@
 -- What deliveries, foreign calls and units keep of the invariant.
-use Rattle.world.proofs.Vocabulary.{◌≡◌, ◌≢◌, ◌⊎◌, inl, inr, if◌then◌else◌, ◌&&◌, ◌||◌, ℕ, ◌<◌, List, [], ◌∷◌, Option,
-    Some, None, Bool, true, false, is_some, nat_eq, nat_lt, refl, sym, ◌∙◌, ap, subst, arith, nat_tests, CallNo,
-    Status, Idle, Processing, Activating, Verifying, RollingBack, RolledBack, CleaningUp, Decision, Commit, Abort,
-    Fold, Current, Call, Reply, ProcessSwPackage, Finish, Synced, IsBelow, no_lt, no_eq, is_status, Message, Told,
-    Answered, Showed, InSent, InTold, is_working, session_status, is_end_sync, shown_if, or_else, status_if,
-    status_of_shown, last_shown, last_status, has_tag}
+use Rattle.world.proofs.Names.{◌≡◌, ◌≢◌, ◌⊎◌, inl, inr, if◌then◌else◌, ◌&&◌, ◌||◌, ℕ, ◌<◌, List, [], ◌∷◌, Option}
+use Rattle.world.proofs.Names.{Some, None, Bool, true, false, is_some, nat_eq, nat_lt, refl, sym, ◌∙◌, ap, subst}
+use Rattle.world.proofs.Names.{arith, nat_tests, CallNo, Status, Idle, Processing, Activating, Verifying, RollingBack}
+use Rattle.world.proofs.Names.{RolledBack, CleaningUp, Decision, Commit, Abort, Fold, Current, Call, Reply}
+use Rattle.world.proofs.Names.{ProcessSwPackage, Finish, Synced, IsBelow, no_lt, no_eq, is_status, Message, Told}
+use Rattle.world.proofs.Names.{Answered, Showed, InSent, InTold, is_working, session_status, is_end_sync, shown_if}
+use Rattle.world.proofs.Names.{or_else, status_if, status_of_shown, last_shown, last_status, has_tag}
 use Rattle.world.proofs.Rules.{NodeRules, NodeLaws, delivered, reached}
 use Rattle.world.proofs.RulesWorld.{Move, Delivered, Foreign, Unit_done, NodeWorld, step, state_of}
 use Rattle.world.proofs.RulesLaw.{Span, Spans, spans, is_fresh_done, begins_span, EachEnded}
-use Rattle.world.proofs.Invariant.{IsRolledBack, EndsOld, KeptHolds, Executable, NoneEarly, InPresent, NotCommit,
-    KeptOld, KeptFold}
-use Rattle.world.proofs.NodeLemmas.{rolled-keeps, ends_old-keeps, rolled-foreign, ends_old-foreign, rolled-unit,
-    ends_old-unit, kept-foreign, kept-unit, kept-delivered, delivered-cases, none-judge, some-judge, some-delivered,
-    rolled-judge, ends_old-judge, cleaned}
+use Rattle.world.proofs.Invariant.{IsRolledBack, EndsOld, KeptHolds, Executable, NoneEarly, InPresent, NotCommit}
+use Rattle.world.proofs.Invariant.{KeptOld, KeptFold}
+use Rattle.world.proofs.NodeLemmas.{rolled-keeps, ends_old-keeps, rolled-foreign, ends_old-foreign, rolled-unit}
+use Rattle.world.proofs.NodeLemmas.{ends_old-unit, kept-foreign, kept-unit, kept-delivered, delivered-cases}
+use Rattle.world.proofs.NodeLemmas.{none-judge, some-judge, some-delivered, rolled-judge, ends_old-judge, cleaned}
 
 -- order of numbers
 pub below-trans : (a b c : CallNo) → IsBelow a b → IsBelow b c → IsBelow a c

@@ -1,12 +1,14 @@
 -- The node of the tables meets the world's laws, where every step keeps a state valid; and so the law of campaigns holds of it.
-use Rattle.world.proofs.Vocabulary.{arith, ◌≡◌, ◌≢◌, ◌⊎◌, inl, inr, ℕ, List, [], ◌∷◌, ◌++◌, Some, None, Bool, false,
-    refl, sym, ap, subst, Contains, Bytes, Cluster, Refusal, Outcome, New, Old, Idle, Ready, Processing, Activating,
-    Verifying, Activated, RollingBack, RolledBack, CleaningUp, NodeState, is_working, ids_of, parts_read, Reading,
-    id_in_processing, Call, Reply, TransferStart, TransferData, TransferExit, DeleteTransfer, ProcessSwPackage,
-    Activate, Finish, Rollback, Revert, Cancel, Done, Synced, Refused}
+use Rattle.world.proofs.Names.{arith, ◌≡◌, ◌≢◌, ◌⊎◌, inl, inr, ℕ, List, [], ◌∷◌, ◌++◌, Some, None, Bool, false, refl}
+use Rattle.world.proofs.Names.{sym, ap, subst, Contains, Bytes, Cluster, Refusal, Outcome, New, Old, Idle, Ready}
+use Rattle.world.proofs.Names.{Processing, Activating, Verifying, Activated, RollingBack, RolledBack, CleaningUp}
+use Rattle.world.proofs.Names.{NodeState, is_working, ids_of, parts_read, Reading, id_in_processing, Call, Reply}
+use Rattle.world.proofs.Names.{TransferStart, TransferData, TransferExit, DeleteTransfer, ProcessSwPackage, Activate}
+use Rattle.world.proofs.Names.{Finish, Rollback, Revert, Cancel, Done, Synced, Refused}
 use Rattle.world.proofs.Rules.{NodeRules, NodeLaws, KeepsSession, KeepsTransfers}
-use Rattle.world.proofs.Instance.{last_in, kept_in, mine_in, planned_in, outcome_in, BringsIn, LeavesIn, ended_in,
-    received_in, judged_in, kept_after, Outside, Opens, Calls, opened_in, outside_in, unit_in, real}
+use Rattle.world.proofs.Instance.{last_in, kept_in, mine_in, planned_in, outcome_in, BringsIn, LeavesIn, ended_in}
+use Rattle.world.proofs.Instance.{received_in, judged_in, kept_after, Outside, Opens, Calls, opened_in, outside_in}
+use Rattle.world.proofs.Instance.{unit_in, real}
 use Rattle.world.proofs.FitNode.{KeepsNode, FitState, fit_after, fit_unit, fit}
 use Rattle.world.proofs.Basics as basics
 use Rattle.world.proofs.Sessions as sessions

@@ -1,9 +1,10 @@
 -- The node of the tables over its fit states: the node of the world.
-use Rattle.world.proofs.Vocabulary.{List, Bool, true, false, Bytes, Part, Cluster, NodeState, is_working, ids_of,
-    parts_read, Reading, formatted, id_in_processing, IsFit, Call, Reply, Synced, Refused, CallNo}
+use Rattle.world.proofs.Names.{List, Bool, true, false, Bytes, Part, Cluster, NodeState, is_working, ids_of}
+use Rattle.world.proofs.Names.{parts_read, Reading, formatted, id_in_processing, IsFit, Call, Reply, Synced, Refused}
+use Rattle.world.proofs.Names.{CallNo}
 use Rattle.world.proofs.Rules.{NodeRules}
-use Rattle.world.proofs.Instance.{Outside, last_in, kept_in, mine_in, owner_in, planned_in, outcome_in, ended_in,
-    received_in, judged_in, kept_after, outside_in, unit_in, BringsIn, LeavesIn}
+use Rattle.world.proofs.Instance.{Outside, last_in, kept_in, mine_in, owner_in, planned_in, outcome_in, ended_in}
+use Rattle.world.proofs.Instance.{received_in, judged_in, kept_after, outside_in, unit_in, BringsIn, LeavesIn}
 
 -- every step of the tables keeps a state fit
 pub record KeepsNode (read : Reading) (clusters : List (Cluster Bytes)) : Type 0 where

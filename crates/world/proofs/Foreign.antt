@@ -1,8 +1,8 @@
 -- Laws of the real node: calls of other clients, and units where client 0 has no session.
-use Rattle.world.proofs.Vocabulary.{nat_tests, eqb_tells, ◌≡◌, inl, inr, ℕ, suc, List, Option, Some, None, false,
-    refl, ◌∙◌, ap, arith, ◌==◌, option_and_then, slice_set, option_map_or, eqb-true, get_or-set_other, Bytes, Call,
-    Cluster, Kept, NodeState, Session, of_client, Verdict, judge, reply_to, after_call, accepted, Reading,
-    verdict_for, Done as NodeDone}
+use Rattle.world.proofs.Names.{nat_tests, eqb_tells, ◌≡◌, inl, inr, ℕ, suc, List, Option, Some, None, false, refl}
+use Rattle.world.proofs.Names.{◌∙◌, ap, arith, ◌==◌, option_and_then, slice_set, option_map_or, eqb-true}
+use Rattle.world.proofs.Names.{get_or-set_other, Bytes, Call, Cluster, Kept, NodeState, Session, of_client, Verdict}
+use Rattle.world.proofs.Names.{judge, reply_to, after_call, accepted, Reading, verdict_for, Done as NodeDone}
 use Rattle.world.proofs.Rules.{KeepsSession}
 use Rattle.world.proofs.Instance.{ForeignCall, zero_no, last_in, kept_in, tag_if, mine_in, ended_in, foreign_in, real}
 use Rattle.world.proofs.Basics.{judged-by, keeps-of}

@@ -1,8 +1,9 @@
 -- The node of the tables as the world sees it.
-use Rattle.world.proofs.Vocabulary.{◌≡◌, ℕ, suc, ◌==◌, ◌<◌, List, [], map, option_and_then, unwrap_or, Option, Some,
-    None, Bool, true, false, option_map_or, CallNo, Bytes, EndMark, Outcome, Part, Cluster, Numbered, NodeState,
-    of_client, changes_in, ids_of, transfer_of, parts_read, judge, step, name_of, reply_code, with_kept, with_entry,
-    Reading, verdict_for, worked, formatted, id_in_processing, IsInstalled, RunsNew, Call, Reply, Done}
+use Rattle.world.proofs.Names.{◌≡◌, ℕ, suc, ◌==◌, ◌<◌, List, [], map, option_and_then, unwrap_or, Option, Some, None}
+use Rattle.world.proofs.Names.{Bool, true, false, option_map_or, CallNo, Bytes, EndMark, Outcome, Part, Cluster}
+use Rattle.world.proofs.Names.{Numbered, NodeState, of_client, changes_in, ids_of, transfer_of, parts_read, judge}
+use Rattle.world.proofs.Names.{step, name_of, reply_code, with_kept, with_entry, Reading, verdict_for, worked}
+use Rattle.world.proofs.Names.{formatted, id_in_processing, IsInstalled, RunsNew, Call, Reply, Done}
 use Rattle.node_laws.proofs.Opened.{opened_by}
 use Rattle.world.proofs.Rules.{NodeRules}
 

@@ -1,8 +1,8 @@
 -- What every event keeps, for one node.
-use Rattle.world.proofs.Vocabulary.{◌≡◌, ◌≢◌, ◌⊎◌, ℕ, ◌≤◌, List, [], ◌∷◌, Option, Some, None, true, false, Old,
-    RolledBack, CleaningUp, CampaignResult, Successful, Decision, Commit, Abort, Cause, Fold, Current, flag_of,
-    end_of, all_below, Shown, Reply, ProcessSwPackage, Finish, Synced, IsBelow, Message, Answered, InSent, InTold,
-    is_masters, session_status, last_status}
+use Rattle.world.proofs.Names.{◌≡◌, ◌≢◌, ◌⊎◌, ℕ, ◌≤◌, List, [], ◌∷◌, Option, Some, None, true, false, Old, RolledBack}
+use Rattle.world.proofs.Names.{CleaningUp, CampaignResult, Successful, Decision, Commit, Abort, Cause, Fold, Current}
+use Rattle.world.proofs.Names.{flag_of, end_of, all_below, Shown, Reply, ProcessSwPackage, Finish, Synced, IsBelow}
+use Rattle.world.proofs.Names.{Message, Answered, InSent, InTold, is_masters, session_status, last_status}
 use Rattle.world.proofs.Rules.{NodeRules}
 use Rattle.world.proofs.RulesWorld.{NodeWorld, state_of}
 use Rattle.world.proofs.RulesLaw.{spans, EachEnded, InEarlier}

@@ -1,4 +1,4 @@
-pub mod Vocabulary
+pub mod Names
 pub mod Rules
 pub mod RulesWorld
 pub mod RulesLaw

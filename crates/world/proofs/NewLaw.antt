@@ -1,22 +1,24 @@
 -- With Enter Successful every named node is new, from an invariant of the time before the decision.
-use Rattle.world.proofs.Vocabulary.{◌≡◌, ◌≢◌, ◌⊎◌, if◌then◌else◌, ◌+◌, ℕ, ◌≤◌, List, [], ◌∷◌, Option, Some, None,
-    Bool, true, false, is_none, nat_eq, nat_le, refl, sym, ◌∙◌, ap, subst, arith, flat_map, eqb-true, NodeId, Outcome,
-    NodeSet, Decision, Commit, CampaignResult, Successful, MasterEvent, Start, Begin, VoteOf, Decide, EndedAt, Enter,
-    Fold, Current, flag_of, all_ended, is_result_of, may_begin, meets, in_current, refusal_of, changed, changed_in,
-    after_event, entered, begun, Call, Message, Showed, InSent, answer_of, Packages, MaySend, campaign_of, decided_of,
-    next_number, InCurrent, NamesOf}
+use Rattle.world.proofs.Names.{◌≡◌, ◌≢◌, ◌⊎◌, if◌then◌else◌, ◌+◌, ℕ, ◌≤◌, List, [], ◌∷◌, Option, Some, None, Bool}
+use Rattle.world.proofs.Names.{true, false, is_none, nat_eq, nat_le, refl, sym, ◌∙◌, ap, subst, arith, flat_map}
+use Rattle.world.proofs.Names.{eqb-true, NodeId, Outcome, NodeSet, Decision, Commit, CampaignResult, Successful}
+use Rattle.world.proofs.Names.{MasterEvent, Start, Begin, VoteOf, Decide, EndedAt, Enter, Fold, Current, flag_of}
+use Rattle.world.proofs.Names.{all_ended, is_result_of, may_begin, meets, in_current, refusal_of, changed, changed_in}
+use Rattle.world.proofs.Names.{after_event, entered, begun, Call, Message, Showed, InSent, answer_of, Packages}
+use Rattle.world.proofs.Names.{MaySend, campaign_of, decided_of, next_number, InCurrent, NamesOf}
 use Rattle.world.proofs.Rules.{NodeRules, NodeLaws, reached}
-use Rattle.world.proofs.RulesWorld.{Delivered, Unit_done, NodeWorld, World, state_of, Event, Deliver, Foreign_calls,
-    Unit_comes, Send, Record, Restart, Evidence, Allowed, emptied, deliver_to, recorded, happens, Makes, opened_world}
+use Rattle.world.proofs.RulesWorld.{Delivered, Unit_done, NodeWorld, World, state_of, Event, Deliver, Foreign_calls}
+use Rattle.world.proofs.RulesWorld.{Unit_comes, Send, Record, Restart, Evidence, Allowed, emptied, deliver_to}
+use Rattle.world.proofs.RulesWorld.{recorded, happens, Makes, opened_world}
 use Rattle.world.proofs.RulesLaw.{IsNew, InEarlier}
 use Rattle.world.proofs.Invariant.{KeptOld, KeptFold}
 use Rattle.world.proofs.Events.{event-deliver}
 use Rattle.world.proofs.Records.{SameAt, SameFold, some-inj, and-both}
 use Rattle.world.proofs.OldLaw.{WorldKept, kept-event, nth-in, unless-true, start-same, same-fold, same-refl}
 use Rattle.world.proofs.Committed.{IsWaiting}
-use Rattle.world.proofs.CommittedEvents.{KeptCommitted, IsReadyToCommit, changes_of, committed-deliver,
-    committed-foreign, committed-unit, committed-send, committed-told, committed-same, committed-decide,
-    committed-enter}
+use Rattle.world.proofs.CommittedEvents.{KeptCommitted, IsReadyToCommit, changes_of, committed-deliver}
+use Rattle.world.proofs.CommittedEvents.{committed-foreign, committed-unit, committed-send, committed-told}
+use Rattle.world.proofs.CommittedEvents.{committed-same, committed-decide, committed-enter}
 
 module _ (N : NodeRules) (laws : NodeLaws N) (packages : Packages) (numbers : List ℕ) where
   -- the current campaign names the nodes of its steps

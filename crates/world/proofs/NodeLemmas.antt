@@ -1,9 +1,9 @@
 -- What one step of a node keeps, from the laws of a node alone.
-use Rattle.world.proofs.Vocabulary.{arith, ◌≡◌, ◌≢◌, ◌⊎◌, inl, inr, ℕ, Option, Some, None, Bool, false, refl, sym,
-    ◌∙◌, ap, subst, Refusal, CallNo, Old, Status, Ready, Processing, Activating, Verifying, RollingBack, RolledBack,
-    CleaningUp, Call, Shown, Sync, TransferStart, TransferData, TransferExit, DeleteTransfer, ProcessSwPackage,
-    Activate, Finish, Rollback, Revert, Cancel, Done, Synced, Refused, no_lt, no_eq, is_working, is_masters,
-    session_status}
+use Rattle.world.proofs.Names.{arith, ◌≡◌, ◌≢◌, ◌⊎◌, inl, inr, ℕ, Option, Some, None, Bool, false, refl, sym, ◌∙◌, ap}
+use Rattle.world.proofs.Names.{subst, Refusal, CallNo, Old, Status, Ready, Processing, Activating, Verifying}
+use Rattle.world.proofs.Names.{RollingBack, RolledBack, CleaningUp, Call, Shown, Sync, TransferStart, TransferData}
+use Rattle.world.proofs.Names.{TransferExit, DeleteTransfer, ProcessSwPackage, Activate, Finish, Rollback, Revert}
+use Rattle.world.proofs.Names.{Cancel, Done, Synced, Refused, no_lt, no_eq, is_working, is_masters, session_status}
 use Rattle.world.proofs.Rules.{shown_of, shown_session, NodeRules, NodeLaws, KeepsSession, delivered}
 use Rattle.world.proofs.Invariant.{IsRolledBack, EndsOld, KeptHolds}
 

@@ -1,8 +1,8 @@
 -- What a call and a unit make of a node's history is what they make of its state and of its spans.
-use Rattle.world.proofs.Vocabulary.{◌≡◌, refl, ap, ℕ, suc, Bool, true, false, List, ◌∷◌, arith, ◌&&◌, ◌||◌,
-    if◌then◌else◌, None, CallNo, Call, Entry, Reached, Idle, CleaningUp, NodeState, UnitAfter as UnitLine, with_entry,
-    step, unit, Reading, verdict_for, state_after, IsConsistent, is_status, Spans, has_tag, span_of, spans, reached,
-    worked_on, shown_by}
+use Rattle.world.proofs.Names.{◌≡◌, refl, ap, ℕ, suc, Bool, true, false, List, ◌∷◌, arith, ◌&&◌, ◌||◌, if◌then◌else◌}
+use Rattle.world.proofs.Names.{None, CallNo, Call, Entry, Reached, Idle, CleaningUp, NodeState, UnitAfter as UnitLine}
+use Rattle.world.proofs.Names.{with_entry, step, unit, Reading, verdict_for, state_after, IsConsistent, is_status}
+use Rattle.world.proofs.Names.{Spans, has_tag, span_of, spans, reached, worked_on, shown_by}
 use Rattle.world.proofs.Appended.{after-append, spans-append}
 use Rattle.world.proofs.Instance.{unit_in}
 use Rattle.world.proofs.RulesLaw.{is_fresh_done}

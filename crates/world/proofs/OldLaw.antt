@@ -1,23 +1,25 @@
 -- Every event keeps the invariant, and so a failed or cancelled campaign left all old.
-use Rattle.world.proofs.Vocabulary.{◌≡◌, ◌≢◌, ◌⊎◌, inl, inr, if◌then◌else◌, ◌&&◌, not, ◌+◌, ℕ, zero, suc, ◌≤◌, List,
-    [], ◌∷◌, Option, Some, None, Bool, true, false, is_none, nat_eq, nat_le, refl, sym, ◌∙◌, ap, subst, arith,
-    eqb-true, eqb_tells, NodeId, Outcome, NodeSet, Decision, Commit, Abort, CampaignResult, Successful, MasterEvent,
-    Start, Begin, VoteOf, Decide, EndedAt, Enter, Fold, Current, nothing_yet, all_ended, is_new_of, is_result_of,
-    is_undecided, is_cause, first_cause, all_yes, is_marked, may_decide, may_begin, meets, unless, in_current,
-    refusal_of, changed, changed_in, after_event, entered, all_below, begun, Call, Reply, Reached, Stale, Again,
-    Fresh, Message, Showed, InSent, nth_sent, answer_of, Packages, MaySend, campaign_of, decided_of, next_number,
-    EndEvidence, InCurrent}
+use Rattle.world.proofs.Names.{◌≡◌, ◌≢◌, ◌⊎◌, inl, inr, if◌then◌else◌, ◌&&◌, not, ◌+◌, ℕ, zero, suc, ◌≤◌, List, []}
+use Rattle.world.proofs.Names.{◌∷◌, Option, Some, None, Bool, true, false, is_none, nat_eq, nat_le, refl, sym, ◌∙◌}
+use Rattle.world.proofs.Names.{ap, subst, arith, eqb-true, eqb_tells, NodeId, Outcome, NodeSet, Decision, Commit}
+use Rattle.world.proofs.Names.{Abort, CampaignResult, Successful, MasterEvent, Start, Begin, VoteOf, Decide, EndedAt}
+use Rattle.world.proofs.Names.{Enter, Fold, Current, nothing_yet, all_ended, is_new_of, is_result_of, is_undecided}
+use Rattle.world.proofs.Names.{is_cause, first_cause, all_yes, is_marked, may_decide, may_begin, meets, unless}
+use Rattle.world.proofs.Names.{in_current, refusal_of, changed, changed_in, after_event, entered, all_below, begun}
+use Rattle.world.proofs.Names.{Call, Reply, Reached, Stale, Again, Fresh, Message, Showed, InSent, nth_sent}
+use Rattle.world.proofs.Names.{answer_of, Packages, MaySend, campaign_of, decided_of, next_number, EndEvidence}
+use Rattle.world.proofs.Names.{InCurrent}
 use Rattle.world.proofs.Parts.{part-none, part-other}
 use Rattle.world.proofs.Rules.{NodeRules, NodeLaws, reached, delivered}
-use Rattle.world.proofs.RulesWorld.{Delivered, Unit_done, NodeWorld, World, state_of, Event, Deliver, Foreign_calls,
-    Unit_comes, Send, Record, Restart, Evidence, Allowed, with_node, emptied, deliver_to, recorded, happens,
-    formatted_world, Makes, opened_world}
+use Rattle.world.proofs.RulesWorld.{Delivered, Unit_done, NodeWorld, World, state_of, Event, Deliver, Foreign_calls}
+use Rattle.world.proofs.RulesWorld.{Unit_comes, Send, Record, Restart, Evidence, Allowed, with_node, emptied}
+use Rattle.world.proofs.RulesWorld.{deliver_to, recorded, happens, formatted_world, Makes, opened_world}
 use Rattle.world.proofs.RulesLaw.{spans, IsOld, InEarlier}
 use Rattle.world.proofs.Invariant.{Executable, KeptOld, KeptFold}
 use Rattle.world.proofs.Events.{event-deliver, event-foreign, event-unit, event-answered, event-showed}
 use Rattle.world.proofs.Sends.{event-send}
-use Rattle.world.proofs.Records.{SameAt, SameFold, some-inj, and-both, below-in, forget, event-same, event-begin,
-    event-decide, event-ended, event-enter}
+use Rattle.world.proofs.Records.{SameAt, SameFold, some-inj, and-both, below-in, forget, event-same, event-begin}
+use Rattle.world.proofs.Records.{event-decide, event-ended, event-enter}
 
 pub nth-in : (ms : List Message) (k : ℕ) (m : Message) → nth_sent ms k ≡ Some m → InSent m ms
 nth-in [] k m e = absurd (cc e)

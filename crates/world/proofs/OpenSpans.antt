@@ -1,7 +1,8 @@
 -- A session of client 0 is an open span of its tag.
-use Rattle.world.proofs.Vocabulary.{arith, ◌≡◌, inl, inr, if◌then◌else◌, ◌&&◌, ◌||◌, ℕ, List, [], ◌∷◌, Option, Some,
-    None, Bool, true, false, nat_eq, refl, sym, ◌∙◌, ap, subst, eq-eqb, CallNo, Idle, CleaningUp, nothing_yet, Call,
-    ProcessSwPackage, Stale, Again, Fresh, no_lt, no_eq, is_status, is_done, has_tag}
+use Rattle.world.proofs.Names.{arith, ◌≡◌, inl, inr, if◌then◌else◌, ◌&&◌, ◌||◌, ℕ, List, [], ◌∷◌, Option, Some, None}
+use Rattle.world.proofs.Names.{Bool, true, false, nat_eq, refl, sym, ◌∙◌, ap, subst, eq-eqb, CallNo, Idle, CleaningUp}
+use Rattle.world.proofs.Names.{nothing_yet, Call, ProcessSwPackage, Stale, Again, Fresh, no_lt, no_eq, is_status}
+use Rattle.world.proofs.Names.{is_done, has_tag}
 use Rattle.world.proofs.Rules.{NodeRules, NodeLaws, reached, delivered}
 use Rattle.world.proofs.RulesWorld.{Move, Delivered, Foreign, Unit_done, after}
 use Rattle.world.proofs.RulesLaw.{Span, Spans, spans, is_fresh_done, begins_span}

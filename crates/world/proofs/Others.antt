@@ -1,22 +1,25 @@
 -- Laws of the real node: client 0's transfers under calls of others, and units where client 0 has no session.
-use Rattle.world.proofs.Vocabulary.{◌≡◌, inl, inr, ℕ, suc, ◌+◌, ◌<◌, List, [], ◌∷◌, ◌++◌, length, Option, Some, None,
-    Bool, true, false, refl, sym, ◌∙◌, ap, subst, cond, arith, ◌==◌, ◌||◌, not, is_none, find, nat_lt,
-    option_and_then, map, filter, if◌then◌else◌, AllByRecursion, option_map_or, eqb-true, ltb-true, eqb_tells,
-    get_or-set_other, append-nil, filter-append, find-append, Bytes, Call, Refusal, InvalidTransferId,
-    OperationNotPermitted, Phase, Transferred, BeingProcessed, Processed, UnitAfter, Cluster, Status, Processing,
-    Activating, Verifying, RollingBack, CleaningUp, NodeState, Session, Transfer, some_passes, is_in, all_units,
-    led_by, begin_processing, stop_processing, Verdict, is_of, transfer_of, header_of, parts_read, grown, in_phase,
-    started, with_block, exited, deleted, first_refusal, judge, after_reply, refusal, refused_or, with_entry, unit_of,
-    process_unit, processed, parts_of_id, activate_unit, verify_unit, roll_back_unit, clean_up_unit, end_mark,
-    Reading, verdict_for, IsConsistent, ChangesAreDue, IsPlannedWhole, id_in_processing, numbers_rise}
+use Rattle.world.proofs.Names.{◌≡◌, inl, inr, ℕ, suc, ◌+◌, ◌<◌, List, [], ◌∷◌, ◌++◌, length, Option, Some, None, Bool}
+use Rattle.world.proofs.Names.{true, false, refl, sym, ◌∙◌, ap, subst, cond, arith, ◌==◌, ◌||◌, not, is_none, find}
+use Rattle.world.proofs.Names.{nat_lt, option_and_then, map, filter, if◌then◌else◌, AllByRecursion, option_map_or}
+use Rattle.world.proofs.Names.{eqb-true, ltb-true, eqb_tells, get_or-set_other, append-nil, filter-append}
+use Rattle.world.proofs.Names.{find-append, Bytes, Call, Refusal, InvalidTransferId, OperationNotPermitted, Phase}
+use Rattle.world.proofs.Names.{Transferred, BeingProcessed, Processed, UnitAfter, Cluster, Status, Processing}
+use Rattle.world.proofs.Names.{Activating, Verifying, RollingBack, CleaningUp, NodeState, Session, Transfer}
+use Rattle.world.proofs.Names.{some_passes, is_in, all_units, led_by, begin_processing, stop_processing, Verdict}
+use Rattle.world.proofs.Names.{is_of, transfer_of, header_of, parts_read, grown, in_phase, started, with_block}
+use Rattle.world.proofs.Names.{exited, deleted, first_refusal, judge, after_reply, refusal, refused_or, with_entry}
+use Rattle.world.proofs.Names.{unit_of, process_unit, processed, parts_of_id, activate_unit, verify_unit}
+use Rattle.world.proofs.Names.{roll_back_unit, clean_up_unit, end_mark, Reading, verdict_for, IsConsistent}
+use Rattle.world.proofs.Names.{ChangesAreDue, IsPlannedWhole, id_in_processing, numbers_rise}
 use Rattle.pm_types.specs.declared.calls.Call.TheVariants as call
 use Rattle.pm_types.specs.declared.replies.Reply.TheVariants as reply
 use Rattle.world.proofs.Rules.{KeepsTransfers}
 use Rattle.world.proofs.Instance.{ForeignCall, tag_if, mine_in, ended_in, foreign_in, unit_in, real}
 use Rattle.world.proofs.Basics.{judged-by, not-refused}
 use Rattle.world.proofs.Units.{unit-cases}
-use Rattle.world.proofs.TransferLaws.{KeepsNames, keeps-all, keeps-changed, find-passes, find-all, and-true,
-    data-rest}
+use Rattle.world.proofs.TransferLaws.{KeepsNames, keeps-all, keeps-changed, find-passes, find-all, and-true}
+use Rattle.world.proofs.TransferLaws.{data-rest}
 use Rattle.world.proofs.Foreign.{foreign-cases}
 
 -- numbers that rise

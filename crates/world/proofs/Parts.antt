@@ -1,7 +1,7 @@
 -- The parts of nodes: after one has changed, and where each flagged one passes a test.
-use Rattle.world.proofs.Vocabulary.{arith, ◌≡◌, ◌≢◌, ◌⊎◌, inl, inr, ℕ, zero, suc, List, [], ◌∷◌, Bool, true, false,
-    refl, ap, Option, Some, None, replicate, slice_index_or, slice_set, and_parts, Outcome, Vote, part_of, with_part,
-    all_flagged, has_ended, voted_yes}
+use Rattle.world.proofs.Names.{arith, ◌≡◌, ◌≢◌, ◌⊎◌, inl, inr, ℕ, zero, suc, List, [], ◌∷◌, Bool, true, false, refl}
+use Rattle.world.proofs.Names.{ap, Option, Some, None, replicate, slice_index_or, slice_set, and_parts, Outcome, Vote}
+use Rattle.world.proofs.Names.{part_of, with_part, all_flagged, has_ended, voted_yes}
 
 pub part-none : {A : Type 0} (k n : ℕ) → part_of {A = Option A} None (replicate k None) n ≡ None
 part-none k zero = refl

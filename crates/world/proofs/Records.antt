@@ -1,8 +1,9 @@
 -- What the records of the master keep of the invariant.
-use Rattle.world.proofs.Vocabulary.{◌≡◌, ◌≢◌, ◌⊎◌, inl, inr, ◌&&◌, ℕ, ◌<◌, ◌≤◌, List, [], ◌∷◌, ◌++◌, Option, Some,
-    None, Bool, true, false, nat_lt, refl, sym, ◌∙◌, ap, subst, arith, ltb-true, RolledBack, NodeSet, Decision,
-    Commit, CampaignResult, Successful, Fold, Current, flag_of, end_of, all_ended, is_result_of, all_below, begun,
-    Finish, Synced, Message, InSent, last_status, EndEvidence}
+use Rattle.world.proofs.Names.{◌≡◌, ◌≢◌, ◌⊎◌, inl, inr, ◌&&◌, ℕ, ◌<◌, ◌≤◌, List, [], ◌∷◌, ◌++◌, Option, Some, None}
+use Rattle.world.proofs.Names.{Bool, true, false, nat_lt, refl, sym, ◌∙◌, ap, subst, arith, ltb-true, RolledBack}
+use Rattle.world.proofs.Names.{NodeSet, Decision, Commit, CampaignResult, Successful, Fold, Current, flag_of, end_of}
+use Rattle.world.proofs.Names.{all_ended, is_result_of, all_below, begun, Finish, Synced, Message, InSent}
+use Rattle.world.proofs.Names.{last_status, EndEvidence}
 use Rattle.world.proofs.Parts.{flagged-ended}
 use Rattle.world.proofs.Rules.{NodeRules, NodeLaws}
 use Rattle.world.proofs.RulesWorld.{NodeWorld, state_of}

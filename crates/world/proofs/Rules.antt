@@ -1,9 +1,10 @@
 -- What the law needs of a node: its observations, its three kinds of step, and the laws of them.
-use Rattle.world.proofs.Vocabulary.{is_working, Sync, TransferStart, TransferData, TransferExit, DeleteTransfer,
-    ProcessSwPackage, Activate, Finish, Rollback, Revert, Cancel, Call, EndMark, Stale, Again, Fresh, Reached,
-    Refusal, Done, Started, Synced, Refused, Reply, SessionMark, Shown, New, Old, Outcome, Idle, Ready, Activated,
-    RolledBack, Processing, Activating, Verifying, RollingBack, CleaningUp, Status, ◌≡◌, ◌≢◌, ◌⊎◌, ℕ, List, [], ◌∷◌,
-    ◌++◌, Option, Some, None, Bool, false, if◌then◌else◌, CallNo, no_lt, no_eq, is_status}
+use Rattle.world.proofs.Names.{is_working, Sync, TransferStart, TransferData, TransferExit, DeleteTransfer}
+use Rattle.world.proofs.Names.{ProcessSwPackage, Activate, Finish, Rollback, Revert, Cancel, Call, EndMark, Stale}
+use Rattle.world.proofs.Names.{Again, Fresh, Reached, Refusal, Done, Started, Synced, Refused, Reply, SessionMark}
+use Rattle.world.proofs.Names.{Shown, New, Old, Outcome, Idle, Ready, Activated, RolledBack, Processing, Activating}
+use Rattle.world.proofs.Names.{Verifying, RollingBack, CleaningUp, Status, ◌≡◌, ◌≢◌, ◌⊎◌, ℕ, List, [], ◌∷◌, ◌++◌}
+use Rattle.world.proofs.Names.{Option, Some, None, Bool, false, if◌then◌else◌, CallNo, no_lt, no_eq, is_status}
 use Rattle.std.specs.Prelude.{Contains}
 
 -- a node, by what the master's side of it can be seen to be

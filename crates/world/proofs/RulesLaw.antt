@@ -1,7 +1,7 @@
 -- What a campaign leaves: the spans of its sessions, and the law over every list of events.
-use Rattle.world.proofs.Vocabulary.{◌≡◌, ◌≢◌, ◌⊎◌, ℕ, ◌≤◌, List, [], ◌∷◌, Option, Some, Bool, false, ◌&&◌, ◌||◌,
-    if◌then◌else◌, Outcome, New, Idle, CleaningUp, CampaignResult, Successful, Reached, Fresh, has_tag, is_status,
-    Message, is_done, Packages}
+use Rattle.world.proofs.Names.{◌≡◌, ◌≢◌, ◌⊎◌, ℕ, ◌≤◌, List, [], ◌∷◌, Option, Some, Bool, false, ◌&&◌, ◌||◌}
+use Rattle.world.proofs.Names.{if◌then◌else◌, Outcome, New, Idle, CleaningUp, CampaignResult, Successful, Reached}
+use Rattle.world.proofs.Names.{Fresh, has_tag, is_status, Message, is_done, Packages}
 use Rattle.world.proofs.Rules.{NodeRules, NodeLaws, reached}
 use Rattle.world.proofs.RulesWorld.{Move, Delivered, Foreign, Unit_done, World, after, Event, opened_world, Makes}
 use Rattle.std.specs.Prelude.{flat_map}

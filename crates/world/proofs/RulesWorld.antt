@@ -1,8 +1,8 @@
 -- A world over such nodes: what happened on each, the fold of the list, and which event may happen.
-use Rattle.world.proofs.Vocabulary.{after_event, refusal_of, nothing_yet, Start, Begin, VoteOf, EndedAt, MasterEvent,
-    Fold, Call, ◌≡◌, ℕ, ◌+◌, ◌<◌, List, [], ◌∷◌, length, Option, Some, None, Bool, if◌then◌else◌, nat_eq, Message,
-    Told, nth_sent, answer_of, Showed, Packages, next_number, MaySend, campaign_of, decided_of, empties, VoteEvidence,
-    EndEvidence, NamesOf, InCurrent}
+use Rattle.world.proofs.Names.{after_event, refusal_of, nothing_yet, Start, Begin, VoteOf, EndedAt, MasterEvent, Fold}
+use Rattle.world.proofs.Names.{Call, ◌≡◌, ℕ, ◌+◌, ◌<◌, List, [], ◌∷◌, length, Option, Some, None, Bool, if◌then◌else◌}
+use Rattle.world.proofs.Names.{nat_eq, Message, Told, nth_sent, answer_of, Showed, Packages, next_number, MaySend}
+use Rattle.world.proofs.Names.{campaign_of, decided_of, empties, VoteEvidence, EndEvidence, NamesOf, InCurrent}
 use Rattle.world.proofs.Rules.{NodeRules, reached, delivered}
 use Rattle.std.specs.Prelude.{Contains}
 

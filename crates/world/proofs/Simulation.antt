@@ -1,9 +1,10 @@
 -- A world of the tables is one of the rules: what its events make, the rules' events make too.
-use Rattle.world.proofs.Vocabulary.{arith, ◌≡◌, refl, ap, ◌∙◌, ℕ, suc, ◌<◌, Bool, false, [], ◌∷◌, map, if◌then◌else◌,
-    Some, AllByRecursion, CallNo, Call, NodeState, step, unit, Reading, verdict_for, Current, Message, Showed, no_lt,
-    no_eq, Spans, Span, spans, NodeWorld, World, fold_of, state_of, reached, called, delivered}
-use Rattle.world.proofs.NodeSteps.{entered-state, entered-spans, foreign-spans, worked-state, worked-status,
-    worked-spans}
+use Rattle.world.proofs.Names.{arith, ◌≡◌, refl, ap, ◌∙◌, ℕ, suc, ◌<◌, Bool, false, [], ◌∷◌, map, if◌then◌else◌, Some}
+use Rattle.world.proofs.Names.{AllByRecursion, CallNo, Call, NodeState, step, unit, Reading, verdict_for, Current}
+use Rattle.world.proofs.Names.{Message, Showed, no_lt, no_eq, Spans, Span, spans, NodeWorld, World, fold_of, state_of}
+use Rattle.world.proofs.Names.{reached, called, delivered}
+use Rattle.world.proofs.NodeSteps.{entered-state, entered-spans, foreign-spans, worked-state, worked-status}
+use Rattle.world.proofs.NodeSteps.{worked-spans}
 use Rattle.world.proofs.Instance.{ForeignCall, Calls, unit_in, judged_in, kept_after, saved_in}
 use Rattle.world.proofs.FitNode.{KeepsNode, FitState, fit}
 use Rattle.world.proofs.FitLaws.{state-is, unit-is}

@@ -1,7 +1,7 @@
 -- The campaign law at the node of the tables.
-use Rattle.world.proofs.Vocabulary.{◌≡◌, refl, sym, ap, subst, ◌∙◌, ℕ, suc, List, [], ◌∷◌, arith, map, AllByRecursion,
-    NodeState, Reading, CampaignResult, Successful, Fold, IsReading, IsFit, Span, IsNew, IsOld, NodeWorld,
-    CampaignLaw, IsLeft, parts_in}
+use Rattle.world.proofs.Names.{◌≡◌, refl, sym, ap, subst, ◌∙◌, ℕ, suc, List, [], ◌∷◌, arith, map, AllByRecursion}
+use Rattle.world.proofs.Names.{NodeState, Reading, CampaignResult, Successful, Fold, IsReading, IsFit, Span, IsNew}
+use Rattle.world.proofs.Names.{IsOld, NodeWorld, CampaignLaw, IsLeft, parts_in}
 use Rattle.node_laws.specs.Fit as fits
 use Rattle.node_laws.proofs.Kept.{keeps-fit}
 use Rattle.node_laws.proofs.Entries.{kept-fit, entry-fit}

@@ -1,14 +1,17 @@
 -- Laws of the real node: client 0's transfers under its own calls and under units.
-use Rattle.world.proofs.Vocabulary.{◌≡◌, ◌≢◌, ◌⊎◌, ℕ, zero, suc, ◌+◌, ◌<◌, List, [], ◌∷◌, ◌++◌, length, get_or,
-    Option, Some, None, Bool, true, false, refl, ap, subst, arith, ◌==◌, ◌||◌, ◌&&◌, not, find, nat_lt, option_map,
-    option_and_then, map, filter, if◌then◌else◌, AllByRecursion, Contains, option_map_or, eqb-true, eq-eqb,
-    map-append, filter-append, find-append, block_limit, Bytes, Call, Refusal, OperationNotPermitted, IncorrectBlock,
-    IncorrectSize, Header, Phase, Transferring, Transferred, BeingProcessed, Processed, UnitAfter, Part, Change,
-    Cluster, Status, Ready, Processing, Activating, Verifying, RollingBack, CleaningUp, NodeState, Session, Transfer,
-    some_passes, is_in, changes_of, all_units, led_by, begin_processing, is_of, ids_of, parts_read, grown, in_phase,
-    exited, with_entry, unit_of, process_unit, processed, parts_of_id, activate_unit, verify_unit, roll_back_unit,
-    Reading, verdict_for, IsConsistent, IsSound, id_in_processing, IsFit, TransferStart, TransferData, TransferExit,
-    ProcessSwPackage, Done, Started}
+use Rattle.world.proofs.Names.{◌≡◌, ◌≢◌, ◌⊎◌, ℕ, zero, suc, ◌+◌, ◌<◌, List, [], ◌∷◌, ◌++◌, length, get_or, Option}
+use Rattle.world.proofs.Names.{Some, None, Bool, true, false, refl, ap, subst, arith, ◌==◌, ◌||◌, ◌&&◌, not, find}
+use Rattle.world.proofs.Names.{nat_lt, option_map, option_and_then, map, filter, if◌then◌else◌, AllByRecursion}
+use Rattle.world.proofs.Names.{Contains, option_map_or, eqb-true, eq-eqb, map-append, filter-append, find-append}
+use Rattle.world.proofs.Names.{block_limit, Bytes, Call, Refusal, OperationNotPermitted, IncorrectBlock}
+use Rattle.world.proofs.Names.{IncorrectSize, Header, Phase, Transferring, Transferred, BeingProcessed, Processed}
+use Rattle.world.proofs.Names.{UnitAfter, Part, Change, Cluster, Status, Ready, Processing, Activating, Verifying}
+use Rattle.world.proofs.Names.{RollingBack, CleaningUp, NodeState, Session, Transfer, some_passes, is_in, changes_of}
+use Rattle.world.proofs.Names.{all_units, led_by, begin_processing, is_of, ids_of, parts_read, grown, in_phase}
+use Rattle.world.proofs.Names.{exited, with_entry, unit_of, process_unit, processed, parts_of_id, activate_unit}
+use Rattle.world.proofs.Names.{verify_unit, roll_back_unit, Reading, verdict_for, IsConsistent, IsSound}
+use Rattle.world.proofs.Names.{id_in_processing, IsFit, TransferStart, TransferData, TransferExit, ProcessSwPackage}
+use Rattle.world.proofs.Names.{Done, Started}
 use Rattle.pm_types.specs.declared.calls.Call.TheVariants as call
 use Rattle.world.proofs.Rules.{KeepsTransfers}
 use Rattle.world.proofs.Instance.{tag_if, mine_in, planned_in, ended_in, received_in, judged_in, unit_in, real}

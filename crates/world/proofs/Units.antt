@@ -1,12 +1,13 @@
 -- Laws of the real node: work units.
-use Rattle.world.proofs.Vocabulary.{◌≡◌, ◌⊎◌, ℕ, List, [], ◌∷◌, Option, Some, None, Bool, false, refl, ◌∙◌, ap, subst,
-    arith, IfSome, option_map, option_and_then, map, unwrap_or, eqb-true, get_or-set_same, Bytes, Outcome, New, Old,
-    UnitAfter, Change, Status, Idle, Processing, Activating, Verifying, Activated, RollingBack, RolledBack,
-    CleaningUp, NodeState, Session, is_working, cluster_of, with_entry, unit_of, IsConsistent, should_run,
-    id_in_processing}
+use Rattle.world.proofs.Names.{◌≡◌, ◌⊎◌, ℕ, List, [], ◌∷◌, Option, Some, None, Bool, false, refl, ◌∙◌, ap, subst}
+use Rattle.world.proofs.Names.{arith, IfSome, option_map, option_and_then, map, unwrap_or, eqb-true, get_or-set_same}
+use Rattle.world.proofs.Names.{Bytes, Outcome, New, Old, UnitAfter, Change, Status, Idle, Processing, Activating}
+use Rattle.world.proofs.Names.{Verifying, Activated, RollingBack, RolledBack, CleaningUp, NodeState, Session}
+use Rattle.world.proofs.Names.{is_working, cluster_of, with_entry, unit_of, IsConsistent, should_run}
+use Rattle.world.proofs.Names.{id_in_processing}
 use Rattle.world.proofs.WordLaws.{run_parts, planned-run, runs-new}
-use Rattle.world.proofs.Instance.{last_in, kept_in, mine_in, planned_in, outcome_in, ended_in, unit_in, BringsIn,
-    LeavesIn}
+use Rattle.world.proofs.Instance.{last_in, kept_in, mine_in, planned_in, outcome_in, ended_in, unit_in, BringsIn}
+use Rattle.world.proofs.Instance.{LeavesIn}
 
 -- a unit is nothing, or what the work table says
 pub unit-cases : (s : NodeState) (passed : Bool) (P : NodeState → Type 0) → P s → ((x : Session) → s.session ≡ Some x → (t : NodeState) → unit_of s x passed s.status ≡ Some t → P (with_entry (UnitAfter t.status) t)) → P (unit_in s passed)

@@ -1,9 +1,10 @@
 -- What planned changes make of each cluster.
-use Rattle.world.proofs.Vocabulary.{arith, ◌≡◌, inl, inr, ℕ, List, [], ◌∷◌, Some, None, Bool, true, false, refl, sym,
-    ◌∙◌, ap, subst, cond, ◌||◌, ◌&&◌, not, find, filter, map, option_or, nat_cmp, is_lt, is_eq, ordering_reverse,
-    slice_cmp, texts_ties, bytes_eq, Ordering, Less, Equal, Greater, nat_list_cmp_total, bytes_eq-Decides,
-    find-append, name_lt, has_name, all_differ, Bytes, Part, Cluster, Change, cluster_of, cluster_at, without,
-    with_cluster, brought, changed_by, planned, InParts, left_by, RunsNew}
+use Rattle.world.proofs.Names.{arith, ◌≡◌, inl, inr, ℕ, List, [], ◌∷◌, Some, None, Bool, true, false, refl, sym, ◌∙◌}
+use Rattle.world.proofs.Names.{ap, subst, cond, ◌||◌, ◌&&◌, not, find, filter, map, option_or, nat_cmp, is_lt, is_eq}
+use Rattle.world.proofs.Names.{ordering_reverse, slice_cmp, texts_ties, bytes_eq, Ordering, Less, Equal, Greater}
+use Rattle.world.proofs.Names.{nat_list_cmp_total, bytes_eq-Decides, find-append, name_lt, has_name, all_differ}
+use Rattle.world.proofs.Names.{Bytes, Part, Cluster, Change, cluster_of, cluster_at, without, with_cluster, brought}
+use Rattle.world.proofs.Names.{changed_by, planned, InParts, left_by, RunsNew}
 
 -- names
 eq-names : (a b : List ℕ) → bytes_eq a b ≡ true → a ≡ b

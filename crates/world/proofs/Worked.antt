@@ -1,9 +1,13 @@
 -- Two closed lists of events: one node installs a cluster and the campaign ends successful, or its check fails and it ends failed.
-use Rattle.world.proofs.Vocabulary.{◌≡◌, List, [], ◌∷◌, ◌++◌, Some, None, true, false, Ok, if◌then◌else◌, nat_eq,
-    replicate, refl, inl, arith, Bytes, NodeSet, Install, Call, Sync, TransferStart, TransferData, TransferExit,
-    ProcessSwPackage, Activate, Finish, Cluster, Part, Outcome, New, Old, Reading, Commit, Abort, Successful, Failed,
-    MasterEvent, Start, Begin, PhaseTo, VoteOf, Decide, EndedAt, Enter, Shown, NamesOf, Packages, IsReading,
-    IsEntered, spans, World, NodeWorld, Event, Deliver, Work, Send, Record, opened, happens, state_of, Makes}
+use Rattle.world.specs.World.{HasEvidence}
+use Rattle.std.specs.Prelude.{Contains, ℕ, suc, ◌<◌}
+use Rattle.world.proofs.Names.{◌≡◌, List, [], ◌∷◌, ◌++◌, Some, None, true, false, Ok, if◌then◌else◌, nat_eq}
+use Rattle.world.proofs.Names.{replicate, refl, inl, arith, Bytes, NodeSet, Install, Call, Sync, TransferStart}
+use Rattle.world.proofs.Names.{TransferData, TransferExit, ProcessSwPackage, Activate, Finish, Cluster, Part, Outcome}
+use Rattle.world.proofs.Names.{New, Old, Reading, Commit, Abort, Successful, Failed, MasterEvent, Start, Begin}
+use Rattle.world.proofs.Names.{PhaseTo, VoteOf, Decide, EndedAt, Enter, Shown, NamesOf, Packages, IsReading}
+use Rattle.world.proofs.Names.{IsEntered, spans, World, NodeWorld, Event, Deliver, Work, Send, Record, opened}
+use Rattle.world.proofs.Names.{happens, state_of, Makes}
 use Rattle.campaign_core.specs.declared.events.Phase.TheVariants as Phase
 use Rattle.campaign_core.specs.declared.events.Vote.TheVariants as Vote
 use Rattle.campaign_core.specs.declared.events.Cause.TheVariants as Cause
@@ -32,26 +36,35 @@ abbrev world_after : World → List Event → World
 world_after w [] = w
 world_after w (e ∷ es) = world_after (happens read w e) es
 
--- a message that arrives, and its reply too
-abbrev sent : Call → List Event
-sent call = Send 1 call ∷ Deliver 1 0 true ∷ []
+-- a message that arrives, and its reply too, before other events
+abbrev sent : Call → List Event → List Event
+sent call events = Send 1 call ∷ Deliver 1 0 true ∷ events
 
-abbrev until_activate : List Event
-until_activate =
-    (Record (Start 1) ∷ Record (Begin 7 one) ∷ Record (PhaseTo Phase.Transferring) ∷ [])
-    ++ sent Sync ++ sent (TransferStart 1) ++ sent (TransferData 1 1 (5 ∷ [])) ++ sent (TransferExit 1)
-    ++ Record (PhaseTo Phase.Processing) ∷ sent (ProcessSwPackage 1 7)
-    ++ Work 1 true true ∷ Record (PhaseTo Phase.Activating) ∷ sent Activate ++ Work 1 true true ∷ []
+abbrev until_activate : List Event → List Event
+until_activate events =
+    Record (Start 1) ∷ Record (Begin 7 one) ∷ Record (PhaseTo Phase.Transferring)
+    ∷ sent Sync (sent (TransferStart 1) (sent (TransferData 1 1 (5 ∷ [])) (sent (TransferExit 1) (
+    Record (PhaseTo Phase.Processing) ∷ sent (ProcessSwPackage 1 7) (
+    Work 1 true true ∷ Record (PhaseTo Phase.Activating) ∷ sent Activate (Work 1 true true ∷ events))))))
+
+-- Finish, the unit that cleans up, and a last Sync
+abbrev finished : List Event → List Event
+finished events = sent Sync (sent Finish (Work 1 true true ∷ sent Sync events))
+
+abbrev commits : List Event → List Event
+commits events =
+    until_activate (Work 1 true true ∷ Record (VoteOf 1 Vote.Yes) ∷ Record (Decide Commit) ∷ finished events)
+
+abbrev aborts : List Event → List Event
+aborts events =
+    until_activate (Work 1 false true ∷ Work 1 true true ∷ Record (VoteOf 1 Vote.RolledBack)
+    ∷ Record (Decide (Abort (Cause.Vote 1))) ∷ finished events)
 
 abbrev successful : List Event
-successful =
-    until_activate ++ Work 1 true true ∷ Record (VoteOf 1 Vote.Yes) ∷ Record (Decide Commit)
-    ∷ sent Sync ++ sent Finish ++ Work 1 true true ∷ sent Sync ++ Record (EndedAt 1 New) ∷ Record (Enter Successful) ∷ []
+successful = commits (Record (EndedAt 1 New) ∷ Record (Enter Successful) ∷ [])
 
 abbrev failed : List Event
-failed =
-    until_activate ++ Work 1 false true ∷ Work 1 true true ∷ Record (VoteOf 1 Vote.RolledBack) ∷ Record (Decide (Abort (Cause.Vote 1)))
-    ∷ sent Sync ++ sent Finish ++ Work 1 true true ∷ sent Sync ++ Record (EndedAt 1 Old) ∷ Record (Enter Failed) ∷ []
+failed = aborts (Record (EndedAt 1 Old) ∷ Record (Enter Failed) ∷ [])
 
 abbrev start : World
 start = opened (λ n. [])
@@ -63,21 +76,26 @@ names = grind arith steps 500000
 abbrev shown : Outcome → Shown
 shown outcome = record { session = None; ended = Some (record { tag = 7; outcome = outcome }); transfers = [] }
 
+there : Contains {X = ℕ} (7 ∷ []) 7
+there = (0, omega arith, refl)
+
+-- so many messages were sent at each delivery, and one more
+some : (n : ℕ) → 0 < suc n
+some n = omega arith
+
+-- the last Sync is the evidence of the node's end
+shown-new : HasEvidence packages (7 ∷ []) (world_after start (commits [])) (EndedAt 1 New)
+shown-new = (refl, shown New, inl refl, refl, refl)
+
+shown-old : HasEvidence packages (7 ∷ []) (world_after start (aborts [])) (EndedAt 1 Old)
+shown-old = (refl, shown Old, inl refl, refl, refl)
+
+-- each event may happen
 made-successful : Makes read packages (7 ∷ []) start successful (world_after start successful)
-made-successful =
-    ((refl, tt), ((refl, ((0, omega arith, refl), names)), ((refl, tt), (assumption, (omega arith, (assumption,
-    (omega arith, (assumption, (omega arith, (assumption, (omega arith, ((refl, tt), (assumption, (omega arith,
-    (refl, ((refl, tt), (assumption, (omega arith, (refl, (refl, ((refl, refl), ((refl, tt), (assumption, (omega
-    arith, (assumption, (omega arith, (refl, (assumption, (omega arith, ((refl, (refl, shown New, inl refl, refl,
-    refl)), ((refl, tt), refl)))))))))))))))))))))))))))))))
+made-successful = assumption (names, there, shown-new, some 0, some 1, some 2, some 3, some 4, some 5, some 6, some 7, some 8)
 
 made-failed : Makes read packages (7 ∷ []) start failed (world_after start failed)
-made-failed =
-    ((refl, tt), ((refl, ((0, omega arith, refl), names)), ((refl, tt), (assumption, (omega arith, (assumption,
-    (omega arith, (assumption, (omega arith, (assumption, (omega arith, ((refl, tt), (assumption, (omega arith,
-    (refl, ((refl, tt), (assumption, (omega arith, (refl, (refl, (refl, ((refl, refl), ((refl, tt), (assumption,
-    (omega arith, (assumption, (omega arith, (refl, (assumption, (omega arith, ((refl, (refl, shown Old, inl refl,
-    refl, refl)), ((refl, tt), refl))))))))))))))))))))))))))))))))
+made-failed = assumption (names, there, shown-old, some 0, some 1, some 2, some 3, some 4, some 5, some 6, some 7, some 8)
 
 -- before each Enter
 abbrev until_activated : List MasterEvent

@@ -1,5 +1,5 @@
 -- The law over every list of events: both halves, with no premise but the laws of a node.
-use Rattle.world.proofs.Vocabulary.{flat_map, CampaignResult, Successful}
+use Rattle.world.proofs.Names.{flat_map, CampaignResult, Successful}
 use Rattle.world.proofs.Rules.{NodeRules}
 use Rattle.world.proofs.RulesLaw.{IsLeft, WorldLaw, InEarlier}
 use Rattle.world.proofs.OldLaw.{old-law}

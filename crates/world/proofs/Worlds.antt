@@ -1,9 +1,11 @@
 -- Whole worlds: every event of the tables is one of the rules.
-use Rattle.world.proofs.Vocabulary.{◌≡◌, refl, sym, ap, subst, ◌∙◌, ℕ, zero, suc, ◌+◌, ◌<◌, ◌≤◌, Bool, List, [], ◌∷◌,
-    length, arith, Option, Some, None, AllByRecursion, Bytes, CallNo, Call, Cluster, Reading, MasterEvent, Start,
-    Current, Fold, campaign, refusal_of, after_event, IsInstalled, Message, nth_sent, Packages, MaySend, next_number,
-    campaign_of, decided_of, InCurrent, NodeWorld, World, fold_of, Event, Deliver, Foreign, Work, Send, Record,
-    Restart, HasEvidence, IsAllowed, delivered, message, with_node, recorded, happens, opened, Makes}
+use Rattle.world.proofs.Names.{◌≡◌, refl, sym, ap, subst, ◌∙◌, ℕ, zero, suc, ◌+◌, ◌<◌, ◌≤◌, Bool, List, [], ◌∷◌}
+use Rattle.world.proofs.Names.{length, arith, Option, Some, None, AllByRecursion, Bytes, CallNo, Call, Cluster}
+use Rattle.world.proofs.Names.{Reading, MasterEvent, Start, Current, Fold, campaign, refusal_of, after_event}
+use Rattle.world.proofs.Names.{IsInstalled, Message, nth_sent, Packages, MaySend, next_number, campaign_of}
+use Rattle.world.proofs.Names.{decided_of, InCurrent, NodeWorld, World, fold_of, Event, Deliver, Foreign, Work, Send}
+use Rattle.world.proofs.Names.{Record, Restart, HasEvidence, IsAllowed, delivered, message, with_node, recorded}
+use Rattle.world.proofs.Names.{happens, opened, Makes}
 use Rattle.world.proofs.Appended.{fold-append}
 use Rattle.world.proofs.Instance.{ForeignCall, Opens, Calls}
 use Rattle.world.proofs.FitNode.{KeepsNode, fit}
