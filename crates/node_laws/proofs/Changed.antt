@@ -47,11 +47,7 @@ pub each-changed : (R : Transfer → Transfer → Type 0) (client id : ℕ) (f :
 each-changed R client id f ts u r e other own = each-imp _ _ (λ t. go t) ts (only client id ts u r e)
   where
     go : (t : Transfer) → ((t.header.id == id) ≡ true → t ≡ u) → R t (changed id f t)
-    go t h = by (t.header.id == id) refl
-      where
-        by : (b : Bool) → (t.header.id == id) ≡ b → R t (if b then f t else t)
-        by true q = subst (λ v. R v (f v)) (sym (h q)) own
-        by false q = other t q
+    go t h = grind (arith) steps 500000
 
 -- a fact of each transfer
 pub all-changed : (P Q : Transfer → Type 0) (client id : ℕ) (f : Transfer → Transfer) (ts : List Transfer) (u : Transfer) → numbers_rise (ids ts) ≡ true → found client id ts ≡ Some u

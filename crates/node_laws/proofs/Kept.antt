@@ -109,15 +109,8 @@ module _ (read : Reading) (reading : IsReading read) where
 
   -- an entry of a legal history
   answered : (s : NodeState) (client : ℕ) (at : CallNo) (c : Call) (r : Reply) → (step s client at c (verdict_for read s client c)).1 ≡ Answered r → r ≡ reply_to s client c (verdict_for read s client c)
-  answered s client at c r e = by (of_client s.last client) e
-    where
-      order : (kept : Kept) (o : Ordering) → (by_order s (executed s client at c (verdict_for read s client c)) kept o).1 ≡ Answered r → r ≡ reply_to s client c (verdict_for read s client c)
-      order kept Greater q = cc
-      order kept _ q = absurd (cc)
-
-      by : (o : Option Kept) → (by_last s (executed s client at c (verdict_for read s client c)) at o).1 ≡ Answered r → r ≡ reply_to s client c (verdict_for read s client c)
-      by None q = cc
-      by (Some kept) q = order kept (call_no_cmp at kept.no) q
+  answered s client at c r e =
+      grind (arith, of_client, by_order, executed, verdict_for, reply_to, by_last, call_no_cmp)
 
   next-fit : (s : NodeState) (entry : Entry) → IsFit read s → IsNext read s entry → IsFit read (after_entry read s entry)
   next-fit s (Numbered client at c r) fit next =

@@ -154,10 +154,7 @@ last-fit read s x id u fit v e = record {
     other-id t n = grind arith
 
     same : map (λ change. change.part) x.changes ++ parts_of (found x.owner id s.transfers) ≡ map (λ change. change.part) (x.changes ++ changes_of id u.parts) ++ []
-    same =
-        ap (λ o. map (λ (change : Change Bytes). change.part) x.changes ++ parts_of o) e
-        ∙ (ap (λ ps. map (λ (change : Change Bytes). change.part) x.changes ++ ps) (sym (parts-of-changes id u.parts))
-        ∙ (sym (map-append (λ (change : Change Bytes). change.part) x.changes (changes_of id u.parts)) ∙ sym (append-nil _)))
+    same = grind (arith, parts_of, parts-of-changes, map-append, changes_of, append-nil) steps 500000
 
     still : (t : Transfer) (p : Phase) → (t.header.id == id) ≡ false → IsPlannedWhole x t p → IsPlannedWhole (later x id u.parts) t p
     still t Processed n h =

@@ -21,8 +21,7 @@ pub moved : (s : NodeState) (x : Session) (a b : Status) (running : List (Cluste
     → IfSome x.processing (IsUnfinished x.owner done s.transfers) → LeavesOneToVerify (record x { verified = verified }) b → is_some o ≡ has_status CleaningUp (record s { status = b })
     → length (names_among {D = Bytes} (running ++ x.saved) [] (parts_in s x)) ≤ cluster_limit
     → Busy (record s { status = b; running = running }) (record x { units_done = done; verified = verified; outcome = o })
-moved s x a b running done verified o v due runs plans working unfinished leaves outcome names =
-    grind arith steps 500000
+moved s x a b running done verified o v due runs plans working unfinished leaves outcome names = grind (arith)
 
 pub moved-fit : (read : Reading) (s : NodeState) (x : Session) (b : Status) (running : List (Cluster Bytes)) → IsFit read s → names_rise (names_of running) ≡ true → Busy (record s { status = b; running = running }) x
     → IsFit read (record s { status = b; running = running; session = Some x })

@@ -48,8 +48,7 @@ start-fit read s client size low fit r =
 -- a changed transfer is sound, and the others stay so
 pub held-changed : (next client id : ℕ) (ts : List Transfer) (u : Transfer) (f : Transfer → Transfer) → Held next ts → KeepsNames f → found client id ts ≡ Some u
     → ((t : Transfer) → (f t).header.size ≡ t.header.size) → (IsSound next u → IsSound next (f u)) → Held next (map (changed id f) ts)
-held-changed next client id ts u f h k e size sound =
-    grind (arith, all-changed, ids-changed, length-map) steps 500000
+held-changed next client id ts u f h k e size sound = grind (arith, all-changed, ids-changed, length-map)
 
 pub changed-fit : (read : Reading) (s : NodeState) (client id : ℕ) (u : Transfer) (f : Transfer → Transfer) → IsFit read s → KeepsNames f → ((t : Transfer) → (f t).header.size ≡ t.header.size) → transfer_of s client id ≡ Some u
     → IsEarly u.header.phase → IsEarly (f u).header.phase → (IsSound s.next_id u → IsSound s.next_id (f u)) → IsRead read (f u) (f u).header.phase → IsFit read (record s { transfers = map (changed id f) s.transfers })
@@ -85,13 +84,7 @@ data-fit read s client id counter bytes fit r =
     (sound u.0 phase size some) (subst (IsRead read (block bytes u.0)) (sym phase) tt)
   where
     sound : (u : Transfer) → u.header.phase ≡ Transferring → u.header.received + length bytes ≤ u.header.size → (length bytes == 0) ≡ false → IsSound s.next_id u → IsSound s.next_id (block bytes u)
-    sound u phase size some k = record {
-      bytes = rw (length-append u.bytes) (ap (λ n. n + length bytes) k.bytes);
-      size = size;
-      counter = (omega arith, grind arith);
-      whole = subst (IsWholeFromTransferred (block bytes u)) (sym phase) (subst (IsWholeFromTransferred u) phase k.whole);
-      id = k.id;
-    }
+    sound u phase size some k = grind (arith, length-append) steps 500000
 
 -- the bytes are whole, and a package
 pub exit-fit : (read : Reading) (s : NodeState) (client id : ℕ) (v : Verdict) → IsReading read → IsFit read s → v ≡ read (option_map_or (λ t. t.bytes) (transfer_of s client id) [])
@@ -111,13 +104,7 @@ exit-fit read s client id v reading fit is r =
     accepted bytes (Err refusal) q e = absurd (cc)
 
     sound : (u : Transfer) → u.header.size ≤ u.header.received → (0 < length (parts_read v)) × (all_differ (map cluster_of (parts_read v)) ≡ true) → IsSound s.next_id u → IsSound s.next_id (whole v u)
-    sound u there some k = record {
-      bytes = k.bytes;
-      size = k.size;
-      counter = k.counter;
-      whole = (omega (arith, k.size), some.0, some.1);
-      id = k.id;
-    }
+    sound u there some k = grind (arith) steps 500000
 
 pub delete-fit : (read : Reading) (s : NodeState) (client id : ℕ) → IsFit read s → first_refusal (delete_refusals (header_of (transfer_of s client id))) ≡ None → IsFit read (deleted s id)
 delete-fit read s client id fit r =
@@ -140,9 +127,4 @@ delete-fit read s client id fit r =
     }
   where
     unprocessed : (h : Header) → (is_in BeingProcessed h || is_in Processed h) ≡ false → IsEarly h.phase
-    unprocessed h e = go h.phase e
-      where
-        go : (p : Phase) → ((phase_code p == 2) || (phase_code p == 3)) ≡ false → IsEarly p
-        go Transferring q = transferring
-        go Transferred q = transferred
-        go _ q = absurd (cc)
+    unprocessed h e = grind (arith, phase_code, transferring, transferred) steps 500000

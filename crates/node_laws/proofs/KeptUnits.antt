@@ -67,22 +67,12 @@ names-of-running s x running h few =
 
 -- the planned clusters run, and none is verified
 pub activate-fit : (read : Reading) (s : NodeState) (x : Session) → IsFit read s → Busy (record s { status = Activating }) x → IsFit read (activate_unit s x)
-activate-fit read s x fit v =
-    grind (arith, or-false, planned-rise, names-of-running, planned-within) steps 500000
+activate-fit read s x fit v = grind (arith, or-false, planned-rise, names-of-running, planned-within)
 
 -- one change more is verified, or the node turns back
 pub verify-fit : (read : Reading) (s : NodeState) (x : Session) (passed : Bool) → IsFit read s → s.session ≡ Some x → Busy (record s { status = Verifying }) x → IsFit read (verify_unit s x passed)
 verify-fit read s x false fit e v = grind arith steps 500000
-verify-fit read s x true fit e v = go (nat_lt (x.verified + 1) (length x.changes)) refl
-  where
-    rise : names_rise (names_of s.running) ≡ true
-    rise = (base-of s fit.consistent).running
-
-    go : (b : Bool) → nat_lt (x.verified + 1) (length x.changes) ≡ b → IsFit read (record s { status = (if b then Verifying else Activated); session = Some (record x { verified = x.verified + 1 }) })
-    go true q = moved-fit read s (record x { verified = x.verified + 1 }) Verifying s.running fit rise
-        (moved s x Verifying Verifying s.running x.units_done (x.verified + 1) x.outcome v v.due v.runs v.changes.not_empty v.working v.unfinished (ltb-true _ _ q) v.outcome v.names)
-    go false q = moved-fit read s (record x { verified = x.verified + 1 }) Activated s.running fit rise
-        (moved s x Verifying Activated s.running x.units_done (x.verified + 1) x.outcome v v.due v.runs v.changes.not_empty v.working v.unfinished (omega (arith, v.leaves)) v.outcome v.names)
+verify-fit read s x true fit e v = grind (arith, nat_lt, names_rise, names_of, base-of, moved-fit, moved, ltb-true)
 
 -- the saved clusters run again
 pub roll_back-fit : (read : Reading) (s : NodeState) (x : Session) → IsFit read s → s.session ≡ Some x → Busy (record s { status = RollingBack }) x → IsFit read (roll_back_unit s x)

@@ -79,8 +79,7 @@ CountsOnce n ys = length (different_names ys) ≡ 1 + length (different_names (a
 -- a name that is there counts once
 one-less : (n : List ℕ) (ys : List (List ℕ)) → has_name ys n ≡ true → CountsOnce n ys
 one-less n [] e = absurd (cc)
-one-less n (y ∷ ys) e =
-    grind (arith, name-eq, apart-none, still-has, name-swap, one-less n ys) steps 500000
+one-less n (y ∷ ys) e = grind (arith, name-eq, apart-none, still-has, name-swap, one-less n ys)
 
 none-is : (xs : List (List ℕ)) (n : List ℕ) → has_name xs n ≡ false → AllByRecursion (λ x. bytes_eq x n ≡ false) xs
 none-is [] n e = tt

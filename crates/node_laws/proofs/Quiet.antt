@@ -69,29 +69,11 @@ module _ (s : NodeState) (next : ℕ) (us : List Transfer) (quiet : Quiet s.next
   same-parts x h k m = grind (arith, same-found) steps 500000
 
   busy-quiet : (x : Session) → Base s → Busy s x → Busy after x
-  busy-quiet x b v =
-      let same = same-parts x b.held v.each v.unfinished in
-      record {
-        due = v.due;
-        runs = v.runs;
-        changes = record { differ = v.changes.differ; whole = quiet.whole x v.changes.whole; processed = each-imp _ _ (λ change. quiet.processed change.transfer) x.changes v.changes.processed; not_empty = v.changes.not_empty };
-        applies = subst (PartsApply x.saved) (sym same) v.applies;
-        each = quiet.each x.processing (below-next x.owner x.units_done x.processing b.held v.each v.unfinished) v.each;
-        working = v.working;
-        unfinished = still-unfinished x.owner x.units_done x.processing b.held v.each v.unfinished;
-        leaves = v.leaves;
-        outcome = v.outcome;
-        names = subst (λ parts. length (names_among {D = Bytes} (s.running ++ x.saved) [] parts) ≤ cluster_limit) (sym same) v.names;
-        saved = v.saved;
-      }
+  busy-quiet x b v = grind (arith, same-parts, each-imp, below-next, still-unfinished, names_among, cluster_limit)
 
   -- a consistent state stays so
   pub quiet-consistent : IsConsistent s → IsConsistent after
-  quiet-consistent v =
-      let b = base-of s v in
-      by-session s (λ o. IsConsistent (record after { session = o }))
-      (λ e. let f = free-of s e v in free-is after (base-quiet b) (record { idle = f.idle; changes = quiet.unprocessed f.changes; each = quiet.each None tt f.each; names = f.names }))
-      (λ x e. busy-is after x (base-quiet b) (busy-quiet x b (busy-of s x e v)))
+  quiet-consistent v = grind (arith, base-of, by-session, free-of, free-is, base-quiet, busy-is, busy-quiet, busy-of)
 
 -- a transfer more
 pub quiet-started : (next : ℕ) (ts : List Transfer) (t : Transfer) → t.header.id ≡ next → IsEarly t.header.phase → Quiet next ts (ts ++ t ∷ [])
@@ -141,11 +123,4 @@ quiet-deleted next client id ts u h e early = record {
             absurd (cc)
 
     passes : (n : ℕ) (t : Transfer) → ((t.header.id == id) ≡ true → t ≡ u) → ((t.header.id == n) && is_in Processed t.header) ≡ true → not (t.header.id == id) ≡ true
-    passes n t k p = go (t.header.id == id) refl
-      where
-        go : (b : Bool) → (t.header.id == id) ≡ b → not b ≡ true
-        go false q = refl
-        go true q =
-            let own = (and_parts (t.header.id == n) (is_in Processed t.header) p).1 in
-            let z : is_in Processed t.header ≡ false = ap (λ (v : Transfer). is_in Processed v.header) (k q) ∙ early-not_processed u.header early in
-            absurd (cc)
+    passes n t k p = grind (arith, not, and_parts, is_in, early-not_processed) steps 500000

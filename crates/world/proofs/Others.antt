@@ -18,60 +18,18 @@ use Rattle.world.proofs.Rules.{KeepsTransfers}
 use Rattle.world.proofs.Instance.{ForeignCall, tag_if, mine_in, ended_in, foreign_in, unit_in, real}
 use Rattle.world.proofs.Basics.{judged-by, not-refused}
 use Rattle.world.proofs.Units.{unit-cases}
-use Rattle.world.proofs.TransferLaws.{KeepsNames, keeps-all, keeps-changed, find-passes, find-all, and-true}
+use Rattle.std.proofs.lemmas.Bool.{eq-eqb}
+use Rattle.node_laws.proofs.Changed.{KeepsNames, found-is, only}
+use Rattle.node_laws.proofs.Lists.{each-imp, each-both}
+use Rattle.world.proofs.TransferLaws.{keeps-all, keeps-changed}
 use Rattle.world.proofs.TransferLaws.{data-rest}
 use Rattle.world.proofs.Foreign.{foreign-cases}
 
--- numbers that rise
-numbers-above : (a : ℕ) (ns : List ℕ) → numbers_rise (a ∷ ns) ≡ true → AllByRecursion (λ (n : ℕ). a < n) ns
-numbers-above a [] r = tt
-numbers-above a (b ∷ ns) r =
-    let p = and-true (nat_lt a b) (numbers_rise (b ∷ ns)) r in
-    let lt : a < b = ltb-true a b p.0 in
-    (lt, more lt ns (numbers-above b ns p.1))
-  where
-    more : a < b → (ms : List ℕ) → AllByRecursion (λ (n : ℕ). b < n) ms → AllByRecursion (λ (n : ℕ). a < n) ms
-    more lt [] h = tt
-    more lt (m ∷ ms) h = (let z : b < m = h.0 in omega arith, more lt ms h.1)
-
-rise-tail : (a : ℕ) (ns : List ℕ) → numbers_rise (a ∷ ns) ≡ true → numbers_rise ns ≡ true
-rise-tail a x r = grind arith steps 1500000
-
-of-map : (P : ℕ → Type 0) (ts : List Transfer) → AllByRecursion P (map (λ (t : Transfer). t.header.id) ts) → AllByRecursion (λ (t : Transfer). P t.header.id) ts
-of-map P [] h = tt
-of-map P (t ∷ ts) h = (h.0, of-map P ts h.1)
-
-imply-all : (P Q : Transfer → Type 0) → ((t : Transfer) → P t → Q t) → (ts : List Transfer) → AllByRecursion P ts → AllByRecursion Q ts
-imply-all P Q g [] h = tt
-imply-all P Q g (t ∷ ts) h = (g t h.0, imply-all P Q g ts h.1)
-
-both-all : (P Q R : Transfer → Type 0) → ((t : Transfer) → P t → Q t → R t) → (ts : List Transfer) → AllByRecursion P ts → AllByRecursion Q ts → AllByRecursion R ts
-both-all P Q R g [] h k = tt
-both-all P Q R g (t ∷ ts) h k = (g t h.0 k.0, both-all P Q R g ts h.1 k.1)
-
 -- each transfer of a found id is the found client's
 unique : (c id : ℕ) (ts : List Transfer) (t : Transfer) → numbers_rise (map (λ (y : Transfer). y.header.id) ts) ≡ true → find (λ (y : Transfer). is_of c id y.header) ts ≡ Some t → AllByRecursion (λ (y : Transfer). (y.header.id == id) ≡ true → (y.header.client == c) ≡ true) ts
-unique c id [] t r e = tt
-unique c id (y ∷ ys) t r e = go (is_of c id y.header) refl e (λ q. unique c id ys t (rise-tail y.header.id (map (λ (z : Transfer). z.header.id) ys) r) q)
-  where
-    above : AllByRecursion (λ (z : Transfer). y.header.id < z.header.id) ys
-    above = of-map (λ (n : ℕ). y.header.id < n) ys (numbers-above y.header.id (map (λ (z : Transfer). z.header.id) ys) r)
-
-    go : (b : Bool) → is_of c id y.header ≡ b → cond b (Some y) (find (λ (z : Transfer). is_of c id z.header) ys) ≡ Some t → (find (λ (z : Transfer). is_of c id z.header) ys ≡ Some t → AllByRecursion (λ (z : Transfer). (z.header.id == id) ≡ true → (z.header.client == c) ≡ true) ys) → AllByRecursion (λ (z : Transfer). (z.header.id == id) ≡ true → (z.header.client == c) ≡ true) (y ∷ ys)
-    go true q h rec =
-        let p = and-true (y.header.id == id) (y.header.client == c) q in (
-          λ i. p.1,
-          imply-all (λ (z : Transfer). y.header.id < z.header.id) (λ (z : Transfer). (z.header.id == id) ≡ true → (z.header.client == c) ≡ true)
-              (λ z lt i. let a : y.header.id ≡ id = eqb-true y.header.id id p.0 in let b : z.header.id ≡ id = eqb-true z.header.id id i in absurd (omega (arith, lt, a, b))) ys above,
-        )
-    go false q h rec = (
-      λ i.
-          (let lt : y.header.id < t.header.id = find-all (λ (z : Transfer). y.header.id < z.header.id) (λ (z : Transfer). is_of c id z.header) ys t above h in
-          let a : y.header.id ≡ id = eqb-true y.header.id id i in
-          let b : t.header.id ≡ id = eqb-true t.header.id id (and-true (t.header.id == id) (t.header.client == c) (find-passes (λ (z : Transfer). is_of c id z.header) ys t h)).0 in
-          absurd (omega (arith, lt, a, b))),
-      rec h,
-    )
+unique c id ts t r e =
+    each-imp _ _ (λ y same q. let own = found-is c id ts t e in eq-eqb _ _ (ap (λ (z : Transfer). z.header.client) (same q) ∙ own.1)) ts
+    (only c id ts t r e)
 
 -- a change that leaves client 0's transfers
 pub record Leaves0 (g : Transfer → Transfer) (t : Transfer) : Type 0 where
@@ -118,7 +76,7 @@ module _ (read : Reading) (clusters : List (Cluster Bytes)) where
   clean-others : (s : NodeState) (x : Session) → IsConsistent s → s.session ≡ Some x → (x.owner == 0) ≡ false → s.status ≡ CleaningUp → KeepsTransfers (real read clusters) s (clean_up_unit s x)
   clean-others s x v e owner st =
       keeps-filter s (clean_up_unit s x) (λ t. not (is_in BeingProcessed t.header || is_in Processed t.header))
-      (both-all (λ t. IsPlannedWhole x t t.header.phase) (λ t. is_in BeingProcessed t.header ≡ some_passes (λ (i : ℕ). i == t.header.id) (id_in_processing s)) (λ (t : Transfer). (t.header.client == 0) ≡ true → not (is_in BeingProcessed t.header || is_in Processed t.header) ≡ true)
+      (each-both (λ t. IsPlannedWhole x t t.header.phase) (λ t. is_in BeingProcessed t.header ≡ some_passes (λ (i : ℕ). i == t.header.id) (id_in_processing s)) (λ (t : Transfer). (t.header.client == 0) ≡ true → not (is_in BeingProcessed t.header || is_in Processed t.header) ≡ true)
       each s.transfers (subst (λ o. ChangesAreDue s o) e v.changes).whole v.processing.each) refl
     where
       each : (t : Transfer) → IsPlannedWhole x t t.header.phase → is_in BeingProcessed t.header ≡ some_passes (λ (i : ℕ). i == t.header.id) (id_in_processing s) → (t.header.client == 0) ≡ true → not (is_in BeingProcessed t.header || is_in Processed t.header) ≡ true
@@ -204,7 +162,7 @@ module _ (read : Reading) (clusters : List (Cluster Bytes)) where
       go (Some why) q = keeps-all read clusters s s refl
       go None q =
           keeps-left s (with_block s id bytes) (λ t. if t.header.id == id then record t { header = grown (length bytes) t.header; bytes = t.bytes ++ bytes } else t)
-          (imply-all (λ (y : Transfer). (y.header.id == id) ≡ true → (y.header.client == suc a) ≡ true) (λ y. Leaves0 (λ t. if t.header.id == id then record t { header = grown (length bytes) t.header; bytes = t.bytes ++ bytes } else t) y) each s.transfers
+          (each-imp (λ (y : Transfer). (y.header.id == id) ≡ true → (y.header.client == suc a) ≡ true) (λ y. Leaves0 (λ t. if t.header.id == id then record t { header = grown (length bytes) t.header; bytes = t.bytes ++ bytes } else t) y) each s.transfers
           (others s a id v (head-false (is_none (header_of (transfer_of s (suc a) id)), InvalidTransferId) (data-rest (header_of (transfer_of s (suc a) id)) counter (length bytes)) q))) refl
         where
           head-false : (row : Bool × Refusal) (rows : List (Bool × Refusal)) → first_refusal (row ∷ rows) ≡ None → row.0 ≡ false
@@ -224,7 +182,7 @@ module _ (read : Reading) (clusters : List (Cluster Bytes)) where
       go (Some why) q = keeps-all read clusters s s refl
       go None q =
           keeps-filter s (deleted s id) (λ t. not (t.header.id == id))
-          (imply-all (λ (y : Transfer). (y.header.id == id) ≡ true → (y.header.client == suc a) ≡ true) (λ (y : Transfer). (y.header.client == 0) ≡ true → not (y.header.id == id) ≡ true) each s.transfers
+          (each-imp (λ (y : Transfer). (y.header.id == id) ≡ true → (y.header.client == suc a) ≡ true) (λ (y : Transfer). (y.header.client == 0) ≡ true → not (y.header.id == id) ≡ true) each s.transfers
           (others s a id v (head-false (is_none (header_of (transfer_of s (suc a) id)), InvalidTransferId) ((some_passes (λ h. is_in BeingProcessed h || is_in Processed h) (header_of (transfer_of s (suc a) id)), OperationNotPermitted) ∷ []) q))) refl
         where
           head-false : (row : Bool × Refusal) (rows : List (Bool × Refusal)) → first_refusal (row ∷ rows) ≡ None → row.0 ≡ false

@@ -13,45 +13,19 @@ use Rattle.world.proofs.Names.{verify_unit, roll_back_unit, Reading, verdict_for
 use Rattle.world.proofs.Names.{id_in_processing, IsFit, TransferStart, TransferData, TransferExit, ProcessSwPackage}
 use Rattle.world.proofs.Names.{Done, Started}
 use Rattle.pm_types.specs.declared.calls.Call.TheVariants as call
+use Rattle.node_laws.proofs.Changed.{changed, KeepsNames, found-is, found-changed}
 use Rattle.world.proofs.Rules.{KeepsTransfers}
 use Rattle.world.proofs.Instance.{tag_if, mine_in, planned_in, ended_in, received_in, judged_in, unit_in, real}
 use Rattle.world.proofs.Basics.{judged-by, done-none, not-refused}
 use Rattle.world.proofs.Units.{unit-cases, unit-is}
 
-abbrev changed : ℕ → (Transfer → Transfer) → Transfer → Transfer
-changed id f t = if t.header.id == id then f t else t
-
--- a change of a transfer that leaves its id and client
-pub record KeepsNames (f : Transfer → Transfer) : Type 0 where
-  pub id : (t : Transfer) → (f t).header.id ≡ t.header.id
-  pub client : (t : Transfer) → (f t).header.client ≡ t.header.client
-
-changed-id : (id : ℕ) (f : Transfer → Transfer) → KeepsNames f → (t : Transfer) → (changed id f t).header.id ≡ t.header.id
-changed-id id f k t = grind arith steps 500000
-
-changed-client : (id : ℕ) (f : Transfer → Transfer) → KeepsNames f → (t : Transfer) → (changed id f t).header.client ≡ t.header.client
-changed-client id f k t = grind arith steps 500000
-
 ids-changed : (c id : ℕ) (f : Transfer → Transfer) → KeepsNames f → (ts : List Transfer) → map (λ (t : Transfer). t.header.id) (filter (λ (t : Transfer). t.header.client == c) (map (changed id f) ts)) ≡ map (λ (t : Transfer). t.header.id) (filter (λ (t : Transfer). t.header.client == c) ts)
 ids-changed c id f k [] = refl
-ids-changed c id f k (t ∷ ts) = grind (arith, changed-id, ids-changed c id f k ts)
-
-found-changed : (c j id : ℕ) (f : Transfer → Transfer) → KeepsNames f → (ts : List Transfer) → find (λ (t : Transfer). is_of c j t.header) (map (changed id f) ts) ≡ option_map (changed id f) (find (λ (t : Transfer). is_of c j t.header) ts)
-found-changed c j id f k [] = refl
-found-changed c j id f k (t ∷ ts) = grind (arith, changed-client, found-changed c j id f k ts)
-
--- what is found passes
-pub find-passes : (p : Transfer → Bool) (ts : List Transfer) (t : Transfer) → find p ts ≡ Some t → p t ≡ true
-find-passes p [] t e = absurd (cc e)
-find-passes p (y ∷ ys) t e = grind (arith, find-passes p ys t) steps 500000
+ids-changed c id f k (t ∷ ts) = grind (arith, ids-changed c id f k ts)
 
 pub find-all : (P : Transfer → Type 0) (p : Transfer → Bool) (ts : List Transfer) (t : Transfer) → AllByRecursion P ts → find p ts ≡ Some t → P t
 find-all P p [] t a e = absurd (cc e)
 find-all P p (y ∷ ys) t a e = grind (arith, find-all P p ys t a.1) steps 500000
-
-pub and-true : (a b : Bool) → (a && b) ≡ true → (a ≡ true) × (b ≡ true)
-and-true true b e = (refl, e)
-and-true false b e = absurd (cc e)
 
 abbrev pub data-rest : Option Header → ℕ → ℕ → List (Bool × Refusal)
 data-rest found counter size =
@@ -66,7 +40,7 @@ bytes-changed id f k x = grind arith steps 1500000
 
 -- where no transfer of the id is changed
 bytes-other : (id j : ℕ) (f : Transfer → Transfer) (c : ℕ) (ts : List Transfer) → j ≢ id → (o : Option Transfer) → find (λ (t : Transfer). is_of c j t.header) ts ≡ o → option_map_or (λ (t : Transfer). t.bytes) (option_map (changed id f) o) [] ≡ option_map_or (λ (t : Transfer). t.bytes) o []
-bytes-other id j f c ts n x e = grind (arith, and-true, find-passes) steps 1500000
+bytes-other id j f c ts n x e = grind (arith, found-is) steps 1500000
 
 module _ (read : Reading) (clusters : List (Cluster Bytes)) where
   pub keeps-all : (s t : NodeState) → t.transfers ≡ s.transfers → KeepsTransfers (real read clusters) s t
@@ -101,7 +75,7 @@ module _ (read : Reading) (clusters : List (Cluster Bytes)) where
 
   pub data_received : (s : NodeState) (id counter : ℕ) (bytes : List ℕ) → (judged_in read s (TransferData id counter bytes)).1 ≡ Done → (received_in (judged_in read s (TransferData id counter bytes)).0 id ≡ received_in s id ++ bytes) × ((other : ℕ) → other ≢ id → received_in (judged_in read s (TransferData id counter bytes)).0 other ≡ received_in s other)
   data_received s id counter bytes d =
-      grind (arith, not-refused, done-none, found-changed, block-names, received_in, bytes-other, and-true, find-passes)
+      grind (arith, not-refused, done-none, found-changed, block-names, received_in, bytes-other, found-is)
 
   ids-below : (next : ℕ) (ts : List Transfer) → AllByRecursion (IsSound next) ts → AllByRecursion (λ (n : ℕ). n < next) (map (λ (t : Transfer). t.header.id) (filter (λ (t : Transfer). t.header.client == 0) ts))
   ids-below next [] a = tt
@@ -119,7 +93,8 @@ module _ (read : Reading) (clusters : List (Cluster Bytes)) where
   start_transfers s size id v e = grind (arith, not-below, ids-below, filter-append, map-append)
 
   none-found : (next : ℕ) (ts : List Transfer) → AllByRecursion (IsSound next) ts → find (λ (t : Transfer). is_of 0 next t.header) ts ≡ None
-  none-found next ts a = grind (arith, find-all, eqb-true, and-true, find-passes) steps 500000
+  none-found next [] a = refl
+  none-found next (t ∷ ts) a = grind (arith, none-found next ts a.1)
 
   pub start_received : (s : NodeState) (size id : ℕ) → IsConsistent s → (judged_in read s (TransferStart size)).1 ≡ Started id → (received_in (judged_in read s (TransferStart size)).0 id ≡ []) × ((other : ℕ) → other ≢ id → received_in (judged_in read s (TransferStart size)).0 other ≡ received_in s other)
   start_received s size id v e = grind (arith, received_in, find-append, none-found, eqb-true)
@@ -164,7 +139,7 @@ module _ (read : Reading) (clusters : List (Cluster Bytes)) where
 
   parts-are : (s : NodeState) (x : Session) (id : ℕ) → IsFit read s → s.session ≡ Some x → (x.owner == 0) ≡ true → x.processing ≡ Some id → parts_of_id s x id ≡ parts_read (read (received_in s id))
   parts-are s x id fit e owner p =
-      grind (arith, received_in, find-all, and-true, find-passes, eq-eqb) steps 500000
+      grind (arith, received_in, find-all, found-is, eq-eqb) steps 500000
 
   pub unit_processing : (s : NodeState) (passed : Bool) (tag id : ℕ) → IsFit read s → mine_in s ≡ Some tag → s.status ≡ Processing → id_in_processing s ≡ Some id → (mine_in (unit_in s passed) ≡ Some tag) × (ended_in (unit_in s passed) ≡ ended_in s) × ((((unit_in s passed).status ≡ Processing) × (planned_in (unit_in s passed) ≡ planned_in s) × (id_in_processing (unit_in s passed) ≡ Some id)) ⊎ (((unit_in s passed).status ≡ Ready) × (planned_in (unit_in s passed) ≡ planned_in s ++ parts_read (read (received_in s id)))))
   unit_processing s passed tag id fit mine st p =
