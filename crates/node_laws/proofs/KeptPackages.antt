@@ -121,19 +121,7 @@ begun-fit read s x id u fit v e phase accepted = record {
 
 -- a session in Ready waits for a package
 ready-waits : (s : NodeState) (x : Session) → Busy (record s { status = Ready }) x → Waits s x
-ready-waits s x v = record {
-  tag = v.due;
-  runs = v.runs;
-  differ = v.changes.differ;
-  whole = v.changes.whole;
-  processed = v.changes.processed;
-  applies = each-first _ (map (λ change. change.part) x.changes) _ v.applies.each;
-  each = subst (λ o. InProcessing o s.transfers) (none x.processing v.working) v.each;
-  leaves = v.leaves;
-  outcome = v.outcome;
-  names = few;
-  saved = v.saved;
-}
+ready-waits s x v = grind (arith, none, few, applies, each-first) steps 2000000
   where
     none : (o : Option ℕ) → is_some o ≡ false → o ≡ None
     none None e = refl

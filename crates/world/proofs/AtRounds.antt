@@ -141,11 +141,7 @@ module _ (N : NodeRules) (laws : NodeLaws N) where
           grind (arith, led-to, led-refused, laws.data_transfers, laws.data_received, laws.data_session, hold-apart, append_assoc) steps 500000
 
   led-exit : (s : N.State) (k : ℕ) (ps : List (List ℕ)) (ids : List ℕ) (id counter : ℕ) (left : List (List ℕ)) → IsAt N s k ps (At_data ids id counter [] left) → IsLed s (TransferExit id) k ps (At_data ids id counter [] left)
-  led-exit s k ps ids id counter left h =
-      elim (laws.exit_replies s id) [
-        | inl d ↦ led-to s (TransferExit id) k ps (At_data ids id counter [] left) Done d (go left refl)
-        | inr r ↦ led-refused s (TransferExit id) k ps (At_data ids id counter [] left) r.0 r.1
-      ]
+  led-exit s k ps ids id counter left h = grind (arith, go, laws.exit_replies, led-to, led-refused) steps 2000000
     where
       sends : (qs : List (List ℕ)) → left ≡ qs → Sends N (N.judge s (TransferExit id)).0 (ids ++ id ∷ []) qs ps
       sends qs e =
@@ -162,11 +158,7 @@ module _ (N : NodeRules) (laws : NodeLaws N) where
 
   -- a package comes into processing
   led-process : (s : N.State) (k : ℕ) (ps : List (List ℕ)) (id : ℕ) (ids : List ℕ) (taken : ℕ) → IsAt N s k ps (At_process (id ∷ ids) taken) → IsLed s (ProcessSwPackage id k) k ps (At_process (id ∷ ids) taken)
-  led-process s k ps id ids taken h =
-      elim (laws.process_replies s id k) [
-        | inl d ↦ led-to s (ProcessSwPackage id k) k ps (At_process (id ∷ ids) taken) Done d (from taken h d)
-        | inr r ↦ led-refused s (ProcessSwPackage id k) k ps (At_process (id ∷ ids) taken) r.0 r.1
-      ]
+  led-process s k ps id ids taken h = grind (arith, from, laws.process_replies, led-to, led-refused) steps 2000000
     where
       next : (done left : List (List ℕ)) → done ++ left ≡ ps → Has N (N.judge s (ProcessSwPackage id k)).0 k (flat_map N.changes_of done) → (js : List ℕ) → Hold N (N.judge s (ProcessSwPackage id k)).0 js left → IsAt N (N.judge s (ProcessSwPackage id k)).0 k ps (next_processed js (suc taken))
       next done [] all has [] hold = subst (λ l. Has N (N.judge s (ProcessSwPackage id k)).0 k (flat_map N.changes_of l)) (sym (append-nil done) ∙ all) has
@@ -191,10 +183,7 @@ module _ (N : NodeRules) (laws : NodeLaws N) where
 
       later : (done left : List (List ℕ)) → done ++ left ≡ ps → Has N s k (flat_map N.changes_of done) → Hold N s (id ∷ ids) left → (N.judge s (ProcessSwPackage id k)).1 ≡ Done → IsAt N (N.judge s (ProcessSwPackage id k)).0 k ps (next_processed ids (suc taken))
       later done [] all has hold d = absurd hold
-      later done (p ∷ left) all has hold d =
-          let u = laws.process_ready s id k k has.mine d in
-          let planned : N.planned s ≡ flat_map N.changes_of done = elim has.planned [ inl r ↦ r.1 | inr q ↦ absurd (cc (u.0, q.0)) ] in
-          goes done p left all hold (inl planned) d (u.2, u.3, u.4 ∙ planned, u.5)
+      later done (p ∷ left) all has hold d = grind (arith, laws.process_ready, flat_map, goes) steps 1500000
 
       from : (n : ℕ) → IsAt N s k ps (At_process (id ∷ ids) n) → (N.judge s (ProcessSwPackage id k)).1 ≡ Done → IsAt N (N.judge s (ProcessSwPackage id k)).0 k ps (next_processed ids (suc taken))
       from zero g d = first g.done g.all g.none g.hold d

@@ -33,14 +33,7 @@ module _ (N : NodeRules) (laws : NodeLaws N) (k : ℕ) (changes : List N.Change)
   waits-keeps s t keeps w = grind arith steps 500000
 
   pub waits-judge : (s : N.State) (call : Call) → IsCalm call → Waits s → Waits (N.judge s call).0
-  waits-judge s call calm w =
-      elim calm [
-        | inl e ↦ subst (λ c. Waits (N.judge s c).0) (sym e) (subst (λ t. Waits t) (sym (laws.sync_state s)) w)
-        | inr h ↦ elim h [
-          | inl e ↦ subst (λ c. Waits (N.judge s c).0) (sym e) finished
-          | inr d ↦ subst (λ c. Waits (N.judge s c).0) (sym d.1) (waits-keeps s (N.judge s (DeleteTransfer d.0)).0 (laws.delete_session s d.0) w)
-        ]
-      ]
+  waits-judge s call calm w = grind (arith, finished, laws.sync_state, waits-keeps, laws.delete_session) steps 2000000
     where
       finished : Waits (N.judge s Finish).0
       finished =

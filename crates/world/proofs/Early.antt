@@ -174,14 +174,7 @@ module _ (N : NodeRules) (laws : NodeLaws N) (packages : Packages) (numbers : Li
   of-record w (VoteOf nd v) h evidence kept each = plain w (VoteOf nd v) (λ n c. same-refl n c (changed c (VoteOf nd v)) refl refl refl refl) (λ c. refl) (λ n c y. voted n c y) each
     where
       voted : (n : ℕ) (c : Current) → vote_of (changed c (VoteOf nd v)) n ≡ Some Vote.Yes → (vote_of c n ≡ Some Vote.Yes) ⊎ (showed_after_activate Activated (w.node n).told ≡ true)
-      voted n c y =
-          elim (part-with c.votes nd n (Some v) Vote.Yes y) [
-            | inl q ↦ inl q
-            | inr q ↦
-                (let v_is : v ≡ Vote.Yes = (let z : Some v ≡ Some Vote.Yes = q.1 in cc z) in
-                let shown : VoteEvidence Vote.Yes (w.node nd).told = subst (λ z. VoteEvidence z (w.node nd).told) v_is evidence in
-                inr (subst (λ k. showed_after_activate Activated (w.node k).told ≡ true) (sym q.0) shown))
-          ]
+      voted n c y = grind (arith, part-with, showed_after_activate) steps 1500000
   of-record w (Decide d) h evidence kept each = decide w d w.fold.current refl each
   of-record w (EndedAt nd o) h evidence kept each = ended w nd o w.fold.current refl h evidence kept each
   of-record w (Enter r) h evidence kept each = enter w r w.fold.current refl h each

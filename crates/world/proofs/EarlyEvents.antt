@@ -152,11 +152,7 @@ module _ (N : NodeRules) (laws : NodeLaws N) (packages : Packages) (numbers : Li
       where
         stays : (c : Current) → IsAt N (state_of N x) c.campaign (packages c.campaign n) (stage_after (packages c.campaign n) (round_entries N c.campaign x.moves)) → (spans N c.campaign x.moves).ended ≡ [] → (spans N c.campaign (Unit_done passed ∷ x.moves)).ended ≡ []
         stays c at none =
-            elim (span-ended N laws f n (spans N c.campaign x.moves) (is_status (N.status (state_of N x)) CleaningUp) (record { outcome = N.outcome (state_of N x); before = state_of N x; left = N.unit (state_of N x) passed } ∷ (spans N c.campaign x.moves).ended)) [
-              | inl e ↦ e ∙ none
-              | inr h ↦ absurd
-                  (at-not_cleaning N laws (state_of N x) c.campaign c.campaign (packages c.campaign n) (stage_after (packages c.campaign n) (round_entries N c.campaign x.moves)) at (old.open_span c.campaign h.0) (is-cleaning N laws f n (N.status (state_of N x)) h.1))
-            ]
+            grind (arith, span-ended, spans, is_status, state_of, at-not_cleaning, stage_after, round_entries, is-cleaning) steps 1500000
 
     pub early-answered-event : (f : Fold) (x : NodeWorld N) (m : Message) (r : Reply) → InSent m x.sent → m.at ≡ N.last (state_of N x) → N.kept (state_of N x) ≡ r → KeptLive N f n x → KeptEarly N packages f n x → KeptEarly N packages f n (record { moves = x.moves; sent = x.sent; told = Answered m r ∷ x.told })
     early-answered-event f x m r sent at kept live early =
@@ -177,13 +173,7 @@ module _ (N : NodeRules) (laws : NodeLaws N) (packages : Packages) (numbers : Li
 
     pub early-send : (f : Fold) (x : NodeWorld N) (c : Current) (call : Call) → f.current ≡ Some c → MaySend packages f.epoch n c x.told x.sent call → KeptOld N f n x → KeptLive N f n x → KeptEarly N packages f n x → KeptEarly N packages f n (record { moves = x.moves; sent = record { at = next_number f.epoch x.sent; call = call; campaign = c.campaign; decided = is_some c.decision } ∷ x.sent; told = x.told })
     early-send f x c call current may old live early =
-        record {
-          at = λ c' current' undecided quiet.
-              let same = some-inj c' c (sym current' ∙ current) in
-              subst (λ y. EarlyAt N f.epoch y.campaign (packages y.campaign n) (state_of N x) (round_entries N y.campaign x.moves) (spans N y.campaign x.moves).ended (record { at = next_number f.epoch x.sent; call = call; campaign = c.campaign; decided = is_some c.decision } ∷ x.sent) x.told) (sym same)
-              (here (sym (ap (λ y. y.decision) same) ∙ undecided) (sym (ap (λ y. y.restart) same) ∙ quiet));
-          yes = early.yes;
-        }
+        grind (arith, here, some-inj, state_of, round_entries, spans, next_number, is_some) steps 2000000
       where
         here : c.decision ≡ None → c.restart ≡ false → EarlyAt N f.epoch c.campaign (packages c.campaign n) (state_of N x) (round_entries N c.campaign x.moves) (spans N c.campaign x.moves).ended (record { at = next_number f.epoch x.sent; call = call; campaign = c.campaign; decided = is_some c.decision } ∷ x.sent) x.told
         here undecided quiet =

@@ -202,11 +202,7 @@ module _ (N : NodeRules) (laws : NodeLaws N) where
 
     -- before a new message all entries were told
     pub all-answered : (s : N.State) (es : List ClientEntry) (ended : List (Span N)) (sent : List Message) (told : List Told) → ((m : Message) (r : Reply) → InTold (Answered m r) told → IsBelow (N.last s) m.at → ⊥) → ((m : Message) (ms : List Message) → sent ≡ m ∷ ms → m.campaign ≡ k → is_told told m.at ≡ true) → EarlyAt N epoch k ps s es ended sent told → AllDone k es sent × AllTold told es
-    all-answered s es ended sent told known newest h =
-        elim h.sends [
-          | inl d ↦ (d.0, done es sent (λ e i r t. h.told_entry e i r t) newest d.0 d.1)
-          | inr w ↦ absurd (waiting sent newest w.0)
-        ]
+    all-answered s es ended sent told known newest h = grind (arith, done, waiting) steps 2000000
       where
         reply-of : (o : Option Reply) → is_some o ≡ true → (r : Reply) × (o ≡ Some r)
         reply-of None e = absurd (cc e)

@@ -1,4 +1,6 @@
 -- What deliveries, foreign calls and units keep of the invariant.
+use Rattle.pm_types.specs.declared.replies.Synced.{Synced as Shown}
+use Rattle.world.specs.Sends.{is_masters}
 use Rattle.world.proofs.Names.{◌≡◌, ◌≢◌, ◌⊎◌, inl, inr, if◌then◌else◌, ◌&&◌, ◌||◌, ℕ, ◌<◌, List, [], ◌∷◌, Option}
 use Rattle.world.proofs.Names.{Some, None, Bool, true, false, is_some, nat_eq, nat_lt, refl, sym, ◌∙◌, ap, subst}
 use Rattle.world.proofs.Names.{arith, nat_tests, CallNo, Status, Idle, Processing, Activating, Verifying, RollingBack}
@@ -223,9 +225,7 @@ module _ (N : NodeRules) (laws : NodeLaws N) (f : Fold) (n : ℕ) where
       back m' s' exec = grind (arith, nat_tests) steps 500000
 
       none : NoneEarly N (state_of N x) x.sent → N.mine (state_of N x) ≡ None → N.mine (delivered N (state_of N x) m.at m.call) ≡ None
-      none early e =
-          delivered-cases N laws (state_of N x) m.at m.call (λ t. N.mine t ≡ None) e (λ a b.
-          (laws.keep_session (N.judge (state_of N x) m.call).0 m.at m.call (N.judge (state_of N x) m.call).1).mine ∙ none-judge N laws (state_of N x) m.call (no_process early a b) e)
+      none early e = grind (arith, delivered-cases, state_of, laws.keep_session, none-judge, no_process) steps 1500000
 
       rolled : NoneEarly N (state_of N x) x.sent → IsRolledBack N (state_of N x) → IsRolledBack N (delivered N (state_of N x) m.at m.call)
       rolled early r =
@@ -294,39 +294,28 @@ module _ (N : NodeRules) (laws : NodeLaws N) (f : Fold) (n : ℕ) where
             ended = λ k. inl refl;
           }
 
+  -- what is told anew leaves the rest
+  retold : (x : NodeWorld N) (told : List Told) → KeptOld N f n x
+      → ((m : Message) (r : Reply) → InTold (Answered m r) told → InSent m x.sent × (Executable N (state_of N x) m → ⊥))
+      → ((m : Message) (y : Shown) → InTold (Answered m (Synced y)) told → m.decided ≡ true → (c : Current) → f.current ≡ Some c → m.campaign ≡ c.campaign → is_masters y.session ≡ false → N.mine (state_of N x) ≡ None)
+      → ((c : Current) → f.current ≡ Some c → last_status c.campaign f.epoch told ≡ Some RolledBack → IsRolledBack N (state_of N x))
+      → KeptOld N f n (record { moves = x.moves; sent = x.sent; told = told })
+  retold x told kept told_sent told_none told_rolled = grind arith
+
   -- an answer that is told: it is the node's kept reply, and its message is executed
   pub event-answered : (x : NodeWorld N) (m : Message) (r : Reply) → InSent m x.sent → (Executable N (state_of N x) m → ⊥) → N.kept (state_of N x) ≡ r → KeptOld N f n x → KeptOld N f n (record { moves = x.moves; sent = x.sent; told = Answered m r ∷ x.told })
   event-answered x m r sent done kept_is kept =
-      record {
-        falling = kept.falling;
-        epochs = kept.epochs;
-        tags = kept.tags;
-        early = kept.early;
-        decided = kept.decided;
-        ordered = kept.ordered;
-        begun = kept.begun;
-        present = kept.present;
-        told_sent = λ m' r' told.
-            elim told [
-              | inl e ↦ (let e' : Answered m' r' ≡ Answered m r = e in let q : m' ≡ m = cc e' in (subst (λ y. InSent y x.sent) (sym q) sent, subst (λ y. Executable N (state_of N x) y → ⊥) (sym q) done))
-              | inr h ↦ kept.told_sent m' r' h
-            ];
-        told_none = λ m' y told d c current campaign free.
-            elim told [
-              | inl e ↦ (let e' : Answered m' (Synced y) ≡ Answered m r = e in let q : Synced y ≡ r = cc e' in kept.kept_holds.none y (kept_is ∙ sym q) free)
-              | inr h ↦ kept.told_none m' y h d c current campaign free
-            ];
-        told_rolled = λ c current e. rolled c current (is_end_sync c.campaign f.epoch m) r kept_is e;
-        kept_holds = kept.kept_holds;
-        finish = kept.finish;
-        ends_old = kept.ends_old;
-        session = kept.session;
-        open_span = kept.open_span;
-        old_so_far = kept.old_so_far;
-        fresh = kept.fresh;
-        entered = kept.entered;
-      }
+      retold x (Answered m r ∷ x.told) kept
+      (λ m' r' told. elim told [ inl e ↦ newest m' r' e | inr h ↦ kept.told_sent m' r' h ])
+      (λ m' y told d c current campaign free. elim told [ inl e ↦ shown m' y e free | inr h ↦ kept.told_none m' y h d c current campaign free ])
+      (λ c current e. rolled c current (is_end_sync c.campaign f.epoch m) r kept_is e)
     where
+      newest : (m' : Message) (r' : Reply) → Answered m' r' ≡ Answered m r → InSent m' x.sent × (Executable N (state_of N x) m' → ⊥)
+      newest m' r' e = let q : m' ≡ m = cc e in (subst (λ y. InSent y x.sent) (sym q) sent, subst (λ y. Executable N (state_of N x) y → ⊥) (sym q) done)
+
+      shown : (m' : Message) (y : Shown) → Answered m' (Synced y) ≡ Answered m r → is_masters y.session ≡ false → N.mine (state_of N x) ≡ None
+      shown m' y e free = let q : Synced y ≡ r = cc e in kept.kept_holds.none y (kept_is ∙ sym q) free
+
       rolled : (c : Current) → f.current ≡ Some c → (b : Bool) (r' : Reply) → N.kept (state_of N x) ≡ r' → or_else (status_of_shown (shown_if b r')) (last_status c.campaign f.epoch x.told) ≡ Some RolledBack → IsRolledBack N (state_of N x)
       rolled c current true (Synced y) k e = kept.kept_holds.rolled y k (let e' : Some (session_status y.session) ≡ Some RolledBack = e in cc e')
       rolled c current _ _ k e = kept.told_rolled c current e
@@ -334,28 +323,10 @@ module _ (N : NodeRules) (laws : NodeLaws N) (f : Fold) (n : ℕ) where
   -- a status that is told
   pub event-showed : (x : NodeWorld N) (s : Status) → N.status (state_of N x) ≡ s → KeptOld N f n x → KeptOld N f n (record { moves = x.moves; sent = x.sent; told = Showed s ∷ x.told })
   event-showed x s status kept =
-      record {
-        falling = kept.falling;
-        epochs = kept.epochs;
-        tags = kept.tags;
-        early = kept.early;
-        decided = kept.decided;
-        ordered = kept.ordered;
-        begun = kept.begun;
-        present = kept.present;
-        told_sent = λ m r told. elim told [ inl e ↦ absurd (let e' : Answered m r ≡ Showed s = e in cc e') | inr h ↦ kept.told_sent m r h ];
-        told_none = λ m y told d c current campaign free.
-            elim told [ inl e ↦ absurd (let e' : Answered m (Synced y) ≡ Showed s = e in cc e') | inr h ↦ kept.told_none m y h d c current campaign free ];
-        told_rolled = λ c current e. rolled c current (is_some (last_shown c.campaign f.epoch x.told)) e;
-        kept_holds = kept.kept_holds;
-        finish = kept.finish;
-        ends_old = kept.ends_old;
-        session = kept.session;
-        open_span = kept.open_span;
-        old_so_far = kept.old_so_far;
-        fresh = kept.fresh;
-        entered = kept.entered;
-      }
+      retold x (Showed s ∷ x.told) kept
+      (λ m r told. elim told [ inl e ↦ absurd (let e' : Answered m r ≡ Showed s = e in cc e') | inr h ↦ kept.told_sent m r h ])
+      (λ m y told d c current campaign free. elim told [ inl e ↦ absurd (let e' : Answered m (Synced y) ≡ Showed s = e in cc e') | inr h ↦ kept.told_none m y h d c current campaign free ])
+      (λ c current e. rolled c current (is_some (last_shown c.campaign f.epoch x.told)) e)
     where
       rolled : (c : Current) → f.current ≡ Some c → (b : Bool) → or_else (status_if b s) (last_status c.campaign f.epoch x.told) ≡ Some RolledBack → IsRolledBack N (state_of N x)
       rolled c current true e = λ tag mine. inl (status ∙ (let e' : Some s ≡ Some RolledBack = e in cc e'))

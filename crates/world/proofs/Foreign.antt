@@ -47,11 +47,7 @@ foreign-keeps s x client z v e n = grind arith steps 1500000
 
 pub foreign_session : (read : Reading) (clusters : List (Cluster Bytes)) (s : NodeState) (f : ForeignCall) (tag : ℕ) → mine_in s ≡ Some tag → KeepsSession (real read clusters) s (foreign_in read s f)
 foreign_session read clusters s f tag mine =
-    let m = mine-some s tag mine in
-    let other : (m.0.owner == suc f.other) ≡ false = eqb-other m.0.owner f.other (eqb-true m.0.owner 0 m.2) in
-    let k = foreign-keeps s m.0 (suc f.other) f.call (verdict_for read s (suc f.other) f.call) m.1 other in
-    foreign-cases read s f (λ t. KeepsSession (real read clusters) s t) (keeps-of read clusters s s refl refl)
-    (keeps-of read clusters s (after_call s (suc f.other) f.at f.call (verdict_for read s (suc f.other) f.call) (reply_to s (suc f.other) f.call (verdict_for read s (suc f.other) f.call))) k.session k.status)
+    grind (arith, eqb-other, mine-some, eqb-true, foreign-keeps, verdict_for, foreign-cases, real, keeps-of, after_call, reply_to) steps 2000000
   where
     eqb-other : (a b : ℕ) → a ≡ 0 → (a == suc b) ≡ false
     eqb-other a b e = elim (eqb_tells a (suc b)) [ inl h ↦ absurd (let z : a ≡ suc b = h.1 in omega (arith, e, z)) | inr h ↦ h.0 ]

@@ -207,18 +207,10 @@ module _ (N : NodeRules) (laws : NodeLaws N) where
           sync-shown s call x (laws.synced_only s call x r) r
 
       none_of : (x : Shown) → N.kept (N.keep (N.judge s call).0 at call (N.judge s call).1) ≡ Synced x → is_masters x.session ≡ false → N.mine (N.keep (N.judge s call).0 at call (N.judge s call).1) ≡ None
-      none_of x k f =
-          let h = said x k in
-          let e : N.mine s ≡ None = shown-none (N.owner s) (N.status s) (N.mine s) (sym (ap is_masters h.0) ∙ f) in
-          (laws.keep_session (N.judge s call).0 at call (N.judge s call).1).mine ∙ (ap N.mine h.1 ∙ e)
+      none_of x k f = grind (arith, said, shown-none, is_masters, laws.keep_session) steps 1500000
 
       rolled_of : (x : Shown) → N.kept (N.keep (N.judge s call).0 at call (N.judge s call).1) ≡ Synced x → session_status x.session ≡ RolledBack → IsRolledBack N (N.keep (N.judge s call).0 at call (N.judge s call).1)
-      rolled_of x k f tag mine =
-          let h = said x k in
-          let keeps = laws.keep_session (N.judge s call).0 at call (N.judge s call).1 in
-          let e : N.mine s ≡ Some tag = sym (ap N.mine h.1) ∙ (sym keeps.mine ∙ mine) in
-          let st : N.status s ≡ RolledBack = sym (shown-status (N.owner s) tag (N.status s) (N.mine s) e) ∙ (sym (ap session_status h.0) ∙ f) in
-          inl (keeps.status ∙ (ap N.status h.1 ∙ st))
+      rolled_of x k f tag mine = grind (arith, said, laws.keep_session, shown-status, session_status) steps 1500000
 
   pub kept-foreign : (s : N.State) (call : N.ForeignCall) → KeptHolds N s → KeptHolds N (N.foreign s call)
   kept-foreign s call h =

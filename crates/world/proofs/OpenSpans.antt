@@ -46,9 +46,7 @@ module _ (N : NodeRules) (laws : NodeLaws N) where
     where
       go : (o : Option ℕ) → N.mine (after N ms) ≡ o → (N.mine (after N ms) ≡ Some k → (spans N k ms).is_open ≡ true) → ((spans N k ms).is_open || begins_span N k (after N ms) m) ≡ true
       go None q rec = or-right (spans N k ms).is_open (begins_span N k (after N ms) m) (none-begins (after N ms) m.at m.call k q e)
-      go (Some t) q rec =
-          let same : Some t ≡ Some k = sym (some-delivered N laws (after N ms) m.at m.call t q) ∙ e in
-          or-left (spans N k ms).is_open (begins_span N k (after N ms) m) (rec (q ∙ same))
+      go (Some t) q rec = grind (arith, some-delivered, after, or-left, spans, begins_span) steps 1500000
   open-mine (Foreign call ∷ ms) k e =
       grind (arith, spans, laws.foreign_none, laws.foreign_session, open-mine ms k) steps 500000
   open-mine (Unit_done passed ∷ ms) k e =

@@ -169,11 +169,7 @@ module _ (read : Reading) (clusters : List (Cluster Bytes)) where
           head-false row rows e = (not-refused row rows e).0
 
           each : (t : Transfer) → ((t.header.id == id) ≡ true → (t.header.client == suc a) ≡ true) → Leaves0 (λ y. if y.header.id == id then record y { header = grown (length bytes) y.header; bytes = y.bytes ++ bytes } else y) t
-          each t h = by (t.header.id == id) refl
-            where
-              by : (b : Bool) → (t.header.id == id) ≡ b → Leaves0 (λ y. if y.header.id == id then record y { header = grown (length bytes) y.header; bytes = y.bytes ++ bytes } else y) t
-              by true e = record { client = ap (λ (b : Bool). (if b then record t { header = grown (length bytes) t.header; bytes = t.bytes ++ bytes } else t).header.client) e; own = λ o. absurd (not-own a t o (h e)) }
-              by false e = record { client = ap (λ (b : Bool). (if b then record t { header = grown (length bytes) t.header; bytes = t.bytes ++ bytes } else t).header.client) e; own = λ o. ap (λ (b : Bool). if b then record t { header = grown (length bytes) t.header; bytes = t.bytes ++ bytes } else t) e }
+          each t h = grind (arith, grown, not-own) steps 1500000
 
   delete-others : (s : NodeState) (a id : ℕ) (w : Verdict) → IsConsistent s → KeepsTransfers (real read clusters) s (judge s (suc a) (call.DeleteTransfer id) w).0
   delete-others s a id w v = go (refusal s (suc a) (call.DeleteTransfer id) w) refl
@@ -189,11 +185,7 @@ module _ (read : Reading) (clusters : List (Cluster Bytes)) where
           head-false row rows e = (not-refused row rows e).0
 
           each : (t : Transfer) → ((t.header.id == id) ≡ true → (t.header.client == suc a) ≡ true) → (t.header.client == 0) ≡ true → not (t.header.id == id) ≡ true
-          each t h own = by (t.header.id == id) refl
-            where
-              by : (b : Bool) → (t.header.id == id) ≡ b → not b ≡ true
-              by true e = absurd (not-own a t own (h e))
-              by false e = refl
+          each t h own = grind (arith, not, not-own) steps 1500000
 
   start-others : (s : NodeState) (a size : ℕ) → KeepsTransfers (real read clusters) s (started s (suc a) size)
   start-others s a size = grind (arith, filter-append, eqb-suc, append-nil, find-append) steps 500000

@@ -16,8 +16,7 @@ IsRoundCall k call = (call ≢ Finish) × ((id tag : ℕ) → call ≡ ProcessSw
 -- the next number is above all that were sent
 pub next-above : (epoch : ℕ) (sent : List Message) → Falling sent → ((m : Message) → InSent m sent → m.at.epoch ≤ epoch) → (older : Message) → InSent older sent → IsBelow older.at (next_number epoch sent)
 next-above epoch [] falling epochs older h = absurd h
-next-above epoch (m ∷ ms) falling epochs older h =
-    elim h [ inl e ↦ subst (λ y. IsBelow y.at (next_number epoch (m ∷ ms))) (sym e) first | inr h' ↦ below-trans older.at m.at (next_number epoch (m ∷ ms)) (falling.0 older h') first ]
+next-above epoch (m ∷ ms) falling epochs older h = grind (arith, first, next_number, below-trans) steps 2000000
   where
     first : IsBelow m.at (next_number epoch (m ∷ ms))
     first = go (nat_eq m.at.epoch epoch) refl
@@ -102,13 +101,8 @@ module _ (N : NodeRules) (laws : NodeLaws N) (packages : Packages) (f : Fold) (n
       late d q = subst (λ o. MaySendBy packages f.epoch n c o x.told x.sent call) q may.by
 
       new_tag : (m : Message) → m ≡ record { at = next_number f.epoch x.sent; call = call; campaign = c.campaign; decided = is_some c.decision } → (id tag : ℕ) → m.call ≡ ProcessSwPackage id tag → (tag ≡ m.campaign) × (m.decided ≡ false)
-      new_tag m e id tag q = go c.decision refl
-        where
-          go : (o : Option Decision) → c.decision ≡ o → (tag ≡ m.campaign) × (m.decided ≡ false)
-          go None w = ((round w).1 id tag (sym (ap (λ y. y.call) e) ∙ q) ∙ sym (ap (λ y. y.campaign) e), ap (λ y. y.decided) e ∙ ap is_some w)
-          go (Some d) w =
-              absurd (late-process d (last_status c.campaign f.epoch x.told) (last_shown c.campaign f.epoch x.told) id tag
-              (subst (λ y. (is_sync y || (end_call_at d (last_status c.campaign f.epoch x.told) y || delete_at (last_shown c.campaign f.epoch x.told) y)) ≡ true) (sym (ap (λ y. y.call) e) ∙ q) (late d w).allowed))
+      new_tag m e id tag q =
+          grind (arith, round, is_some, late-process, last_status, last_shown, is_sync, end_call_at, delete_at, late) steps 1500000
 
       new_early : (m : Message) → m ≡ record { at = next_number f.epoch x.sent; call = call; campaign = c.campaign; decided = is_some c.decision } → m.decided ≡ false → m.call ≢ Finish
       new_early m e d q = (round (undecided_of m e d)).0 (sym (ap (λ y. y.call) e) ∙ q)

@@ -35,10 +35,7 @@ keeps-node read reading =
 
 module _ (read : Reading) (keeps : KeepsNode read []) (k : ℕ) (packages : List (List ℕ)) (x : NodeWorld) (y : engine.NodeWorld (fit read [] keeps)) (same : SameNode read keeps x y) where
   left-old : law.IsOld (fit read [] keeps) k y.moves → IsOld read k x.opening x.history
-  left-old h = record {
-    closed = sym (ap (λ s. s.is_open) (same.spans_told k)) ∙ h.all_ended;
-    same = subst (λ s. AllByRecursion (λ (z : Span). z.left ≡ z.saved) s.ended) (same.spans_told k) (each (law.spans (fit read [] keeps) k y.moves).ended h.leave);
-  }
+  left-old h = grind (arith, each, fit) steps 2000000
     where
       each : (zs : List (law.Span (fit read [] keeps))) → law.EachEnded (fit read [] keeps) (λ z. z.left.state.running ≡ saved_in z.before.state) zs → AllByRecursion (λ (z : Span). z.left ≡ z.saved) (map (told_span read keeps) zs)
       each [] e = tt
