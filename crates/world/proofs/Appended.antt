@@ -3,7 +3,7 @@ use Rattle.world.proofs.Names.{arith, ◌≡◌, refl, sym, ap, subst, ◌∙◌
 use Rattle.world.proofs.Names.{Option, Some, None, Entry, NodeState, Reading, after_entry, state_after}
 use Rattle.world.proofs.Names.{CampaignResult, MasterEvent, Enter, Current, Fold, after_event, campaign_from}
 use Rattle.world.proofs.Names.{campaign, nothing_yet, entered, Spans, span_step, spans_from, IsEntered}
-use Rattle.world.proofs.RulesLaw.{InEarlier}
+use Rattle.world.proofs.Rules.{InEarlier}
 
 pub after-append : (read : Reading) (s : NodeState) (es : List Entry) (e : Entry) → state_after read s (es ++ e ∷ []) ≡ after_entry read (state_after read s es) e
 after-append read s [] e = refl

@@ -7,10 +7,10 @@ use Rattle.world.proofs.Names.{Verdict, ids_of, judge, reply_to, refusal, accept
 use Rattle.world.proofs.Names.{formatted, IsConsistent, SessionIsDue, Call, Shown, Reply, Sync, TransferStart}
 use Rattle.world.proofs.Names.{TransferData, TransferExit, DeleteTransfer, ProcessSwPackage, Activate, Finish}
 use Rattle.world.proofs.Names.{Rollback, Revert, Done, Started, Synced, Refused, is_status}
-use Rattle.pm_types.specs.declared.calls.Call.TheVariants as call
-use Rattle.pm_types.specs.declared.replies.Reply.TheVariants as reply
 use Rattle.world.proofs.Rules.{shown_of as seen_of, shown_session, KeepsSession, KeepsTransfers}
 use Rattle.world.proofs.Instance.{zero_no, last_in, kept_in, tag_if, mine_in, ended_in, judged_in, kept_after, real}
+use Rattle.pm_types.specs.declared.calls.Call.TheVariants as call
+use Rattle.pm_types.specs.declared.replies.Reply.TheVariants as reply
 
 -- a judgment that is refused, or done
 pub judged-by : (s : NodeState) (client : ℕ) (c : Call) (v : Verdict) (P : NodeState → Type 0) → P s → P (accepted s client c v) → P (judge s client c v).0

@@ -7,19 +7,19 @@ use Rattle.world.proofs.Names.{Current, flag_of, nothing_yet, vote_of, end_of, a
 use Rattle.world.proofs.Names.{refusal_of, changed, changed_in, after_event, entered, begun, Call, Reply, Reached}
 use Rattle.world.proofs.Names.{Stale, Again, Fresh, Message, Answered, Showed, InSent, nth_sent, answer_of, Packages}
 use Rattle.world.proofs.Names.{showed_after_activate, MaySend, campaign_of, decided_of, next_number, EndEvidence}
-use Rattle.world.proofs.Names.{InCurrent, VoteEvidence}
-use Rattle.world.proofs.Parts.{part-other, part-with, flagged-ended}
-use Rattle.world.proofs.Rules.{NodeRules, NodeLaws, reached}
-use Rattle.world.proofs.RulesWorld.{Delivered, Foreign, Unit_done, NodeWorld, World, state_of, Event, Deliver}
-use Rattle.world.proofs.RulesWorld.{Foreign_calls, Unit_comes, Send, Record, Restart, Evidence, Allowed, with_node}
-use Rattle.world.proofs.RulesWorld.{emptied, deliver_to, recorded, happens, opened_world}
+use Rattle.world.proofs.Names.{InCurrent, VoteEvidence, flat_map, Successful}
+use Rattle.world.proofs.Records.{part-other, part-with, flagged-ended, SameAt, SameFold, some-inj, none-some}
+use Rattle.world.proofs.Records.{and-both, present-forth}
+use Rattle.world.proofs.Rules.{NodeRules, NodeLaws, reached, Delivered, Foreign, Unit_done, NodeWorld, World}
+use Rattle.world.proofs.Rules.{state_of, Event, Deliver, Foreign_calls, Unit_comes, Send, Record, Restart, Evidence}
+use Rattle.world.proofs.Rules.{Allowed, with_node, emptied, deliver_to, recorded, happens, opened_world, IsLeft}
+use Rattle.world.proofs.Rules.{WorldLaw, InEarlier}
 use Rattle.world.proofs.Invariant.{InPresent, KeptOld, KeptFold}
 use Rattle.world.proofs.EarlyFacts.{KeptEarly, KeptLive}
-use Rattle.world.proofs.Records.{SameAt, SameFold, some-inj, none-some, and-both, present-forth}
 use Rattle.world.proofs.OldLaw.{WorldKept, nth-in, unless-true, start-same, same-fold, same-refl, reply-facts}
-use Rattle.world.proofs.OldLaw.{kept-send}
-use Rattle.world.proofs.CommittedEvents.{IsReadyToCommit}
-use Rattle.world.proofs.NewLaw.{Early}
+use Rattle.world.proofs.OldLaw.{kept-send, old-law}
+use Rattle.world.proofs.Committed.{IsReadyToCommit}
+use Rattle.world.proofs.NewLaw.{Early, new-law}
 use Rattle.world.proofs.EarlyEvents.{early-answered-event, early-begin, early-deliver, early-fold}
 use Rattle.world.proofs.EarlyEvents.{early-foreign-event, early-no, early-send, early-showed-event, early-unit-event}
 use Rattle.world.proofs.EarlyEvents.{last-facts, live-deliver, live-ended, live-fold, live-foreign, live-send}
@@ -209,3 +209,12 @@ module _ (N : NodeRules) (laws : NodeLaws N) (packages : Packages) (numbers : Li
         keeps = λ w e allowed new holds. keeps w e allowed new.kept holds;
         ready = λ w c current h new holds n. ready w c current h new.kept holds n;
       }
+
+-- The law over every list of events: both halves, with no premise but the laws of a node.
+-- with Enter Successful each named node is new, with Enter Failed or Cancelled it is old
+pub world-law : (N : NodeRules) → WorldLaw N
+world-law N laws packages numbers openings events w made k result entered n low high steps = go result entered
+  where
+    go : (r : CampaignResult) → InEarlier (k, r) w.fold.earlier → IsLeft N r k (flat_map N.changes_of (packages k n)) (w.node n).moves
+    go Successful h = new-law N laws packages numbers (early N laws packages numbers) openings events w made k h n low high steps
+    go x h = old-law N laws packages numbers openings events w made k x h (λ e. cc e) n

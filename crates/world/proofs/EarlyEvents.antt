@@ -6,21 +6,18 @@ use Rattle.world.proofs.Names.{all_below, begun, Call, Reply, Sync, Again, Fresh
 use Rattle.world.proofs.Names.{Answered, Showed, InSent, InTold, is_sync, is_told, Over, Packages, is_end_sync}
 use Rattle.world.proofs.Names.{activate_done, showed_after_activate, may_follow, MaySend, MaySendBy, MaySendEarly}
 use Rattle.world.proofs.Names.{next_number, EndEvidence}
-use Rattle.world.proofs.Parts.{part-none, flagged-yes}
-use Rattle.world.proofs.Rules.{NodeRules, NodeLaws, reached, delivered}
-use Rattle.world.proofs.RulesWorld.{Delivered, Foreign, Unit_done, NodeWorld, state_of}
-use Rattle.world.proofs.RulesLaw.{spans}
+use Rattle.world.proofs.Records.{part-none, flagged-yes, some-inj, none-some, and-both}
+use Rattle.world.proofs.Rules.{NodeRules, NodeLaws, reached, delivered, Delivered, Foreign, Unit_done, NodeWorld}
+use Rattle.world.proofs.Rules.{state_of, spans}
 use Rattle.world.proofs.Invariant.{Executable, InPresent, IsFresh, KeptOld, Falling}
 use Rattle.world.proofs.EarlyFacts.{ClientEntry, with_entry, round_entries, InEntries, stage_after, IsAt, Activates}
 use Rattle.world.proofs.EarlyFacts.{EarlyAt, KeptEarly, KeptLive}
-use Rattle.world.proofs.Events.{below-trans, span-ended, is-cleaning}
+use Rattle.world.proofs.Events.{below-trans, span-ended, is-cleaning, open-mine}
 use Rattle.world.proofs.Sends.{next-above, next-epoch}
-use Rattle.world.proofs.Records.{some-inj, none-some, and-both}
-use Rattle.world.proofs.CommittedEvents.{IsReadyToCommit}
+use Rattle.world.proofs.Committed.{IsReadyToCommit}
 use Rattle.world.proofs.AtRounds.{at-not_cleaning}
 use Rattle.world.proofs.EarlyNode.{judged-cases, is-next, over-none, showed-done, all-answered, early-judged}
 use Rattle.world.proofs.EarlyNode.{early-foreign, early-unit, early-answered, early-showed, early-sent}
-use Rattle.world.proofs.OpenSpans.{open-mine}
 
 pub in-current : (f : Fold) (n : ℕ) (k : ℕ) (c : Current) → f.current ≡ Some c → InPresent f n (λ y. k ≡ y.campaign) → k ≡ c.campaign
 in-current f n k c current h = h.4 ∙ ap (λ y. y.campaign) (some-inj h.0 c (sym h.1 ∙ current))

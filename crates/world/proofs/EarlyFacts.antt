@@ -5,13 +5,11 @@ use Rattle.world.proofs.Names.{RollingBack, RolledBack, Fold, Current, vote_of, 
 use Rattle.world.proofs.Names.{Message, Told, InSent, told_reply, Stage, At_sync, At_start, At_data, At_process}
 use Rattle.world.proofs.Names.{At_activate, Over, Refused_once, call_at, onward, Packages, activate_done}
 use Rattle.world.proofs.Names.{showed_after_activate}
-use Rattle.campaign_core.specs.declared.events.Vote.TheVariants as Vote
-use Rattle.world.proofs.Rules.{NodeRules, reached}
-use Rattle.world.proofs.RulesWorld.{Move, Delivered, Foreign, Unit_done, NodeWorld, after, state_of}
-use Rattle.world.proofs.RulesLaw.{Span, spans}
+use Rattle.world.proofs.Rules.{NodeRules, reached, Move, Delivered, Foreign, Unit_done, NodeWorld, after, state_of}
+use Rattle.world.proofs.Rules.{Span, spans}
 use Rattle.world.proofs.Invariant.{InPresent}
-use Rattle.std.specs.Prelude.{flat_map}
-use Rattle.std.specs.Prelude.{Contains}
+use Rattle.std.specs.Prelude.{flat_map, Contains}
+use Rattle.campaign_core.specs.declared.events.Vote.TheVariants as Vote
 
 -- an entry of client 0: a message that was judged, and the reply
 pub record ClientEntry : Type 0 where

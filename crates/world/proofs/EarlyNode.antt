@@ -5,8 +5,7 @@ use Rattle.world.proofs.Names.{ap, subst, eqb-true, eq-eqb, CallNo, Status, Acti
 use Rattle.world.proofs.Names.{Done, IsBelow, no_eq, Message, Told, Answered, Showed, InSent, InTold, told_reply}
 use Rattle.world.proofs.Names.{is_told, is_activate, is_done, Stage, At_sync, At_activate, Over, Refused_once}
 use Rattle.world.proofs.Names.{call_at, onward, stage_of, one_if, replies_of, activate_done, showed_after_activate}
-use Rattle.world.proofs.Rules.{NodeRules, NodeLaws, reached, delivered}
-use Rattle.world.proofs.RulesLaw.{Span}
+use Rattle.world.proofs.Rules.{NodeRules, NodeLaws, reached, delivered, Span}
 use Rattle.world.proofs.Invariant.{Executable}
 use Rattle.world.proofs.EarlyFacts.{ClientEntry, judged, with_entry, InEntries, stage_after, Follows, IsAt, AllDone}
 use Rattle.world.proofs.EarlyFacts.{OneWaits, AllTold, OlderTold, EarlyAt}

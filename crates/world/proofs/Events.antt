@@ -7,15 +7,17 @@ use Rattle.world.proofs.Names.{arith, nat_tests, CallNo, Status, Idle, Processin
 use Rattle.world.proofs.Names.{RolledBack, CleaningUp, Decision, Commit, Abort, Fold, Current, Call, Reply}
 use Rattle.world.proofs.Names.{ProcessSwPackage, Finish, Synced, IsBelow, no_lt, no_eq, is_status, Message, Told}
 use Rattle.world.proofs.Names.{Answered, Showed, InSent, InTold, is_working, session_status, is_end_sync, shown_if}
-use Rattle.world.proofs.Names.{or_else, status_if, status_of_shown, last_shown, last_status, has_tag}
-use Rattle.world.proofs.Rules.{NodeRules, NodeLaws, delivered, reached}
-use Rattle.world.proofs.RulesWorld.{Move, Delivered, Foreign, Unit_done, NodeWorld, step, state_of}
-use Rattle.world.proofs.RulesLaw.{Span, Spans, spans, is_fresh_done, begins_span, EachEnded}
+use Rattle.world.proofs.Names.{or_else, status_if, status_of_shown, last_shown, last_status, has_tag, eq-eqb}
+use Rattle.world.proofs.Names.{nothing_yet, Stale, Again, Fresh, is_done}
+use Rattle.world.proofs.Rules.{NodeRules, NodeLaws, delivered, reached, Move, Delivered, Foreign, Unit_done}
+use Rattle.world.proofs.Rules.{NodeWorld, step, state_of, Span, Spans, spans, is_fresh_done, begins_span, EachEnded}
+use Rattle.world.proofs.Rules.{after}
 use Rattle.world.proofs.Invariant.{IsRolledBack, EndsOld, KeptHolds, Executable, NoneEarly, InPresent, NotCommit}
 use Rattle.world.proofs.Invariant.{KeptOld, KeptFold}
 use Rattle.world.proofs.NodeLemmas.{rolled-keeps, ends_old-keeps, rolled-foreign, ends_old-foreign, rolled-unit}
 use Rattle.world.proofs.NodeLemmas.{ends_old-unit, kept-foreign, kept-unit, kept-delivered, delivered-cases}
 use Rattle.world.proofs.NodeLemmas.{none-judge, some-judge, some-delivered, rolled-judge, ends_old-judge, cleaned}
+use Rattle.world.proofs.NodeLemmas.{none-delivered}
 
 -- order of numbers
 pub below-trans : (a b c : CallNo) → IsBelow a b → IsBelow b c → IsBelow a c
@@ -331,3 +333,49 @@ module _ (N : NodeRules) (laws : NodeLaws N) (f : Fold) (n : ℕ) where
       rolled : (c : Current) → f.current ≡ Some c → (b : Bool) → or_else (status_if b s) (last_status c.campaign f.epoch x.told) ≡ Some RolledBack → IsRolledBack N (state_of N x)
       rolled c current true e = λ tag mine. inl (status ∙ (let e' : Some s ≡ Some RolledBack = e in cc e'))
       rolled c current false e = kept.told_rolled c current e
+
+-- A session of client 0 is an open span of its tag.
+module _ (N : NodeRules) (laws : NodeLaws N) where
+  none-begins : (s : N.State) (at : CallNo) (call : Call) (k : ℕ) → N.mine s ≡ None → N.mine (delivered N s at call) ≡ Some k → (has_tag k call && (is_status (N.status s) Idle && is_fresh_done (reached N s at call))) ≡ true
+  none-begins s at (ProcessSwPackage id tag) k none e = go (no_lt at (N.last s)) (no_eq at (N.last s)) e
+    where
+      all-true : (a b c : Bool) → a ≡ true → b ≡ true → c ≡ true → (a && (b && c)) ≡ true
+      all-true a b c p q r = subst (λ x. (x && (b && c)) ≡ true) (sym p) (subst (λ x. (x && c) ≡ true) (sym q) r)
+
+      go : (a b : Bool) → N.mine (if a then s else (if b then s else N.keep (N.judge s (ProcessSwPackage id tag)).0 at (ProcessSwPackage id tag) (N.judge s (ProcessSwPackage id tag)).1)) ≡ Some k → (nat_eq tag k && (is_status (N.status s) Idle && is_fresh_done (if a then Stale (N.last s) else (if b then Again (N.kept s) else Fresh (N.judge s (ProcessSwPackage id tag)).1)))) ≡ true
+      go false false e' =
+          let judged : N.mine (N.judge s (ProcessSwPackage id tag)).0 ≡ Some k = sym (laws.keep_session (N.judge s (ProcessSwPackage id tag)).0 at (ProcessSwPackage id tag) (N.judge s (ProcessSwPackage id tag)).1).mine ∙ e' in
+          elim (laws.process_replies s id tag) [
+            | inl d ↦
+                (let u = laws.process_idle s id tag none d in
+                let tag_is : tag ≡ k = (let q : Some tag ≡ Some k = sym u.1 ∙ judged in cc q) in
+                all-true (nat_eq tag k) (is_status (N.status s) Idle) (is_done (N.judge s (ProcessSwPackage id tag)).1) (eq-eqb tag k tag_is) (ap (λ x. is_status x Idle) u.0) (ap is_done d))
+            | inr r ↦ absurd (cc (ap N.mine (laws.refused s (ProcessSwPackage id tag) r.0 r.1), none, judged))
+          ]
+      go _ _ e' = absurd (cc (none, e'))
+  none-begins s at x k none e = absurd (cc (none-delivered N laws s at x (λ i t z. cc) none, e))
+
+  or-right : (a b : Bool) → b ≡ true → (a || b) ≡ true
+  or-right true b e = refl
+  or-right false b e = e
+
+  or-left : (a b : Bool) → a ≡ true → (a || b) ≡ true
+  or-left true b e = refl
+  or-left false b e = absurd (cc e)
+
+  stays-open : (y : Spans N) (b : Bool) (z : List (Span N)) → y.is_open ≡ true → (b ≡ true → ⊥) → (if (y.is_open && b) then record { is_open = false; ended = z } else y).is_open ≡ true
+  stays-open y b z open_ shut = grind arith steps 500000
+
+  pub open-mine : (moves : List (Move N)) (k : ℕ) → N.mine (after N moves) ≡ Some k → (spans N k moves).is_open ≡ true
+  open-mine [] k e = absurd (cc (laws.formatted_mine, e))
+  open-mine (Delivered m ∷ ms) k e = go (N.mine (after N ms)) refl (open-mine ms k)
+    where
+      go : (o : Option ℕ) → N.mine (after N ms) ≡ o → (N.mine (after N ms) ≡ Some k → (spans N k ms).is_open ≡ true) → ((spans N k ms).is_open || begins_span N k (after N ms) m) ≡ true
+      go None q rec = or-right (spans N k ms).is_open (begins_span N k (after N ms) m) (none-begins (after N ms) m.at m.call k q e)
+      go (Some t) q rec = grind (arith, some-delivered, after, or-left, spans, begins_span) steps 1500000
+  open-mine (Foreign call ∷ ms) k e =
+      grind (arith, spans, laws.foreign_none, laws.foreign_session, open-mine ms k) steps 500000
+  open-mine (Unit_done passed ∷ ms) k e =
+      let mine = unit-back N laws nothing_yet 0 (after N ms) passed k e in
+      stays-open (spans N k ms) (is_status (N.status (after N ms)) CleaningUp) _ (open-mine ms k mine) (λ c.
+      cc (cleaned N laws (after N ms) passed k mine (is-cleaning N laws nothing_yet 0 (N.status (after N ms)) c), e))

@@ -3,9 +3,10 @@ use Rattle.world.proofs.Names.{◌≡◌, ℕ, suc, ◌==◌, ◌<◌, List, [],
 use Rattle.world.proofs.Names.{Bool, true, false, option_map_or, CallNo, Bytes, EndMark, Outcome, Part, Cluster}
 use Rattle.world.proofs.Names.{Numbered, NodeState, of_client, changes_in, ids_of, transfer_of, parts_read, judge}
 use Rattle.world.proofs.Names.{step, name_of, reply_code, with_kept, with_entry, Reading, verdict_for, worked}
-use Rattle.world.proofs.Names.{formatted, id_in_processing, IsInstalled, RunsNew, Call, Reply, Done}
+use Rattle.world.proofs.Names.{formatted, id_in_processing, IsInstalled, RunsNew, Call, Reply, Done, arith, Ordering}
+use Rattle.world.proofs.Names.{Less, Equal, Greater, executed, call_no_cmp, Reached, no_lt, no_eq}
 use Rattle.node_laws.proofs.Opened.{opened_by}
-use Rattle.world.proofs.Rules.{NodeRules}
+use Rattle.world.proofs.Rules.{NodeRules, delivered, reached as world_reached}
 
 abbrev pub zero_no : CallNo
 zero_no = record { epoch = 0; number = 0 }
@@ -111,3 +112,25 @@ real read clusters =
       Brings = BringsIn;
       Leaves = LeavesIn;
     }
+
+-- The world's delivery of a call of the master is the node's step: Stale, Again, or judged, kept and entered.
+abbrev Tests : CallNo → CallNo → Ordering → Type 0
+Tests a b Less = no_lt a b ≡ true
+Tests a b Equal = (no_lt a b ≡ false) × (no_eq a b ≡ true)
+Tests a b Greater = (no_lt a b ≡ false) × (no_eq a b ≡ false)
+
+tests : (a b : CallNo) → Tests a b (call_no_cmp a b)
+tests a b =
+    grind arith steps 500000
+
+module _ (read : Reading) (clusters : List (Cluster Bytes)) (s : NodeState) (at : CallNo) (c : Call) where
+  abbrev done : NodeState × Reached
+  done = executed s 0 at (c) (verdict_for read s 0 (c))
+
+  abbrev kept : NodeState
+  kept = kept_after (judged_in read s c).0 at c (judged_in read s c).1
+
+  -- a call whose epoch is at least 1, as every call number's is
+  pub delivered-is : 0 < at.epoch → (delivered (real read clusters) s at c ≡ (step s 0 at (c) (verdict_for read s 0 (c))).0) × (world_reached (real read clusters) s at c ≡ (step s 0 at (c) (verdict_for read s 0 (c))).1)
+  delivered-is epoch =
+      grind arith

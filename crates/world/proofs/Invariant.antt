@@ -3,9 +3,7 @@ use Rattle.world.proofs.Names.{◌≡◌, ◌≢◌, ◌⊎◌, ℕ, ◌≤◌, 
 use Rattle.world.proofs.Names.{CleaningUp, CampaignResult, Successful, Decision, Commit, Abort, Cause, Fold, Current}
 use Rattle.world.proofs.Names.{flag_of, end_of, all_below, Shown, Reply, ProcessSwPackage, Finish, Synced, IsBelow}
 use Rattle.world.proofs.Names.{Message, Answered, InSent, InTold, is_masters, session_status, last_status}
-use Rattle.world.proofs.Rules.{NodeRules}
-use Rattle.world.proofs.RulesWorld.{NodeWorld, state_of}
-use Rattle.world.proofs.RulesLaw.{spans, EachEnded, InEarlier}
+use Rattle.world.proofs.Rules.{NodeRules, NodeWorld, state_of, spans, EachEnded, InEarlier}
 
 -- a session of client 0 is in RolledBack, or is being cleaned up
 abbrev pub IsRolledBack : (N : NodeRules) → N.State → Type 0

@@ -6,19 +6,16 @@ use Rattle.world.proofs.Names.{MasterEvent, Start, Begin, VoteOf, Decide, EndedA
 use Rattle.world.proofs.Names.{all_ended, is_result_of, may_begin, meets, in_current, refusal_of, changed, changed_in}
 use Rattle.world.proofs.Names.{after_event, entered, begun, Call, Message, Showed, InSent, answer_of, Packages}
 use Rattle.world.proofs.Names.{MaySend, campaign_of, decided_of, next_number, InCurrent, NamesOf}
-use Rattle.world.proofs.Rules.{NodeRules, NodeLaws, reached}
-use Rattle.world.proofs.RulesWorld.{Delivered, Unit_done, NodeWorld, World, state_of, Event, Deliver, Foreign_calls}
-use Rattle.world.proofs.RulesWorld.{Unit_comes, Send, Record, Restart, Evidence, Allowed, emptied, deliver_to}
-use Rattle.world.proofs.RulesWorld.{recorded, happens, Makes, opened_world}
-use Rattle.world.proofs.RulesLaw.{IsNew, InEarlier}
+use Rattle.world.proofs.Rules.{NodeRules, NodeLaws, reached, Delivered, Unit_done, NodeWorld, World, state_of, Event}
+use Rattle.world.proofs.Rules.{Deliver, Foreign_calls, Unit_comes, Send, Record, Restart, Evidence, Allowed, emptied}
+use Rattle.world.proofs.Rules.{deliver_to, recorded, happens, Makes, opened_world, IsNew, InEarlier}
 use Rattle.world.proofs.Invariant.{KeptOld, KeptFold}
 use Rattle.world.proofs.Events.{event-deliver}
 use Rattle.world.proofs.Records.{SameAt, SameFold, some-inj, and-both}
 use Rattle.world.proofs.OldLaw.{WorldKept, kept-event, nth-in, unless-true, start-same, same-fold, same-refl}
-use Rattle.world.proofs.Committed.{IsWaiting}
-use Rattle.world.proofs.CommittedEvents.{KeptCommitted, IsReadyToCommit, changes_of, committed-deliver}
-use Rattle.world.proofs.CommittedEvents.{committed-foreign, committed-unit, committed-send, committed-told}
-use Rattle.world.proofs.CommittedEvents.{committed-same, committed-decide, committed-enter}
+use Rattle.world.proofs.Committed.{IsWaiting, KeptCommitted, IsReadyToCommit, changes_of, committed-deliver}
+use Rattle.world.proofs.Committed.{committed-foreign, committed-unit, committed-send, committed-told, committed-same}
+use Rattle.world.proofs.Committed.{committed-decide, committed-enter}
 
 module _ (N : NodeRules) (laws : NodeLaws N) (packages : Packages) (numbers : List ℕ) where
   -- the current campaign names the nodes of its steps

@@ -9,17 +9,15 @@ use Rattle.world.proofs.Names.{in_current, refusal_of, changed, changed_in, afte
 use Rattle.world.proofs.Names.{Call, Reply, Reached, Stale, Again, Fresh, Message, Showed, InSent, nth_sent}
 use Rattle.world.proofs.Names.{answer_of, Packages, MaySend, campaign_of, decided_of, next_number, EndEvidence}
 use Rattle.world.proofs.Names.{InCurrent}
-use Rattle.world.proofs.Parts.{part-none, part-other}
-use Rattle.world.proofs.Rules.{NodeRules, NodeLaws, reached, delivered}
-use Rattle.world.proofs.RulesWorld.{Delivered, Unit_done, NodeWorld, World, state_of, Event, Deliver, Foreign_calls}
-use Rattle.world.proofs.RulesWorld.{Unit_comes, Send, Record, Restart, Evidence, Allowed, with_node, emptied}
-use Rattle.world.proofs.RulesWorld.{deliver_to, recorded, happens, formatted_world, Makes, opened_world}
-use Rattle.world.proofs.RulesLaw.{spans, IsOld, InEarlier}
+use Rattle.world.proofs.Records.{part-none, part-other, SameAt, SameFold, some-inj, and-both, below-in, forget}
+use Rattle.world.proofs.Records.{event-same, event-begin, event-decide, event-ended, event-enter}
+use Rattle.world.proofs.Rules.{NodeRules, NodeLaws, reached, delivered, Delivered, Unit_done, NodeWorld, World}
+use Rattle.world.proofs.Rules.{state_of, Event, Deliver, Foreign_calls, Unit_comes, Send, Record, Restart, Evidence}
+use Rattle.world.proofs.Rules.{Allowed, with_node, emptied, deliver_to, recorded, happens, formatted_world, Makes}
+use Rattle.world.proofs.Rules.{opened_world, spans, IsOld, InEarlier}
 use Rattle.world.proofs.Invariant.{Executable, KeptOld, KeptFold}
 use Rattle.world.proofs.Events.{event-deliver, event-foreign, event-unit, event-answered, event-showed}
 use Rattle.world.proofs.Sends.{event-send}
-use Rattle.world.proofs.Records.{SameAt, SameFold, some-inj, and-both, below-in, forget, event-same, event-begin}
-use Rattle.world.proofs.Records.{event-decide, event-ended, event-enter}
 
 pub nth-in : (ms : List Message) (k : ℕ) (m : Message) → nth_sent ms k ≡ Some m → InSent m ms
 nth-in [] k m e = absurd (cc e)

@@ -1,30 +1,82 @@
--- Laws of the real node: client 0's transfers under calls of others, and units where client 0 has no session.
-use Rattle.world.proofs.Names.{◌≡◌, inl, inr, ℕ, suc, ◌+◌, ◌<◌, List, [], ◌∷◌, ◌++◌, length, Option, Some, None, Bool}
-use Rattle.world.proofs.Names.{true, false, refl, sym, ◌∙◌, ap, subst, cond, arith, ◌==◌, ◌||◌, not, is_none, find}
-use Rattle.world.proofs.Names.{nat_lt, option_and_then, map, filter, if◌then◌else◌, AllByRecursion, option_map_or}
-use Rattle.world.proofs.Names.{eqb-true, ltb-true, eqb_tells, get_or-set_other, append-nil, filter-append}
-use Rattle.world.proofs.Names.{find-append, Bytes, Call, Refusal, InvalidTransferId, OperationNotPermitted, Phase}
-use Rattle.world.proofs.Names.{Transferred, BeingProcessed, Processed, UnitAfter, Cluster, Status, Processing}
-use Rattle.world.proofs.Names.{Activating, Verifying, RollingBack, CleaningUp, NodeState, Session, Transfer}
-use Rattle.world.proofs.Names.{some_passes, is_in, all_units, led_by, begin_processing, stop_processing, Verdict}
-use Rattle.world.proofs.Names.{is_of, transfer_of, header_of, parts_read, grown, in_phase, started, with_block}
-use Rattle.world.proofs.Names.{exited, deleted, first_refusal, judge, after_reply, refusal, refused_or, with_entry}
-use Rattle.world.proofs.Names.{unit_of, process_unit, processed, parts_of_id, activate_unit, verify_unit}
-use Rattle.world.proofs.Names.{roll_back_unit, clean_up_unit, end_mark, Reading, verdict_for, IsConsistent}
-use Rattle.world.proofs.Names.{ChangesAreDue, IsPlannedWhole, id_in_processing, numbers_rise}
-use Rattle.pm_types.specs.declared.calls.Call.TheVariants as call
-use Rattle.pm_types.specs.declared.replies.Reply.TheVariants as reply
-use Rattle.world.proofs.Rules.{KeepsTransfers}
-use Rattle.world.proofs.Instance.{ForeignCall, tag_if, mine_in, ended_in, foreign_in, unit_in, real}
-use Rattle.world.proofs.Basics.{judged-by, not-refused}
-use Rattle.world.proofs.Units.{unit-cases}
+-- Laws of the real node: calls of other clients, and units where client 0 has no session.
+use Rattle.world.proofs.Names.{nat_tests, eqb_tells, ◌≡◌, inl, inr, ℕ, suc, List, Option, Some, None, false, refl}
+use Rattle.world.proofs.Names.{◌∙◌, ap, arith, ◌==◌, option_and_then, slice_set, option_map_or, eqb-true}
+use Rattle.world.proofs.Names.{get_or-set_other, Bytes, Call, Cluster, Kept, NodeState, Session, of_client, Verdict}
+use Rattle.world.proofs.Names.{judge, reply_to, after_call, accepted, Reading, verdict_for, Done as NodeDone, ◌+◌}
+use Rattle.world.proofs.Names.{◌<◌, [], ◌∷◌, ◌++◌, length, Bool, true, sym, subst, cond, ◌||◌, not, is_none, find}
+use Rattle.world.proofs.Names.{nat_lt, map, filter, if◌then◌else◌, AllByRecursion, ltb-true, append-nil}
+use Rattle.world.proofs.Names.{filter-append, find-append, Refusal, InvalidTransferId, OperationNotPermitted, Phase}
+use Rattle.world.proofs.Names.{Transferred, BeingProcessed, Processed, UnitAfter, Status, Processing, Activating}
+use Rattle.world.proofs.Names.{Verifying, RollingBack, CleaningUp, Transfer, some_passes, is_in, all_units, led_by}
+use Rattle.world.proofs.Names.{begin_processing, stop_processing, is_of, transfer_of, header_of, parts_read, grown}
+use Rattle.world.proofs.Names.{in_phase, started, with_block, exited, deleted, first_refusal, after_reply, refusal}
+use Rattle.world.proofs.Names.{refused_or, with_entry, unit_of, process_unit, processed, parts_of_id, activate_unit}
+use Rattle.world.proofs.Names.{verify_unit, roll_back_unit, clean_up_unit, end_mark, IsConsistent, ChangesAreDue}
+use Rattle.world.proofs.Names.{IsPlannedWhole, id_in_processing, numbers_rise}
+use Rattle.world.proofs.Rules.{KeepsSession, KeepsTransfers}
+use Rattle.world.proofs.Instance.{ForeignCall, zero_no, last_in, kept_in, tag_if, mine_in, ended_in, foreign_in, real}
+use Rattle.world.proofs.Instance.{unit_in}
+use Rattle.world.proofs.Basics.{judged-by, keeps-of, not-refused}
+use Rattle.world.proofs.Sessions.{mine-some}
+use Rattle.world.proofs.TransferLaws.{unit-cases, keeps-all, keeps-changed, data-rest}
 use Rattle.std.proofs.lemmas.Bool.{eq-eqb}
 use Rattle.node_laws.proofs.Changed.{KeepsNames, found-is, only}
 use Rattle.node_laws.proofs.Lists.{each-imp, each-both}
-use Rattle.world.proofs.TransferLaws.{keeps-all, keeps-changed}
-use Rattle.world.proofs.TransferLaws.{data-rest}
-use Rattle.world.proofs.Foreign.{foreign-cases}
+use Rattle.pm_types.specs.declared.calls.Call.TheVariants as call
+use Rattle.pm_types.specs.declared.replies.Reply.TheVariants as reply
 
+-- a numbered call leaves the state, or is judged and kept
+pub foreign-cases : (read : Reading) (s : NodeState) (f : ForeignCall) (P : NodeState → Type 0) → P s → P (after_call s (suc f.other) f.at f.call (verdict_for read s (suc f.other) f.call) (reply_to s (suc f.other) f.call (verdict_for read s (suc f.other) f.call))) → P (foreign_in read s f)
+foreign-cases read s f P here there = grind arith steps 500000
+
+-- what no call touches
+accepted-last : (s : NodeState) (client : ℕ) (c : Call) (v : Verdict) → (accepted s client c v).last ≡ s.last
+accepted-last s client x v = grind arith steps 1500000
+
+accepted-ended : (s : NodeState) (client : ℕ) (c : Call) (v : Verdict) → (accepted s client c v).ended ≡ s.ended
+accepted-ended s client x v = grind arith steps 1500000
+
+-- client 0's last number and end stay
+pub foreign_last : (read : Reading) (s : NodeState) (f : ForeignCall) → (last_in (foreign_in read s f) ≡ last_in s) × (kept_in (foreign_in read s f) ≡ kept_in s) × (ended_in (foreign_in read s f) ≡ ended_in s)
+foreign_last read s f =
+    foreign-cases read s f P (refl, refl, refl)
+    (let l = judged-by s (suc f.other) f.call (verdict_for read s (suc f.other) f.call) (λ t. t.last ≡ s.last) refl (accepted-last s (suc f.other) f.call (verdict_for read s (suc f.other) f.call)) in
+    let e = judged-by s (suc f.other) f.call (verdict_for read s (suc f.other) f.call) (λ t. t.ended ≡ s.ended) refl (accepted-ended s (suc f.other) f.call (verdict_for read s (suc f.other) f.call)) in
+    let kept : Kept = record { no = f.at; reply = reply_to s (suc f.other) f.call (verdict_for read s (suc f.other) f.call) } in
+    let other : (l' : List (Option Kept)) → of_client (slice_set l' (suc f.other) (Some kept)) 0 ≡ of_client l' 0 = λ l'. get_or-set_other l' (suc f.other) 0 (Some kept) None (λ q. omega (arith, q)) in (
+      ap (λ o. option_map_or (λ (k : Kept). k.no) o zero_no) (other (judge s (suc f.other) f.call (verdict_for read s (suc f.other) f.call)).0.last ∙ ap (λ l'. of_client l' 0) l),
+      ap (λ o. option_map_or (λ (k : Kept). k.reply) o NodeDone) (other (judge s (suc f.other) f.call (verdict_for read s (suc f.other) f.call)).0.last ∙ ap (λ l'. of_client l' 0) l),
+      ap (λ l'. of_client l' 0) e,
+    ))
+  where
+    P : NodeState → Type 0
+    P t = (last_in t ≡ last_in s) × (kept_in t ≡ kept_in s) × (ended_in t ≡ ended_in s)
+
+record SameSession (s t : NodeState) : Type 0 where
+  session : t.session ≡ s.session
+  status : t.status ≡ s.status
+
+same : (s : NodeState) → SameSession s s
+same s = record { session = refl; status = refl }
+
+foreign-keeps : (s : NodeState) (x : Session) (client : ℕ) (c : Call) (v : Verdict) → s.session ≡ Some x → (x.owner == client) ≡ false → SameSession s (judge s client c v).0
+foreign-keeps s x client z v e n = grind arith steps 1500000
+
+pub foreign_session : (read : Reading) (clusters : List (Cluster Bytes)) (s : NodeState) (f : ForeignCall) (tag : ℕ) → mine_in s ≡ Some tag → KeepsSession (real read clusters) s (foreign_in read s f)
+foreign_session read clusters s f tag mine =
+    grind (arith, eqb-other, mine-some, eqb-true, foreign-keeps, verdict_for, foreign-cases, real, keeps-of, after_call, reply_to) steps 2000000
+  where
+    eqb-other : (a b : ℕ) → a ≡ 0 → (a == suc b) ≡ false
+    eqb-other a b e = elim (eqb_tells a (suc b)) [ inl h ↦ absurd (let z : a ≡ suc b = h.1 in omega (arith, e, z)) | inr h ↦ h.0 ]
+
+-- no call of another client makes a session of client 0
+abbrev mine-of : Option Session → Option ℕ
+mine-of o = option_and_then (λ (x : Session). tag_if (x.owner == 0) x.tag) o
+
+pub foreign_none : (read : Reading) (s : NodeState) (f : ForeignCall) → mine_in s ≡ None → mine_in (foreign_in read s f) ≡ None
+foreign_none read s f e = grind (arith, nat_tests)
+
+-- Laws of the real node: client 0's transfers under calls of others, and units where client 0 has no session.
 -- each transfer of a found id is the found client's
 unique : (c id : ℕ) (ts : List Transfer) (t : Transfer) → numbers_rise (map (λ (y : Transfer). y.header.id) ts) ≡ true → find (λ (y : Transfer). is_of c id y.header) ts ≡ Some t → AllByRecursion (λ (y : Transfer). (y.header.id == id) ≡ true → (y.header.client == c) ≡ true) ts
 unique c id ts t r e =

@@ -4,8 +4,7 @@ use Rattle.world.proofs.Names.{None, Bool, true, false, is_some, nat_eq, refl, s
 use Rattle.world.proofs.Names.{eqb_tells, Status, RolledBack, Cause, Decision, Abort, Fold, Current, end_of, Call}
 use Rattle.world.proofs.Names.{ProcessSwPackage, Finish, IsBelow, Message, InSent, is_sync, Packages, last_status}
 use Rattle.world.proofs.Names.{last_shown, end_call_at, delete_at, next_number, MaySend, MaySendBy, MaySendLate}
-use Rattle.world.proofs.Rules.{NodeRules, NodeLaws}
-use Rattle.world.proofs.RulesWorld.{NodeWorld, state_of}
+use Rattle.world.proofs.Rules.{NodeRules, NodeLaws, NodeWorld, state_of}
 use Rattle.world.proofs.Invariant.{NoneEarly, KeptOld, KeptFold, Falling}
 use Rattle.world.proofs.Events.{below-trans, none-early-status}
 

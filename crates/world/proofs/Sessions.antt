@@ -8,10 +8,10 @@ use Rattle.world.proofs.Names.{status_table, session_refusals, is_wrong_tag, cha
 use Rattle.world.proofs.Names.{begin_processing, stop_processing, cancel_refusals, transfer_of, header_of, refusal}
 use Rattle.world.proofs.Names.{Reading, verdict_for, IsConsistent, id_in_processing, ProcessSwPackage, Activate}
 use Rattle.world.proofs.Names.{Finish, Rollback, Revert, Done, is_status}
-use Rattle.pm_types.specs.declared.calls.Call.TheVariants as call
-use Rattle.pm_types.specs.declared.replies.Reply.TheVariants as reply
 use Rattle.world.proofs.Instance.{tag_if, mine_in, planned_in, outcome_in, judged_in}
 use Rattle.world.proofs.Basics.{done-or-refused, done-accepted, done-none, or-none}
+use Rattle.pm_types.specs.declared.calls.Call.TheVariants as call
+use Rattle.pm_types.specs.declared.replies.Reply.TheVariants as reply
 
 -- client 0's session
 pub mine-some : (s : NodeState) (tag : ℕ) → mine_in s ≡ Some tag → (x : Session) × (s.session ≡ Some x) × ((x.owner == 0) ≡ true) × (x.tag ≡ tag)

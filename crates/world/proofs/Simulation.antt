@@ -1,39 +1,94 @@
--- A world of the tables is one of the rules: what its events make, the rules' events make too.
-use Rattle.world.proofs.Names.{arith, ◌≡◌, refl, ap, ◌∙◌, ℕ, suc, ◌<◌, Bool, false, [], ◌∷◌, map, if◌then◌else◌, Some}
-use Rattle.world.proofs.Names.{AllByRecursion, CallNo, Call, NodeState, step, unit, Reading, verdict_for, Current}
-use Rattle.world.proofs.Names.{Message, Showed, no_lt, no_eq, Spans, Span, spans, NodeWorld, World, fold_of, state_of}
-use Rattle.world.proofs.Names.{reached, called, delivered}
-use Rattle.world.proofs.NodeSteps.{entered-state, entered-spans, foreign-spans, worked-state, worked-status}
-use Rattle.world.proofs.NodeSteps.{worked-spans}
-use Rattle.world.proofs.Instance.{ForeignCall, Calls, unit_in, judged_in, kept_after, saved_in}
-use Rattle.world.proofs.FitNode.{KeepsNode, FitState, fit}
-use Rattle.world.proofs.FitLaws.{state-is, unit-is}
-use Rattle.world.proofs.Binding.{delivered-is}
+-- What a call and a unit make of a node's history is what they make of its state and of its spans.
+use Rattle.world.proofs.Names.{◌≡◌, refl, ap, ℕ, suc, Bool, true, false, List, ◌∷◌, arith, ◌&&◌, ◌||◌, if◌then◌else◌}
+use Rattle.world.proofs.Names.{None, CallNo, Call, Entry, Reached, Idle, CleaningUp, NodeState, UnitAfter as UnitLine}
+use Rattle.world.proofs.Names.{with_entry, step, unit, Reading, verdict_for, state_after, IsConsistent, is_status}
+use Rattle.world.proofs.Names.{Spans, has_tag, span_of, spans, reached, worked_on, shown_by, ◌∙◌, ◌<◌, [], map, Some}
+use Rattle.world.proofs.Names.{AllByRecursion, Current, Message, Showed, no_lt, no_eq, Span, NodeWorld, World}
+use Rattle.world.proofs.Names.{fold_of, state_of, called, delivered}
+use Rattle.world.proofs.Appended.{after-append, spans-append}
+use Rattle.world.proofs.Instance.{unit_in, ForeignCall, Calls, judged_in, kept_after, saved_in, delivered-is}
+use Rattle.world.proofs.Rules.{is_fresh_done}
+use Rattle.world.specs.World.{entered, worked}
+use Rattle.world.proofs.FitLaws.{KeepsNode, FitState, fit, state-is, unit-is}
 use Rattle.world.proofs.Rules as rules
-use Rattle.world.proofs.RulesLaw as law
-use Rattle.world.proofs.RulesWorld as engine
-use Rattle.world.specs.World.{worked}
 
+module _ (read : Reading) (o : NodeState) (es : List Entry) where
+  abbrev now : NodeState
+  now = state_after read o es
+
+  -- the state after a call
+  pub entered-state : (client : ℕ) (at : CallNo) (c : Call) → state_after read o (entered es client at c (reached read now client at c)) ≡ (step now client at c (verdict_for read now client c)).0
+  entered-state client at c = grind (arith, after-append) steps 500000
+
+  or-false : (b : Bool) → (b || false) ≡ b
+  or-false true = refl
+  or-false false = refl
+
+  and-false : (a b : Bool) → (a && (b && false)) ≡ false
+  and-false true false = refl
+  and-false _ _ = refl
+
+  abbrev same : Spans → Bool → Spans
+  same x b = record { is_open = x.is_open || b; ended = x.ended }
+
+  unchanged : (x : Spans) → same x false ≡ x
+  unchanged x = ap (λ b. let y : Spans = record { is_open = b; ended = x.ended } in y) (or-false x.is_open)
+
+  -- the spans after a call of client 0
+  pub entered-spans : (k : ℕ) (at : CallNo) (c : Call) (r : Reached) → spans read k o (entered es 0 at c r) ≡ same (spans read k o es) (has_tag k c && (is_status now.status Idle && is_fresh_done r))
+  entered-spans k at c x = grind (arith, spans-append, and-false, unchanged) steps 1500000
+
+  -- another client's calls begin and end none
+  pub foreign-spans : (k other : ℕ) (at : CallNo) (c : Call) (r : Reached) → spans read k o (entered es (suc other) at c r) ≡ spans read k o es
+  foreign-spans k other at c x = grind (arith, spans-append, unchanged) steps 1500000
+
+  abbrev entry : NodeState → NodeState
+  entry t = with_entry (UnitLine t.status) t
+
+  -- the state after a unit
+  pub worked-state : (passed : Bool) → state_after read o (worked_on es passed (unit now passed)) ≡ unit_in now passed
+  worked-state passed = grind (arith, after-append) steps 500000
+
+  pub worked-status : (passed : Bool) → shown_by now (unit now passed) ≡ (unit_in now passed).status
+  worked-status passed = grind arith steps 500000
+
+  -- in CleaningUp there is a unit to do
+  cleans : (passed : Bool) → IsConsistent now → unit now passed ≡ None → is_status now.status CleaningUp ≡ false
+  cleans passed v e = grind arith steps 500000
+
+  joined : (b c : Bool) (a x y : Spans) → x ≡ y → (if c && b then a else x) ≡ (if b && c then a else y)
+  joined b c a x y e = grind arith
+
+  and-no : (b : Bool) → (b && false) ≡ false
+  and-no true = refl
+  and-no false = refl
+
+  -- the spans after a unit
+  pub worked-spans : (k : ℕ) (passed : Bool) → IsConsistent now
+      → spans read k o (worked_on es passed (unit now passed)) ≡ (if (spans read k o es).is_open && is_status now.status CleaningUp then record { is_open = false; ended = span_of now (unit_in now passed) ∷ (spans read k o es).ended } else spans read k o es)
+  worked-spans k passed v = grind (arith, cleans, and-no, spans-append, joined, unchanged)
+
+-- A world of the tables is one of the rules: what its events make, the rules' events make too.
 module _ (read : Reading) (keeps : KeepsNode read []) where
   abbrev pub N : rules.NodeRules
   N = fit read [] keeps
 
   -- a span as the tables say it
-  abbrev pub told_span : law.Span (fit read [] keeps) → Span
+  abbrev pub told_span : rules.Span (fit read [] keeps) → Span
   told_span x = record { outcome = x.outcome; saved = saved_in x.before.state; left = x.left.state.running }
 
-  abbrev pub told_spans : law.Spans (fit read [] keeps) → Spans
+  abbrev pub told_spans : rules.Spans (fit read [] keeps) → Spans
   told_spans x = record { is_open = x.is_open; ended = map told_span x.ended }
 
   -- one node of the tables, and one of the rules
-  pub record SameNode (x : NodeWorld) (y : engine.NodeWorld (fit read [] keeps)) : Type 0 where
-    pub state : (engine.state_of (fit read [] keeps) y).state ≡ state_of read x
+  pub record SameNode (x : NodeWorld) (y : rules.NodeWorld (fit read [] keeps)) : Type 0 where
+    pub state : (rules.state_of (fit read [] keeps) y).state ≡ state_of read x
     pub sent : y.sent ≡ x.sent
     pub told : y.told ≡ x.told
-    pub spans_told : (k : ℕ) → told_spans (law.spans (fit read [] keeps) k y.moves) ≡ spans read k x.opening x.history
+    pub spans_told : (k : ℕ) → told_spans (rules.spans (fit read [] keeps) k y.moves) ≡ spans read k x.opening x.history
     pub epochs : AllByRecursion (λ m. 0 < m.at.epoch) y.sent
 
-  pub record SameWorld (w : World) (v : engine.World (fit read [] keeps)) : Type 0 where
+  pub record SameWorld (w : World) (v : rules.World (fit read [] keeps)) : Type 0 where
     pub fold : v.fold ≡ fold_of w
     pub node : (n : ℕ) → SameNode (w.node n) (v.node n)
     pub started : (c : Current) → v.fold.current ≡ Some c → 0 < v.fold.epoch
@@ -53,15 +108,15 @@ module _ (read : Reading) (keeps : KeepsNode read []) where
   delivered-reached x at c low = (delivered-is read [] x.state at c low).1
 
   -- a message of the master arrives
-  pub same-deliver : (x : NodeWorld) (y : engine.NodeWorld (fit read [] keeps)) (m : Message) (told : Bool) → 0 < m.at.epoch → SameNode x y → SameNode (delivered read x (Some m) told) (engine.deliver_to (fit read [] keeps) y (Some m) told)
+  pub same-deliver : (x : NodeWorld) (y : rules.NodeWorld (fit read [] keeps)) (m : Message) (told : Bool) → 0 < m.at.epoch → SameNode x y → SameNode (delivered read x (Some m) told) (rules.deliver_to (fit read [] keeps) y (Some m) told)
   same-deliver x y m told low h =
       grind (arith, delivered-state, entered-state, entered-spans, fit, delivered-reached)
 
-  pub same-foreign : (x : NodeWorld) (y : engine.NodeWorld (fit read [] keeps)) (f : ForeignCall) → SameNode x y
-      → SameNode (called read x (suc f.other) f.at f.call) (record { moves = engine.Foreign (Calls f) ∷ y.moves; sent = y.sent; told = y.told })
+  pub same-foreign : (x : NodeWorld) (y : rules.NodeWorld (fit read [] keeps)) (f : ForeignCall) → SameNode x y
+      → SameNode (called read x (suc f.other) f.at f.call) (record { moves = rules.Foreign (Calls f) ∷ y.moves; sent = y.sent; told = y.told })
   same-foreign x y f h = grind (arith, entered-state, foreign-spans) steps 500000
 
-  pub same-work : (x : NodeWorld) (y : engine.NodeWorld (fit read [] keeps)) (passed told : Bool) → SameNode x y
-      → SameNode (worked read x passed told) (record { moves = engine.Unit_done passed ∷ y.moves; sent = y.sent; told = if told then Showed (rules.NodeRules.status N (rules.NodeRules.unit N (engine.state_of (fit read [] keeps) y) passed)) ∷ y.told else y.told })
+  pub same-work : (x : NodeWorld) (y : rules.NodeWorld (fit read [] keeps)) (passed told : Bool) → SameNode x y
+      → SameNode (worked read x passed told) (record { moves = rules.Unit_done passed ∷ y.moves; sent = y.sent; told = if told then Showed (rules.NodeRules.status N (rules.NodeRules.unit N (rules.state_of (fit read [] keeps) y) passed)) ∷ y.told else y.told })
   same-work x y passed told h =
       grind (arith, worked-state, worked-status, unit-is, unit_in, worked-spans, fit)
