@@ -1,25 +1,91 @@
--- What a node does leaves its state fit.
-use Rattle.node_laws.proofs.Names.{◌≡◌, refl, sym, subst, ap, ℕ, ◌+◌, ◌<◌, Bool, true, false, List, [], ◌∷◌, arith}
-use Rattle.node_laws.proofs.Names.{nat_lt, option_map, option_and_then, unwrap_or, if◌then◌else◌, Option, Some, None}
-use Rattle.node_laws.proofs.Names.{Ordering, Greater, client_limit, Bytes, CallNo, Call, Sync, TransferStart}
-use Rattle.node_laws.proofs.Names.{TransferData, TransferExit, DeleteTransfer, ProcessSwPackage, Activate, Finish}
-use Rattle.node_laws.proofs.Names.{Rollback, RevertProcessedSwPackages, Cancel, Cluster, Entry, Numbered, UnitDone}
-use Rattle.node_laws.proofs.Names.{UnitLine, Answered, Refusal, Reply, Refused, Status, Processing, Activating}
-use Rattle.node_laws.proofs.Names.{Verifying, RollingBack, CleaningUp, Kept, NodeState, Session, of_client, all_units}
-use Rattle.node_laws.proofs.Names.{parts_of, refusal, accepted, acceptance, refused_or, reply_to, after_reply, judge}
-use Rattle.node_laws.proofs.Names.{after_call, executed, by_order, by_last, call_no_cmp, step, with_entry, unit_of}
-use Rattle.node_laws.proofs.Names.{process_unit, processed, parts_of_id, Reading, verdict_for, worked, formatted}
-use Rattle.node_laws.proofs.Names.{after_entry, state_after, IsNext, IsLegal, IsReading, IsFit, IsInstalled, KeepsFit}
-use Rattle.node_laws.proofs.Refusals.{both-none}
-use Rattle.node_laws.proofs.Sessions.{Busy, busy-of, base-of}
+-- A reply that is kept and an entry with its line leave a state fit.
+use Rattle.node_laws.proofs.Names.{◌≡◌, refl, ℕ, zero, suc, ◌+◌, ◌-◌, ◌≤◌, true, List, [], ◌∷◌, ◌++◌, length, drop}
+use Rattle.node_laws.proofs.Names.{length-append, length-drop, add-zero, arith, ◌==◌, min, Option, Some, both_true}
+use Rattle.node_laws.proofs.Names.{length-set, and_parts, eq-eqb, line_limit, CallNo, Happened, Line, Reply, Kept}
+use Rattle.node_laws.proofs.Names.{NodeState, newest, with_entry, with_kept, Reading, places_from, IsFit, subst, None}
+use Rattle.node_laws.proofs.Names.{Bytes, Cluster, Session, IsInstalled, sym, ap, ◌<◌, Bool, false, nat_lt}
+use Rattle.node_laws.proofs.Names.{option_map, option_and_then, unwrap_or, if◌then◌else◌, Ordering, Greater}
+use Rattle.node_laws.proofs.Names.{client_limit, Call, Sync, TransferStart, TransferData, TransferExit}
+use Rattle.node_laws.proofs.Names.{DeleteTransfer, ProcessSwPackage, Activate, Finish, Rollback}
+use Rattle.node_laws.proofs.Names.{RevertProcessedSwPackages, Cancel, Entry, Numbered, UnitDone, UnitLine, Answered}
+use Rattle.node_laws.proofs.Names.{Refusal, Refused, Status, Processing, Activating, Verifying, RollingBack}
+use Rattle.node_laws.proofs.Names.{CleaningUp, of_client, all_units, parts_of, refusal, accepted, acceptance}
+use Rattle.node_laws.proofs.Names.{refused_or, reply_to, after_reply, judge, after_call, executed, by_order, by_last}
+use Rattle.node_laws.proofs.Names.{call_no_cmp, step, unit_of, process_unit, processed, parts_of_id, verdict_for}
+use Rattle.node_laws.proofs.Names.{worked, formatted, after_entry, state_after, IsNext, IsLegal, IsReading, KeepsFit}
+use Rattle.node_laws.proofs.Sessions.{base-of, free-of, free-is, by-session, Busy, busy-of}
+use Rattle.node_laws.proofs.Lists.{both-none}
 use Rattle.node_laws.proofs.Quiet.{processes}
 use Rattle.node_laws.proofs.KeptTransfers.{start-fit, data-fit, exit-fit, delete-fit}
-use Rattle.node_laws.proofs.KeptSessions.{at-status, led-fit, activates, finishes, rolls_back, reverts}
-use Rattle.node_laws.proofs.KeptUnits.{activate-fit, verify-fit, roll_back-fit, clean_up-fit}
+use Rattle.node_laws.proofs.KeptSessions.{at-status, led-fit, activates, finishes, rolls_back, reverts, activate-fit}
+use Rattle.node_laws.proofs.KeptSessions.{verify-fit, roll_back-fit, clean_up-fit}
 use Rattle.node_laws.proofs.KeptProcessing.{more-fit, last-fit}
 use Rattle.node_laws.proofs.KeptPackages.{process-fit, cancel-fit}
-use Rattle.node_laws.proofs.Entries.{kept-fit, entry-fit}
 
+places-append : (place : ℕ) (ls : List Line) (l : Line) → places_from place ls ≡ true → l.place ≡ place + length ls → places_from place (ls ++ l ∷ []) ≡ true
+places-append place [] l h e = both_true (eq-eqb _ _ (omega (arith, e))) refl
+places-append place (m ∷ ls) l h e =
+    let parts = and_parts (m.place == place) (places_from (place + 1) ls) h in
+    both_true parts.0 (places-append (place + 1) ls l parts.1 (omega (arith, e)))
+
+places-drop : (place k : ℕ) (ls : List Line) → k ≤ length ls → places_from place ls ≡ true → places_from (place + k) (drop k ls) ≡ true
+places-drop place zero ls h p = rw (add-zero place) p
+places-drop place (suc k) [] h p = refl
+places-drop place (suc k) (l ∷ ls) h p =
+    let parts = and_parts (l.place == place) (places_from (place + 1) ls) p in
+    let e : place + suc k ≡ place + 1 + k = omega arith in
+    rw e (places-drop (place + 1) k ls (omega (arith, h)) parts.1)
+
+-- the lines are the newest, in their places
+record InPlace (entries : ℕ) (ls : List Line) : Type 0 where
+  count : length ls ≡ min entries line_limit
+  places : places_from (entries - length ls) ls ≡ true
+
+lines-kept : (entries : ℕ) (ls : List Line) (h : Happened) → InPlace entries ls → InPlace (entries + 1) (newest (ls ++ record { place = entries; happened = h } ∷ []))
+lines-kept entries ls h v =
+    let more = ls ++ record { place = entries; happened = h } ∷ [] in
+    let n : length more ≡ length ls + 1 = length-append ls _ in
+    let k = length more - line_limit in
+    let d : length (newest more) ≡ length more - k = length-drop k more in
+    let e : entries + 1 - length (newest more) ≡ entries - length ls + k = omega (arith, n, d, v.count) in
+    record {
+      count = omega (arith, n, d, v.count);
+      places = rw e (places-drop (entries - length ls) k more (omega arith) (places-append (entries - length ls) ls _ v.places (omega (arith, v.count))));
+    }
+
+-- other numbers and replies that are kept, and other entries and lines
+noted-fit : (read : Reading) (s : NodeState) (last : List (Option Kept)) (entries : ℕ) (lines : List Line) → IsFit read s → length last ≡ length s.last → InPlace entries lines → IsFit read (record s { last = last; entries = entries; lines = lines })
+noted-fit read s last entries lines fit same place = grind arith steps 500000
+
+-- the lines of a fit state are in their places
+in-place : (read : Reading) (s : NodeState) → IsFit read s → InPlace s.entries s.lines
+in-place read s fit = record { count = fit.consistent.limits.lines; places = fit.consistent.limits.places }
+
+pub kept-fit : (read : Reading) (s : NodeState) (client : ℕ) (at : CallNo) (r : Reply) → IsFit read s → IsFit read (with_kept client at r s)
+kept-fit read s client at r fit = noted-fit read s _ s.entries s.lines fit (length-set s.last client (Some (record { no = at; reply = r }))) (in-place read s fit)
+
+pub entry-fit : (read : Reading) (h : Happened) (s : NodeState) → IsFit read s → IsFit read (with_entry h s)
+entry-fit read h s fit = noted-fit read s s.last (s.entries + 1) _ fit refl (lines-kept s.entries s.lines h (in-place read s fit))
+
+-- A node without a session stays fit with other clusters.
+-- what runs where a node without a session is opened with these clusters
+abbrev pub opened_by : Option Session → List (Cluster Bytes) → List (Cluster Bytes) → List (Cluster Bytes)
+opened_by None clusters running = clusters
+opened_by (Some x) clusters running = running
+
+pub opened-fit : (read : Reading) (s : NodeState) (clusters : List (Cluster Bytes)) → IsInstalled clusters → IsFit read s → IsFit read (record s { running = opened_by s.session clusters s.running })
+opened-fit read s clusters installed fit =
+    by-session s (λ o. IsFit read (record s { session = o; running = opened_by o clusters s.running }))
+    (λ e.
+    let b = base-of s fit.consistent in
+    let f = free-of s e fit.consistent in
+    record {
+      consistent = free-is (record s { running = clusters }) (record { held = b.held; running = installed.rise; clients = b.clients; lines = b.lines; places = b.places }) (record { idle = f.idle; changes = f.changes; each = f.each; names = installed.few });
+      read_parts = fit.read_parts;
+    })
+    (λ x e. subst (λ o. IsFit read (record s { session = o })) e fit)
+
+-- What a node does leaves its state fit.
 -- a formatted node with clusters in order, of at most 16 names
 formatted-fit : (read : Reading) (clusters : List (Cluster Bytes)) → IsInstalled clusters → IsFit read (formatted clusters)
 formatted-fit read clusters installed = grind arith steps 500000

@@ -14,18 +14,14 @@ use Rattle.node_laws.proofs.Names.{begin_processing, stop_processing, arrive, le
 use Rattle.node_laws.proofs.Names.{parts_of, Reading, SessionIsDue, should_run, LeavesOneToVerify}
 use Rattle.node_laws.proofs.Names.{IsWholeFromTransferred, IsPlannedWhole, is_processed, parts_in, may_plan_nothing}
 use Rattle.node_laws.proofs.Names.{numbers_rise, IsFit}
-use Rattle.node_laws.proofs.Lists.{each-append, each-first, each-imp, found-has}
-use Rattle.node_laws.proofs.NameLists.{Within, within-self, within-left, within-right, fewer-within}
-use Rattle.node_laws.proofs.Planned.{names_of, changed_names}
-use Rattle.node_laws.proofs.Changed.{ids, found, found-is, changed, each-changed, all-changed, any-changed}
-use Rattle.node_laws.proofs.Changed.{found-changed}
-use Rattle.node_laws.proofs.Refusals.{rows-clear, both-none, neither, not-false, some-transfer, some-header}
-use Rattle.node_laws.proofs.Refusals.{is-transferred, is-processing}
+use Rattle.node_laws.proofs.Lists.{each-append, each-first, each-imp, found-has, ids, found, found-is, changed}
+use Rattle.node_laws.proofs.Lists.{each-changed, all-changed, any-changed, found-changed, rows-clear, both-none}
+use Rattle.node_laws.proofs.Lists.{neither, not-false, some-transfer, some-header, is-transferred, is-processing}
+use Rattle.node_laws.proofs.NameLists.{Within, within-self, within-left, within-right, fewer-within, names_of}
+use Rattle.node_laws.proofs.NameLists.{changed_names, differ-first, differ-kept, each-applies, few-kept}
 use Rattle.node_laws.proofs.Sessions.{Base, Busy, Free, InProcessing, base-of, busy-of, free-of, busy-is}
-use Rattle.node_laws.proofs.KeptSessions.{or-true, at-status}
-use Rattle.node_laws.proofs.KeptUnits.{both-in, left-in, changes-in, all_of, clusters-in, parts-in, all-in}
-use Rattle.node_laws.proofs.KeptUnits.{names-fewer}
-use Rattle.node_laws.proofs.Differ.{differ-first, differ-kept, each-applies, few-kept}
+use Rattle.node_laws.proofs.KeptSessions.{or-true, at-status, both-in, left-in, changes-in, all_of, clusters-in}
+use Rattle.node_laws.proofs.KeptSessions.{parts-in, all-in, names-fewer}
 use Rattle.node_laws.proofs.KeptProcessing.{rephased, names-kept, late_transferred, being_processed, read-rephased}
 use Rattle.node_laws.proofs.KeptProcessing.{base-rephased, in-other, some-units, names-of-parts}
 

@@ -8,10 +8,9 @@ use Rattle.node_laws.proofs.Names.{Status, Ready, Processing, NodeState, Session
 use Rattle.node_laws.proofs.Names.{cluster_of, changes_of, units_of, all_units, names_among, is_of, parts_of}
 use Rattle.node_laws.proofs.Names.{in_phase, Reading, IsSound, IsWholeFromTransferred, IsPlannedWhole, is_processed}
 use Rattle.node_laws.proofs.Names.{PartsApply, processed, parts_of_id, IsFit, IsRead}
-use Rattle.node_laws.proofs.Lists.{each-append, each-imp, found-has}
-use Rattle.node_laws.proofs.Planned.{changed_names}
-use Rattle.node_laws.proofs.Changed.{found, found-is, changed, each-changed, all-changed, KeepsNames}
-use Rattle.node_laws.proofs.Refusals.{is-processing}
+use Rattle.node_laws.proofs.Lists.{each-append, each-imp, found-has, found, found-is, changed, each-changed}
+use Rattle.node_laws.proofs.Lists.{all-changed, KeepsNames, is-processing}
+use Rattle.node_laws.proofs.NameLists.{changed_names}
 use Rattle.node_laws.proofs.Sessions.{Held, Base, Busy, InProcessing, base-of, busy-is}
 use Rattle.node_laws.proofs.KeptTransfers.{held-changed}
 

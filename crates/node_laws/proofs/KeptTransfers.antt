@@ -10,9 +10,8 @@ use Rattle.node_laws.proofs.Names.{grown, in_phase, started, with_block, exited,
 use Rattle.node_laws.proofs.Names.{data_refusals, exit_refusals, delete_refusals, Reading, IsSound}
 use Rattle.node_laws.proofs.Names.{IsWholeFromTransferred, numbers_rise, IsFit, IsRead, IsReading}
 use Rattle.node_laws.proofs.Lists.{each-append, each-imp, each-map, each-filter, length-filter, rise-append}
-use Rattle.node_laws.proofs.Lists.{rise-filter}
-use Rattle.node_laws.proofs.Changed.{ids, found, changed, all-changed, KeepsNames, ids-changed}
-use Rattle.node_laws.proofs.Refusals.{rows-clear, both-none, neither, not-false, some-header, is-transferring}
+use Rattle.node_laws.proofs.Lists.{rise-filter, ids, found, changed, all-changed, KeepsNames, ids-changed, rows-clear}
+use Rattle.node_laws.proofs.Lists.{both-none, neither, not-false, some-header, is-transferring}
 use Rattle.node_laws.proofs.Sessions.{Held, base-of}
 use Rattle.node_laws.proofs.Quiet.{IsEarly, transferring, transferred, quiet-consistent, quiet-started, quiet-changed}
 use Rattle.node_laws.proofs.Quiet.{quiet-deleted}

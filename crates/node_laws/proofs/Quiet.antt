@@ -7,8 +7,8 @@ use Rattle.node_laws.proofs.Names.{BeingProcessed, Processed, NodeState, Session
 use Rattle.node_laws.proofs.Names.{names_among, is_of, IsConsistent, IsPlannedWhole, is_processed, PartsApply}
 use Rattle.node_laws.proofs.Names.{parts_in}
 use Rattle.node_laws.proofs.Lists.{each-append, each-imp, each-filter, found-has, find-filter, any-filter, any-more}
-use Rattle.node_laws.proofs.Changed.{found, found-is, only, changed, each-changed, all-changed, any-changed}
-use Rattle.node_laws.proofs.Changed.{KeepsNames, found-changed}
+use Rattle.node_laws.proofs.Lists.{found, found-is, only, changed, each-changed, all-changed, any-changed, KeepsNames}
+use Rattle.node_laws.proofs.Lists.{found-changed}
 use Rattle.node_laws.proofs.Sessions.{Held, Base, Busy, InProcessing, IsUnfinished, base-of, busy-of, busy-is}
 use Rattle.node_laws.proofs.Sessions.{free-of, free-is, by-session}
 

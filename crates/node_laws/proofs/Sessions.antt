@@ -7,7 +7,7 @@ use Rattle.node_laws.proofs.Names.{CleaningUp, BeingProcessed, Processed, NodeSt
 use Rattle.node_laws.proofs.Names.{has_status, some_passes, all_units, names_among, is_of, IsConsistent, SessionIsDue}
 use Rattle.node_laws.proofs.Names.{should_run, ChangesAreOf, ChangesAreDue, PartsApply, parts_in, LeavesOneToVerify}
 use Rattle.node_laws.proofs.Names.{IsSound, numbers_rise, places_from}
-use Rattle.node_laws.proofs.Planned.{names_of}
+use Rattle.node_laws.proofs.NameLists.{names_of}
 
 -- the transfers, where ids below the next one were given
 pub record Held (next : ℕ) (ts : List Transfer) : Type 0 where

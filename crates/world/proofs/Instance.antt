@@ -5,7 +5,7 @@ use Rattle.world.proofs.Names.{Numbered, NodeState, of_client, changes_in, ids_o
 use Rattle.world.proofs.Names.{step, name_of, reply_code, with_kept, with_entry, Reading, verdict_for, worked}
 use Rattle.world.proofs.Names.{formatted, id_in_processing, IsInstalled, RunsNew, Call, Reply, Done, arith, Ordering}
 use Rattle.world.proofs.Names.{Less, Equal, Greater, executed, call_no_cmp, Reached, no_lt, no_eq}
-use Rattle.node_laws.proofs.Opened.{opened_by}
+use Rattle.node_laws.proofs.Kept.{opened_by}
 use Rattle.world.proofs.Rules.{NodeRules, delivered, reached as world_reached}
 
 abbrev pub zero_no : CallNo

@@ -20,7 +20,7 @@ use Rattle.world.proofs.Basics.{judged-by, keeps-of, not-refused}
 use Rattle.world.proofs.Sessions.{mine-some}
 use Rattle.world.proofs.TransferLaws.{unit-cases, keeps-all, keeps-changed, data-rest}
 use Rattle.std.proofs.lemmas.Bool.{eq-eqb}
-use Rattle.node_laws.proofs.Changed.{KeepsNames, found-is, only}
+use Rattle.node_laws.proofs.Lists.{KeepsNames, found-is, only}
 use Rattle.node_laws.proofs.Lists.{each-imp, each-both}
 use Rattle.pm_types.specs.declared.calls.Call.TheVariants as call
 use Rattle.pm_types.specs.declared.replies.Reply.TheVariants as reply

@@ -12,8 +12,8 @@ use Rattle.world.proofs.Instance.{ForeignCall, Opens, Calls, Outside, saved_in, 
 use Rattle.world.proofs.FitLaws.{KeepsNode, fit, fit-laws}
 use Rattle.world.proofs.Simulation.{SameNode, SameWorld, same-deliver, same-foreign, same-work, told_span, told_spans}
 use Rattle.node_laws.proofs.Kept.{keeps-fit}
-use Rattle.node_laws.proofs.Entries.{kept-fit, entry-fit}
-use Rattle.node_laws.proofs.Opened.{opened-fit}
+use Rattle.node_laws.proofs.Kept.{kept-fit, entry-fit}
+use Rattle.node_laws.proofs.Kept.{opened-fit}
 use Rattle.world.proofs.Rules.{InEarlier}
 use Rattle.world.proofs.Early.{world-law}
 use Rattle.world.proofs.Rules as rules

@@ -16,7 +16,7 @@ use Rattle.world.proofs.Names.{TransferStart, TransferData, TransferExit, Proces
 use Rattle.world.proofs.WordLaws.{run_parts, planned-run, runs-new}
 use Rattle.world.proofs.Instance.{last_in, kept_in, mine_in, planned_in, outcome_in, ended_in, unit_in, BringsIn}
 use Rattle.world.proofs.Instance.{LeavesIn, tag_if, received_in, judged_in, real}
-use Rattle.node_laws.proofs.Changed.{changed, KeepsNames, found-is, found-changed}
+use Rattle.node_laws.proofs.Lists.{changed, KeepsNames, found-is, found-changed}
 use Rattle.world.proofs.Rules.{KeepsTransfers}
 use Rattle.world.proofs.Basics.{judged-by, done-none, not-refused}
 use Rattle.pm_types.specs.declared.calls.Call.TheVariants as call
