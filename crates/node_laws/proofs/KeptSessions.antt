@@ -6,10 +6,9 @@ use Rattle.node_laws.proofs.Names.{Status, Ready, Processing, Activating, Verify
 use Rattle.node_laws.proofs.Names.{RolledBack, CleaningUp, NodeState, Session, has_status, first_refusal, Goal, To}
 use Rattle.node_laws.proofs.Names.{CleanUp, status_table, session_refusals, arrive, led_by, names_among, Reading}
 use Rattle.node_laws.proofs.Names.{SessionIsDue, should_run, LeavesOneToVerify, may_plan_nothing, parts_in, IsFit, ap}
-use Rattle.node_laws.proofs.Names.{◌∙◌, ◌+◌, ◌∷◌, not, if◌then◌else◌, filter, map, slice_set, length-set, ltb-true}
-use Rattle.node_laws.proofs.Names.{map-append, Change, Part, BeingProcessed, Processed, Idle, Transfer, is_in}
-use Rattle.node_laws.proofs.Names.{cluster_of, parts_of_id, activate_unit, verify_unit, roll_back_unit, clean_up_unit}
-use Rattle.node_laws.proofs.Names.{end_mark}
+use Rattle.node_laws.proofs.Names.{◌∙◌, ◌+◌, ◌∷◌, not, filter, map, slice_set, length-set, ltb-true, map-append}
+use Rattle.node_laws.proofs.Names.{Change, Part, BeingProcessed, Processed, Idle, Transfer, is_in, cluster_of}
+use Rattle.node_laws.proofs.Names.{parts_of_id, activate_unit, verify_unit, roll_back_unit, clean_up_unit, end_mark}
 use Rattle.node_laws.proofs.NameLists.{names_of, Within, within-self, within-left, within-right, within-trans}
 use Rattle.node_laws.proofs.NameLists.{fewer-within, changed_names, planned-rise, planned-within}
 use Rattle.node_laws.proofs.Lists.{rows-clear, each-append, each-imp, each-filter, each-passes, length-filter}

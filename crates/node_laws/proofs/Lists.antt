@@ -3,8 +3,7 @@ use Rattle.node_laws.proofs.Names.{◌≡◌, refl, ℕ, ◌<◌, ◌≤◌, Boo
 use Rattle.node_laws.proofs.Names.{cond, find, filter, map, nat_lt, Some, list_any, AllByRecursion, both_true}
 use Rattle.node_laws.proofs.Names.{and_parts, ltb-true, numbers_rise, not, ◌||◌, is_none, Option, None, option_or}
 use Rattle.node_laws.proofs.Names.{Header, Refusal, Transferring, Transferred, BeingProcessed, Transfer, is_in}
-use Rattle.node_laws.proofs.Names.{first_refusal, header_of, sym, subst, ap, ◌==◌, if◌then◌else◌, option_map}
-use Rattle.node_laws.proofs.Names.{eqb-true, is_of}
+use Rattle.node_laws.proofs.Names.{first_refusal, header_of, ap, ◌==◌, if◌then◌else◌, option_map, eqb-true, is_of}
 
 pub each-append : {X : Type 0} (P : X → Type 0) (xs ys : List X) → AllByRecursion P xs → AllByRecursion P ys → AllByRecursion P (xs ++ ys)
 each-append P [] ys h k = k

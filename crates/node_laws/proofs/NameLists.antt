@@ -293,7 +293,7 @@ few-with running changes before part p few = go part.manifest.action p.1 p.2
         omega (arith, same, few)
 
     go : (a : Action) → suits a (has_cluster running (cluster_of part)) ≡ true → (is_install a && nat_le cluster_limit (length (names_among running changes before))) ≡ false → length (different_names more) ≤ cluster_limit
-    go Install h k = grind (arith, leb-false, fewer-within, cluster_of, with-part, one-more) steps 500000
+    go Install h k = grind (arith, leb-false, fewer-within, cluster_of, with-part) steps 500000
     go _ h k = there h
 
 -- the names stay few after an accepted package

@@ -1,11 +1,10 @@
 -- A change of transfers that touches none in processing and none processed.
-use Rattle.node_laws.proofs.Names.{◌≡◌, refl, sym, subst, ap, ◌∙◌, ℕ, ◌<◌, ◌≤◌, Bool, true, false, List, [], ◌∷◌}
-use Rattle.node_laws.proofs.Names.{◌++◌, length, arith, ◌==◌, ◌&&◌, not, if◌then◌else◌, filter, map, option_map}
-use Rattle.node_laws.proofs.Names.{IfSome, IsSomeAnd, Option, Some, None, AllByRecursion, and_parts, eqb-true}
-use Rattle.node_laws.proofs.Names.{find-append, cluster_limit, Bytes, Header, Phase, Transferring, Transferred}
-use Rattle.node_laws.proofs.Names.{BeingProcessed, Processed, NodeState, Session, Transfer, is_in, some_passes}
-use Rattle.node_laws.proofs.Names.{names_among, is_of, IsConsistent, IsPlannedWhole, is_processed, PartsApply}
-use Rattle.node_laws.proofs.Names.{parts_in}
+use Rattle.node_laws.proofs.Names.{◌≡◌, refl, sym, ap, ◌∙◌, ℕ, ◌<◌, Bool, true, false, List, [], ◌∷◌, ◌++◌, arith}
+use Rattle.node_laws.proofs.Names.{◌==◌, ◌&&◌, not, if◌then◌else◌, filter, map, option_map, IfSome, IsSomeAnd, Option}
+use Rattle.node_laws.proofs.Names.{Some, None, AllByRecursion, and_parts, eqb-true, find-append, cluster_limit}
+use Rattle.node_laws.proofs.Names.{Header, Phase, Transferring, Transferred, BeingProcessed, Processed, NodeState}
+use Rattle.node_laws.proofs.Names.{Session, Transfer, is_in, some_passes, names_among, is_of, IsConsistent}
+use Rattle.node_laws.proofs.Names.{IsPlannedWhole, is_processed, parts_in}
 use Rattle.node_laws.proofs.Lists.{each-append, each-imp, each-filter, found-has, find-filter, any-filter, any-more}
 use Rattle.node_laws.proofs.Lists.{found, found-is, only, changed, each-changed, all-changed, any-changed, KeepsNames}
 use Rattle.node_laws.proofs.Lists.{found-changed}

@@ -2,10 +2,10 @@
 use Rattle.world.proofs.Names.{arith, ◌≡◌, ◌≢◌, ◌⊎◌, inl, inr, ℕ, zero, suc, List, [], ◌∷◌, ◌++◌, length, take, drop}
 use Rattle.world.proofs.Names.{Some, None, Bool, refl, sym, ◌∙◌, ap, subst, append_assoc, Contains, flat_map}
 use Rattle.world.proofs.Names.{take-append-drop, append-nil, Contains-push, Contains-append_left, flat_map-append}
-use Rattle.world.proofs.Names.{Refusal, Processing, CleaningUp, Call, Reply, Sync, TransferStart, TransferData}
-use Rattle.world.proofs.Names.{TransferExit, ProcessSwPackage, Activate, Done, Started, Refused, is_working, Stage}
-use Rattle.world.proofs.Names.{At_sync, At_start, At_data, At_process, At_activate, Over, Refused_once, call_at}
-use Rattle.world.proofs.Names.{onward, next_package, next_processed}
+use Rattle.world.proofs.Names.{Refusal, Processing, Call, Reply, Sync, TransferStart, TransferData, TransferExit}
+use Rattle.world.proofs.Names.{ProcessSwPackage, Activate, Done, Started, Refused, is_working, Stage, At_sync}
+use Rattle.world.proofs.Names.{At_start, At_data, At_process, At_activate, Over, Refused_once, call_at, onward}
+use Rattle.world.proofs.Names.{next_package, next_processed}
 use Rattle.world.proofs.Rules.{NodeRules, NodeLaws, KeepsSession, KeepsTransfers}
 use Rattle.world.proofs.EarlyFacts.{Hold, Apart, Has, Sends, Fills, Activates, IsAt}
 
@@ -32,22 +32,15 @@ module _ (N : NodeRules) (laws : NodeLaws N) where
   hold-push s (x ∷ ids) (q ∷ ps) id p h there e = (h.0, h.1, hold-push s ids ps id p h.2 there e)
   hold-push s _ _ id p h there e = absurd h
 
-  has-same : (s t : N.State) → KeepsTransfers N s t → KeepsSession N s t → (k : ℕ) (changes : List N.Change) → Has N s k changes → Has N t k changes
-  has-same s t transfers session k changes h = grind arith steps 500000
-
   -- a step that keeps client 0's transfers, and its session or that it has none
   pub at-same : (s t : N.State) → KeepsTransfers N s t → (N.mine s ≡ None → N.mine t ≡ None) → ((tag : ℕ) → N.mine s ≡ Some tag → KeepsSession N s t) → (k : ℕ) (ps : List (List ℕ)) (stage : Stage) → IsAt N s k ps stage → IsAt N t k ps stage
-  at-same s t transfers none session k ps x h = grind (arith, hold-same, has-same) steps 1500000
+  at-same s t transfers none session k ps x h = grind (arith, hold-same) steps 1500000
 
   pub at-foreign : (s : N.State) (call : N.ForeignCall) (k : ℕ) (ps : List (List ℕ)) (stage : Stage) → IsAt N s k ps stage → IsAt N (N.foreign s call) k ps stage
   at-foreign s call = at-same s (N.foreign s call) (laws.foreign_transfers s call) (laws.foreign_none s call) (laws.foreign_session s call)
 
   pub at-keep : (s : N.State) (at : _) (call : Call) (r : Reply) (k : ℕ) (ps : List (List ℕ)) (stage : Stage) → IsAt N s k ps stage → IsAt N (N.keep s at call r) k ps stage
   at-keep s at call r = at-same s (N.keep s at call r) (laws.keep_transfers s at call r) (λ e. (laws.keep_session s at call r).mine ∙ e) (λ tag e. laws.keep_session s at call r)
-
-  -- where client 0 has a session at a stage, it is not being cleaned up
-  pub at-not_cleaning : (s : N.State) (k tag : ℕ) (ps : List (List ℕ)) (stage : Stage) → IsAt N s k ps stage → N.mine s ≡ Some tag → N.status s ≢ CleaningUp
-  at-not_cleaning s k tag ps x h mine e = grind arith steps 1500000
 
   -- a unit
   has-unit : (s : N.State) (passed : Bool) (k : ℕ) (changes : List N.Change) → Has N s k changes → Has N (N.unit s passed) k changes × KeepsTransfers N s (N.unit s passed)

@@ -48,9 +48,6 @@ module _ (N : NodeRules) (laws : NodeLaws N) (k : ℕ) (changes : List N.Change)
             | inr b ↦ absurd (elim w.status [ inl x ↦ (cc (b, x)) | inr y ↦ (cc (b, y.0)) ])
           ])
 
-  pub waiting-foreign : (moves : List (Move N)) (call : N.ForeignCall) → IsWaiting moves → IsWaiting (Foreign call ∷ moves)
-  waiting-foreign moves call w = grind arith
-
   pub waiting-delivered : (moves : List (Move N)) (m : Message) → (Executable N (after N moves) m → IsCalm m.call) → IsWaiting moves → IsWaiting (Delivered m ∷ moves)
   waiting-delivered moves m calm w =
       grind (arith, after, waits-keeps, laws.keep_session, waits-judge, above-last, begins_span)
@@ -151,7 +148,7 @@ module _ (N : NodeRules) (laws : NodeLaws N) (packages : Packages) (n : ℕ) whe
   committed-foreign f x call kept =
       record {
         calm = λ c current commit m h exec. kept.calm c current commit m h (subst (λ l. IsBelow l m.at) (laws.foreign_last (state_of N x) call).0 exec);
-        committed = λ c current commit named. grind (arith, waiting-foreign, new-foreign) steps 1000000;
+        committed = λ c current commit named. grind (arith, new-foreign) steps 1000000;
         entered = λ k earlier low high named. new-foreign N laws k (changes_of k) x.moves call (kept.entered k earlier low high named);
       }
 

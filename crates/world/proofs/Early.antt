@@ -7,7 +7,7 @@ use Rattle.world.proofs.Names.{Current, flag_of, nothing_yet, vote_of, end_of, a
 use Rattle.world.proofs.Names.{refusal_of, changed, changed_in, after_event, entered, begun, Call, Reply, Reached}
 use Rattle.world.proofs.Names.{Stale, Again, Fresh, Message, Answered, Showed, InSent, nth_sent, answer_of, Packages}
 use Rattle.world.proofs.Names.{showed_after_activate, MaySend, campaign_of, decided_of, next_number, EndEvidence}
-use Rattle.world.proofs.Names.{InCurrent, VoteEvidence, flat_map, Successful}
+use Rattle.world.proofs.Names.{InCurrent, flat_map, Successful}
 use Rattle.world.proofs.Records.{part-other, part-with, flagged-ended, SameAt, SameFold, some-inj, none-some}
 use Rattle.world.proofs.Records.{and-both, present-forth}
 use Rattle.world.proofs.Rules.{NodeRules, NodeLaws, reached, Delivered, Foreign, Unit_done, NodeWorld, World}

@@ -1,11 +1,11 @@
 -- Before the decision: what each event at a node keeps.
 use Rattle.world.proofs.Names.{◌≡◌, ◌≢◌, ◌⊎◌, inl, inr, ◌&&◌, ◌||◌, not, ℕ, List, [], ◌∷◌, Option, Some, None, Bool}
 use Rattle.world.proofs.Names.{true, false, is_some, nat_eq, refl, sym, ◌∙◌, ap, subst, arith, eqb-true, eq-eqb}
-use Rattle.world.proofs.Names.{Status, Activated, CleaningUp, NodeSet, Vote, Fold, Current, flag_of, vote_of, all_yes}
-use Rattle.world.proofs.Names.{all_below, begun, Call, Reply, Sync, Again, Fresh, IsBelow, is_status, Message, Told}
-use Rattle.world.proofs.Names.{Answered, Showed, InSent, InTold, is_sync, is_told, Over, Packages, is_end_sync}
-use Rattle.world.proofs.Names.{activate_done, showed_after_activate, may_follow, MaySend, MaySendBy, MaySendEarly}
-use Rattle.world.proofs.Names.{next_number, EndEvidence}
+use Rattle.world.proofs.Names.{Status, Activated, NodeSet, Vote, Fold, Current, flag_of, vote_of, all_yes, all_below}
+use Rattle.world.proofs.Names.{begun, Call, Reply, Sync, Again, Fresh, IsBelow, is_status, Message, Told, Answered}
+use Rattle.world.proofs.Names.{Showed, InSent, InTold, is_sync, is_told, Over, Packages, is_end_sync, activate_done}
+use Rattle.world.proofs.Names.{showed_after_activate, may_follow, MaySend, MaySendBy, MaySendEarly, next_number}
+use Rattle.world.proofs.Names.{EndEvidence}
 use Rattle.world.proofs.Records.{part-none, flagged-yes, some-inj, none-some, and-both}
 use Rattle.world.proofs.Rules.{NodeRules, NodeLaws, reached, delivered, Delivered, Foreign, Unit_done, NodeWorld}
 use Rattle.world.proofs.Rules.{state_of, spans}
@@ -15,7 +15,6 @@ use Rattle.world.proofs.EarlyFacts.{EarlyAt, KeptEarly, KeptLive}
 use Rattle.world.proofs.Events.{below-trans, span-ended, is-cleaning, open-mine}
 use Rattle.world.proofs.Sends.{next-above, next-epoch}
 use Rattle.world.proofs.Committed.{IsReadyToCommit}
-use Rattle.world.proofs.AtRounds.{at-not_cleaning}
 use Rattle.world.proofs.EarlyNode.{judged-cases, is-next, over-none, showed-done, all-answered, early-judged}
 use Rattle.world.proofs.EarlyNode.{early-foreign, early-unit, early-answered, early-showed, early-sent}
 
@@ -149,7 +148,7 @@ module _ (N : NodeRules) (laws : NodeLaws N) (packages : Packages) (numbers : Li
       where
         stays : (c : Current) → IsAt N (state_of N x) c.campaign (packages c.campaign n) (stage_after (packages c.campaign n) (round_entries N c.campaign x.moves)) → (spans N c.campaign x.moves).ended ≡ [] → (spans N c.campaign (Unit_done passed ∷ x.moves)).ended ≡ []
         stays c at none =
-            grind (arith, span-ended, spans, is_status, state_of, at-not_cleaning, stage_after, round_entries, is-cleaning) steps 1500000
+            grind (arith, span-ended, spans, is_status, state_of, stage_after, round_entries, is-cleaning) steps 1500000
 
     pub early-answered-event : (f : Fold) (x : NodeWorld N) (m : Message) (r : Reply) → InSent m x.sent → m.at ≡ N.last (state_of N x) → N.kept (state_of N x) ≡ r → KeptLive N f n x → KeptEarly N packages f n x → KeptEarly N packages f n (record { moves = x.moves; sent = x.sent; told = Answered m r ∷ x.told })
     early-answered-event f x m r sent at kept live early =

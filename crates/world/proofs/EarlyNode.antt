@@ -102,12 +102,8 @@ module _ (N : NodeRules) (laws : NodeLaws N) where
   judged-cases s m P here there = grind (arith, nat_tests) steps 500000
 
   module _ (epoch k : ℕ) (ps : List (List ℕ)) where
-    -- a judged message is not executable
-    entry-done : (s : N.State) (es : List ClientEntry) (ended : List (Span N)) (sent : List Message) (told : List Told) → EarlyAt N epoch k ps s es ended sent told → (e : ClientEntry) → InEntries e es → IsBelow (N.last s) e.message.at → ⊥
-    entry-done s es ended sent told h e q below = grind arith steps 500000
-
     sent-done : (s : N.State) (es : List ClientEntry) (ended : List (Span N)) (sent : List Message) (told : List Told) → EarlyAt N epoch k ps s es ended sent told → (some : List Message) → AllDone k es some → (m : Message) → InSent m some → m.campaign ≡ k → IsBelow (N.last s) m.at → ⊥
-    sent-done s es ended sent told h some all m q c below = grind (arith, in-done, entry-done) steps 500000
+    sent-done s es ended sent told h some all m q c below = grind (arith, in-done) steps 500000
 
     -- an executable message of the campaign is the one that waits
     pub is-next : (s : N.State) (es : List ClientEntry) (ended : List (Span N)) (sent : List Message) (told : List Told) → EarlyAt N epoch k ps s es ended sent told → (m : Message) → InSent m sent → m.campaign ≡ k → IsBelow (N.last s) m.at → (m.decided ≡ false) × (call_at k (stage_after ps es) ≡ Some m.call) × AllTold told es × AllDone k (record { message = m; reply = (N.judge s m.call).1 } ∷ es) sent

@@ -161,10 +161,6 @@ module _ (N : NodeRules) (laws : NodeLaws N) (f : Fold) (n : ℕ) where
   pub is-cleaning : (x : Status) → is_status x CleaningUp ≡ true → x ≡ CleaningUp
   is-cleaning x e = grind arith steps 1500000
 
-  -- a span under a unit
-  still-open : (y : Spans N) (b : Bool) (z : List (Span N)) → (if (y.is_open && b) then record { is_open = false; ended = z } else y).is_open ≡ true → (y.is_open ≡ true) × (b ≡ false)
-  still-open y b z e = grind arith steps 500000
-
   pub span-ended : (y : Spans N) (b : Bool) (z : List (Span N)) → ((if (y.is_open && b) then record { is_open = false; ended = z } else y).ended ≡ y.ended) ⊎ ((y.is_open ≡ true) × (b ≡ true) × ((if (y.is_open && b) then record { is_open = false; ended = z } else y).ended ≡ z))
   span-ended y b z = grind arith steps 500000
 
@@ -180,7 +176,7 @@ module _ (N : NodeRules) (laws : NodeLaws N) (f : Fold) (n : ℕ) where
             kept_holds = kept-unit N laws (state_of N x) passed kept.kept_holds;
             ends_old = λ c current d. ends_old-unit N laws (state_of N x) passed (kept.ends_old c current d);
             session = λ tag e. kept.session tag (unit-back (state_of N x) passed tag e);
-            open_span = λ k e. grind (arith, still-open, spans, state_of, unit-mine) steps 1000000;
+            open_span = λ k e. grind (arith, spans, state_of, unit-mine) steps 1000000;
             ended = λ k.
                 elim (span-ended (spans N k x.moves) (is_status (N.status (state_of N x)) CleaningUp) (record { outcome = N.outcome (state_of N x); before = state_of N x; left = N.unit (state_of N x) passed } ∷ (spans N k x.moves).ended)) [
                   | inl e ↦ inl e
@@ -359,10 +355,6 @@ module _ (N : NodeRules) (laws : NodeLaws N) where
   or-right true b e = refl
   or-right false b e = e
 
-  or-left : (a b : Bool) → a ≡ true → (a || b) ≡ true
-  or-left true b e = refl
-  or-left false b e = absurd (cc e)
-
   stays-open : (y : Spans N) (b : Bool) (z : List (Span N)) → y.is_open ≡ true → (b ≡ true → ⊥) → (if (y.is_open && b) then record { is_open = false; ended = z } else y).is_open ≡ true
   stays-open y b z open_ shut = grind arith steps 500000
 
@@ -372,7 +364,7 @@ module _ (N : NodeRules) (laws : NodeLaws N) where
     where
       go : (o : Option ℕ) → N.mine (after N ms) ≡ o → (N.mine (after N ms) ≡ Some k → (spans N k ms).is_open ≡ true) → ((spans N k ms).is_open || begins_span N k (after N ms) m) ≡ true
       go None q rec = or-right (spans N k ms).is_open (begins_span N k (after N ms) m) (none-begins (after N ms) m.at m.call k q e)
-      go (Some t) q rec = grind (arith, some-delivered, after, or-left, spans, begins_span) steps 1500000
+      go (Some t) q rec = grind (arith, some-delivered, after, spans, begins_span) steps 1500000
   open-mine (Foreign call ∷ ms) k e =
       grind (arith, spans, laws.foreign_none, laws.foreign_session, open-mine ms k) steps 500000
   open-mine (Unit_done passed ∷ ms) k e =

@@ -4,7 +4,7 @@ use Rattle.world.proofs.Names.{subst, Refusal, CallNo, Old, Status, Ready, Proce
 use Rattle.world.proofs.Names.{RollingBack, RolledBack, CleaningUp, Call, Shown, Sync, TransferStart, TransferData}
 use Rattle.world.proofs.Names.{TransferExit, DeleteTransfer, ProcessSwPackage, Activate, Finish, Rollback, Revert}
 use Rattle.world.proofs.Names.{Cancel, Done, Synced, Refused, no_lt, no_eq, is_working, is_masters, session_status}
-use Rattle.world.proofs.Rules.{shown_of, shown_session, NodeRules, NodeLaws, KeepsSession, delivered}
+use Rattle.world.proofs.Rules.{shown_session, NodeRules, NodeLaws, KeepsSession, delivered}
 use Rattle.world.proofs.Invariant.{IsRolledBack, EndsOld, KeptHolds}
 
 module _ (N : NodeRules) (laws : NodeLaws N) where
@@ -191,12 +191,6 @@ module _ (N : NodeRules) (laws : NodeLaws N) where
   pub sync-shown : (s : N.State) (call : Call) (x : Shown) → call ≡ Sync → (N.judge s call).1 ≡ Synced x → (x.session ≡ shown_session N s) × ((N.judge s call).0 ≡ s)
   sync-shown s call x e r = grind arith steps 500000
 
-  pub shown-none : (owner : ℕ) (status : Status) (mine : Option ℕ) → is_masters (shown_of owner status mine) ≡ false → mine ≡ None
-  shown-none owner status x f = grind arith steps 1500000
-
-  pub shown-status : (owner tag : ℕ) (status : Status) (mine : Option ℕ) → mine ≡ Some tag → session_status (shown_of owner status mine) ≡ status
-  shown-status owner tag status x e = grind arith steps 1500000
-
   -- what a kept Sync says: of a call just judged, after a foreign call and after a unit
   pub kept-fresh : (s : N.State) (at : CallNo) (call : Call) → KeptHolds N (N.keep (N.judge s call).0 at call (N.judge s call).1)
   kept-fresh s at call = record { none = none_of; rolled = rolled_of }
@@ -207,10 +201,10 @@ module _ (N : NodeRules) (laws : NodeLaws N) where
           sync-shown s call x (laws.synced_only s call x r) r
 
       none_of : (x : Shown) → N.kept (N.keep (N.judge s call).0 at call (N.judge s call).1) ≡ Synced x → is_masters x.session ≡ false → N.mine (N.keep (N.judge s call).0 at call (N.judge s call).1) ≡ None
-      none_of x k f = grind (arith, said, shown-none, is_masters, laws.keep_session) steps 1500000
+      none_of x k f = grind (arith, said, is_masters, laws.keep_session) steps 1500000
 
       rolled_of : (x : Shown) → N.kept (N.keep (N.judge s call).0 at call (N.judge s call).1) ≡ Synced x → session_status x.session ≡ RolledBack → IsRolledBack N (N.keep (N.judge s call).0 at call (N.judge s call).1)
-      rolled_of x k f tag mine = grind (arith, said, laws.keep_session, shown-status, session_status) steps 1500000
+      rolled_of x k f tag mine = grind (arith, said, laws.keep_session, session_status) steps 1500000
 
   pub kept-foreign : (s : N.State) (call : N.ForeignCall) → KeptHolds N s → KeptHolds N (N.foreign s call)
   kept-foreign s call h =

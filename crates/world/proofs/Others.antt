@@ -2,17 +2,17 @@
 use Rattle.world.proofs.Names.{nat_tests, eqb_tells, ◌≡◌, inl, inr, ℕ, suc, List, Option, Some, None, false, refl}
 use Rattle.world.proofs.Names.{◌∙◌, ap, arith, ◌==◌, option_and_then, slice_set, option_map_or, eqb-true}
 use Rattle.world.proofs.Names.{get_or-set_other, Bytes, Call, Cluster, Kept, NodeState, Session, of_client, Verdict}
-use Rattle.world.proofs.Names.{judge, reply_to, after_call, accepted, Reading, verdict_for, Done as NodeDone, ◌+◌}
-use Rattle.world.proofs.Names.{◌<◌, [], ◌∷◌, ◌++◌, length, Bool, true, sym, subst, cond, ◌||◌, not, is_none, find}
-use Rattle.world.proofs.Names.{nat_lt, map, filter, if◌then◌else◌, AllByRecursion, ltb-true, append-nil}
-use Rattle.world.proofs.Names.{filter-append, find-append, Refusal, InvalidTransferId, OperationNotPermitted, Phase}
-use Rattle.world.proofs.Names.{Transferred, BeingProcessed, Processed, UnitAfter, Status, Processing, Activating}
-use Rattle.world.proofs.Names.{Verifying, RollingBack, CleaningUp, Transfer, some_passes, is_in, all_units, led_by}
-use Rattle.world.proofs.Names.{begin_processing, stop_processing, is_of, transfer_of, header_of, parts_read, grown}
-use Rattle.world.proofs.Names.{in_phase, started, with_block, exited, deleted, first_refusal, after_reply, refusal}
-use Rattle.world.proofs.Names.{refused_or, with_entry, unit_of, process_unit, processed, parts_of_id, activate_unit}
-use Rattle.world.proofs.Names.{verify_unit, roll_back_unit, clean_up_unit, end_mark, IsConsistent, ChangesAreDue}
-use Rattle.world.proofs.Names.{IsPlannedWhole, id_in_processing, numbers_rise}
+use Rattle.world.proofs.Names.{judge, reply_to, after_call, accepted, Reading, verdict_for, Done as NodeDone, ◌+◌, []}
+use Rattle.world.proofs.Names.{◌∷◌, ◌++◌, length, Bool, true, sym, subst, ◌||◌, not, is_none, find, nat_lt, map}
+use Rattle.world.proofs.Names.{filter, if◌then◌else◌, AllByRecursion, append-nil, filter-append, find-append, Refusal}
+use Rattle.world.proofs.Names.{InvalidTransferId, OperationNotPermitted, Phase, Transferred, BeingProcessed}
+use Rattle.world.proofs.Names.{Processed, UnitAfter, Status, Processing, Activating, Verifying, RollingBack}
+use Rattle.world.proofs.Names.{CleaningUp, Transfer, some_passes, is_in, all_units, led_by, begin_processing}
+use Rattle.world.proofs.Names.{stop_processing, is_of, transfer_of, header_of, parts_read, grown, in_phase, started}
+use Rattle.world.proofs.Names.{with_block, exited, deleted, first_refusal, after_reply, refusal, refused_or}
+use Rattle.world.proofs.Names.{with_entry, unit_of, process_unit, processed, parts_of_id, activate_unit, verify_unit}
+use Rattle.world.proofs.Names.{roll_back_unit, clean_up_unit, end_mark, IsConsistent, ChangesAreDue, IsPlannedWhole}
+use Rattle.world.proofs.Names.{id_in_processing, numbers_rise}
 use Rattle.world.proofs.Rules.{KeepsSession, KeepsTransfers}
 use Rattle.world.proofs.Instance.{ForeignCall, zero_no, last_in, kept_in, tag_if, mine_in, ended_in, foreign_in, real}
 use Rattle.world.proofs.Instance.{unit_in}
@@ -20,8 +20,7 @@ use Rattle.world.proofs.Basics.{judged-by, keeps-of, not-refused}
 use Rattle.world.proofs.Sessions.{mine-some}
 use Rattle.world.proofs.TransferLaws.{unit-cases, keeps-all, keeps-changed, data-rest}
 use Rattle.std.proofs.lemmas.Bool.{eq-eqb}
-use Rattle.node_laws.proofs.Lists.{KeepsNames, found-is, only}
-use Rattle.node_laws.proofs.Lists.{each-imp, each-both}
+use Rattle.node_laws.proofs.Lists.{KeepsNames, found-is, only, each-imp, each-both}
 use Rattle.pm_types.specs.declared.calls.Call.TheVariants as call
 use Rattle.pm_types.specs.declared.replies.Reply.TheVariants as reply
 
@@ -197,9 +196,6 @@ module _ (read : Reading) (clusters : List (Cluster Bytes)) where
   then-led : (s t : NodeState) (c : Call) → KeepsTransfers (real read clusters) s t → KeepsTransfers (real read clusters) s (led_by c t)
   then-led s t c k = grind arith steps 500000
 
-  eqb-suc : (a : ℕ) → (suc a == 0) ≡ false
-  eqb-suc a = elim (eqb_tells (suc a) 0) [ inl h ↦ absurd (let z : suc a ≡ 0 = h.1 in omega (arith, z)) | inr h ↦ h.0 ]
-
   -- a found transfer of another client is none of client 0's
   others : (s : NodeState) (a id : ℕ) → IsConsistent s → is_none (header_of (transfer_of s (suc a) id)) ≡ false → AllByRecursion (λ (y : Transfer). (y.header.id == id) ≡ true → (y.header.client == suc a) ≡ true) s.transfers
   others s a id v f = grind (arith, unique) steps 500000
@@ -240,7 +236,7 @@ module _ (read : Reading) (clusters : List (Cluster Bytes)) where
           each t h own = grind (arith, not, not-own) steps 1500000
 
   start-others : (s : NodeState) (a size : ℕ) → KeepsTransfers (real read clusters) s (started s (suc a) size)
-  start-others s a size = grind (arith, filter-append, eqb-suc, append-nil, find-append) steps 500000
+  start-others s a size = grind (arith, filter-append, append-nil, find-append) steps 500000
 
   judged-others : (s : NodeState) (a : ℕ) (c : Call) (w : Verdict) → IsConsistent s → KeepsTransfers (real read clusters) s (judge s (suc a) c w).0
   judged-others s a call.Sync w v = keeps-all read clusters s s refl

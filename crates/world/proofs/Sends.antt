@@ -1,7 +1,7 @@
 -- What a send keeps of the invariant.
 use Rattle.world.proofs.Names.{◌≡◌, ◌≢◌, inl, inr, if◌then◌else◌, ◌||◌, ◌+◌, ℕ, ◌≤◌, List, [], ◌∷◌, Option, Some}
 use Rattle.world.proofs.Names.{None, Bool, true, false, is_some, nat_eq, refl, sym, ◌∙◌, ap, subst, arith, eqb-true}
-use Rattle.world.proofs.Names.{eqb_tells, Status, RolledBack, Cause, Decision, Abort, Fold, Current, end_of, Call}
+use Rattle.world.proofs.Names.{eqb_tells, RolledBack, Cause, Decision, Abort, Fold, Current, end_of, Call}
 use Rattle.world.proofs.Names.{ProcessSwPackage, Finish, IsBelow, Message, InSent, is_sync, Packages, last_status}
 use Rattle.world.proofs.Names.{last_shown, end_call_at, delete_at, next_number, MaySend, MaySendBy, MaySendLate}
 use Rattle.world.proofs.Rules.{NodeRules, NodeLaws, NodeWorld, state_of}
@@ -31,10 +31,6 @@ next-epoch epoch x = grind arith steps 1500000
 
 none-of : (o : Option Decision) → is_some o ≡ false → o ≡ None
 none-of x e = grind arith steps 1500000
-
--- what may be sent after the decision
-late-process : (d : Decision) (o : Option Status) (shown : Option _) (id tag : ℕ) → (is_sync (ProcessSwPackage id tag) || (end_call_at d o (ProcessSwPackage id tag) || delete_at shown (ProcessSwPackage id tag))) ≡ true → ⊥
-late-process x y shown id tag e = grind arith steps 1500000
 
 or-false : (b : Bool) → (b || false) ≡ true → b ≡ true
 or-false true e = refl
@@ -101,7 +97,7 @@ module _ (N : NodeRules) (laws : NodeLaws N) (packages : Packages) (f : Fold) (n
 
       new_tag : (m : Message) → m ≡ record { at = next_number f.epoch x.sent; call = call; campaign = c.campaign; decided = is_some c.decision } → (id tag : ℕ) → m.call ≡ ProcessSwPackage id tag → (tag ≡ m.campaign) × (m.decided ≡ false)
       new_tag m e id tag q =
-          grind (arith, round, is_some, late-process, last_status, last_shown, is_sync, end_call_at, delete_at, late) steps 1500000
+          grind (arith, round, is_some, last_status, last_shown, is_sync, end_call_at, delete_at, late) steps 1500000
 
       new_early : (m : Message) → m ≡ record { at = next_number f.epoch x.sent; call = call; campaign = c.campaign; decided = is_some c.decision } → m.decided ≡ false → m.call ≢ Finish
       new_early m e d q = (round (undecided_of m e d)).0 (sym (ap (λ y. y.call) e) ∙ q)

@@ -11,9 +11,7 @@ use Rattle.world.proofs.Appended.{fold-append, entered-earlier}
 use Rattle.world.proofs.Instance.{ForeignCall, Opens, Calls, Outside, saved_in, outside_in}
 use Rattle.world.proofs.FitLaws.{KeepsNode, fit, fit-laws}
 use Rattle.world.proofs.Simulation.{SameNode, SameWorld, same-deliver, same-foreign, same-work, told_span, told_spans}
-use Rattle.node_laws.proofs.Kept.{keeps-fit}
-use Rattle.node_laws.proofs.Kept.{kept-fit, entry-fit}
-use Rattle.node_laws.proofs.Kept.{opened-fit}
+use Rattle.node_laws.proofs.Kept.{keeps-fit, kept-fit, entry-fit, opened-fit}
 use Rattle.world.proofs.Rules.{InEarlier}
 use Rattle.world.proofs.Early.{world-law}
 use Rattle.world.proofs.Rules as rules

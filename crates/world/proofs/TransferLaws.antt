@@ -5,14 +5,14 @@ use Rattle.world.proofs.Names.{Bytes, Outcome, New, Old, UnitAfter, Change, Stat
 use Rattle.world.proofs.Names.{Verifying, Activated, RollingBack, RolledBack, CleaningUp, NodeState, Session}
 use Rattle.world.proofs.Names.{is_working, cluster_of, with_entry, unit_of, IsConsistent, should_run}
 use Rattle.world.proofs.Names.{id_in_processing, ◌≢◌, zero, suc, ◌+◌, ◌<◌, ◌++◌, length, get_or, true, ◌==◌, ◌||◌}
-use Rattle.world.proofs.Names.{◌&&◌, not, find, nat_lt, filter, if◌then◌else◌, AllByRecursion, Contains}
-use Rattle.world.proofs.Names.{option_map_or, eq-eqb, map-append, filter-append, find-append, block_limit, Call}
-use Rattle.world.proofs.Names.{Refusal, OperationNotPermitted, IncorrectBlock, IncorrectSize, Header, Phase}
-use Rattle.world.proofs.Names.{Transferring, Transferred, BeingProcessed, Processed, Part, Cluster, Ready, Transfer}
-use Rattle.world.proofs.Names.{some_passes, is_in, changes_of, all_units, led_by, begin_processing, is_of, ids_of}
-use Rattle.world.proofs.Names.{parts_read, grown, in_phase, exited, process_unit, processed, parts_of_id}
-use Rattle.world.proofs.Names.{activate_unit, verify_unit, roll_back_unit, Reading, verdict_for, IsSound, IsFit}
-use Rattle.world.proofs.Names.{TransferStart, TransferData, TransferExit, ProcessSwPackage, Done, Started}
+use Rattle.world.proofs.Names.{not, find, nat_lt, filter, if◌then◌else◌, AllByRecursion, Contains, eq-eqb, map-append}
+use Rattle.world.proofs.Names.{filter-append, find-append, block_limit, Call, Refusal, OperationNotPermitted}
+use Rattle.world.proofs.Names.{IncorrectBlock, IncorrectSize, Header, Phase, Transferring, Transferred}
+use Rattle.world.proofs.Names.{BeingProcessed, Processed, Part, Cluster, Ready, Transfer, some_passes, is_in}
+use Rattle.world.proofs.Names.{changes_of, all_units, led_by, begin_processing, is_of, ids_of, parts_read, grown}
+use Rattle.world.proofs.Names.{in_phase, exited, process_unit, processed, parts_of_id, activate_unit, verify_unit}
+use Rattle.world.proofs.Names.{roll_back_unit, Reading, verdict_for, IsSound, IsFit, TransferStart, TransferData}
+use Rattle.world.proofs.Names.{TransferExit, ProcessSwPackage, Done, Started}
 use Rattle.world.proofs.WordLaws.{run_parts, planned-run, runs-new}
 use Rattle.world.proofs.Instance.{last_in, kept_in, mine_in, planned_in, outcome_in, ended_in, unit_in, BringsIn}
 use Rattle.world.proofs.Instance.{LeavesIn, tag_if, received_in, judged_in, real}
@@ -100,20 +100,12 @@ data-rest found counter size =
     ∷ (some_passes (λ h. nat_lt h.size (h.received + size)) found, IncorrectSize)
     ∷ []
 
--- the bytes of a changed transfer
-bytes-changed : (id : ℕ) (f : Transfer → Transfer) → ((t : Transfer) → (f t).bytes ≡ t.bytes) → (o : Option Transfer) → option_map_or (λ (t : Transfer). t.bytes) (option_map (changed id f) o) [] ≡ option_map_or (λ (t : Transfer). t.bytes) o []
-bytes-changed id f k x = grind arith steps 1500000
-
--- where no transfer of the id is changed
-bytes-other : (id j : ℕ) (f : Transfer → Transfer) (c : ℕ) (ts : List Transfer) → j ≢ id → (o : Option Transfer) → find (λ (t : Transfer). is_of c j t.header) ts ≡ o → option_map_or (λ (t : Transfer). t.bytes) (option_map (changed id f) o) [] ≡ option_map_or (λ (t : Transfer). t.bytes) o []
-bytes-other id j f c ts n x e = grind (arith, found-is) steps 1500000
-
 module _ (read : Reading) (clusters : List (Cluster Bytes)) where
   pub keeps-all : (s t : NodeState) → t.transfers ≡ s.transfers → KeepsTransfers (real read clusters) s t
   keeps-all s t e = grind arith steps 500000
 
   pub keeps-changed : (s t : NodeState) (id : ℕ) (f : Transfer → Transfer) → KeepsNames f → ((y : Transfer) → (f y).bytes ≡ y.bytes) → t.transfers ≡ map (changed id f) s.transfers → KeepsTransfers (real read clusters) s t
-  keeps-changed s t id f k b e = grind (arith, ids-changed, found-changed, bytes-changed) steps 500000
+  keeps-changed s t id f k b e = grind (arith, ids-changed, found-changed) steps 500000
 
   phase-names : (phase : Phase) → KeepsNames (λ t. record t { header = in_phase phase t.header })
   phase-names phase = record { id = λ t. refl; client = λ t. refl }
@@ -141,7 +133,7 @@ module _ (read : Reading) (clusters : List (Cluster Bytes)) where
 
   pub data_received : (s : NodeState) (id counter : ℕ) (bytes : List ℕ) → (judged_in read s (TransferData id counter bytes)).1 ≡ Done → (received_in (judged_in read s (TransferData id counter bytes)).0 id ≡ received_in s id ++ bytes) × ((other : ℕ) → other ≢ id → received_in (judged_in read s (TransferData id counter bytes)).0 other ≡ received_in s other)
   data_received s id counter bytes d =
-      grind (arith, not-refused, done-none, found-changed, block-names, received_in, bytes-other, found-is)
+      grind (arith, not-refused, done-none, found-changed, block-names, received_in, found-is)
 
   ids-below : (next : ℕ) (ts : List Transfer) → AllByRecursion (IsSound next) ts → AllByRecursion (λ (n : ℕ). n < next) (map (λ (t : Transfer). t.header.id) (filter (λ (t : Transfer). t.header.client == 0) ts))
   ids-below next [] a = tt
