@@ -55,7 +55,7 @@ lines-kept entries ls h v =
 
 -- other numbers and replies that are kept, and other entries and lines
 noted-fit : (read : Reading) (s : NodeState) (last : List (Option Kept)) (entries : ℕ) (lines : List Line) → IsFit read s → length last ≡ length s.last → InPlace entries lines → IsFit read (record s { last = last; entries = entries; lines = lines })
-noted-fit read s last entries lines fit same place = grind arith steps 500000
+noted-fit read s last entries lines fit same place = grind arith
 
 -- the lines of a fit state are in their places
 in-place : (read : Reading) (s : NodeState) → IsFit read s → InPlace s.entries s.lines
@@ -88,7 +88,7 @@ opened-fit read s clusters installed fit =
 -- What a node does leaves its state fit.
 -- a formatted node with clusters in order, of at most 16 names
 formatted-fit : (read : Reading) (clusters : List (Cluster Bytes)) → IsInstalled clusters → IsFit read (formatted clusters)
-formatted-fit read clusters installed = grind arith steps 500000
+formatted-fit read clusters installed = grind arith
 
 module _ (read : Reading) (reading : IsReading read) where
   -- a call that isn't refused

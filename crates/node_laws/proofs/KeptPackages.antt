@@ -117,7 +117,7 @@ begun-fit read s x id u fit v e phase accepted = record {
 
 -- a session in Ready waits for a package
 ready-waits : (s : NodeState) (x : Session) → Busy (record s { status = Ready }) x → Waits s x
-ready-waits s x v = grind (arith, none, few, applies, each-first) steps 2000000
+ready-waits s x v = grind (arith, none, few, applies, each-first)
   where
     none : (o : Option ℕ) → is_some o ≡ false → o ≡ None
     none None e = refl
@@ -133,7 +133,7 @@ ready-waits s x v = grind (arith, none, few, applies, each-first) steps 2000000
 
 -- and so does a new session
 idle-waits : (s : NodeState) (client tag : ℕ) → client < client_limit → (tag == 0) ≡ not (client == 0) → Base s → Free s → Waits s (new_session s client tag)
-idle-waits s client tag low own b f = grind (arith, each-imp) steps 500000
+idle-waits s client tag low own b f = grind (arith, each-imp)
 
 own-tag : (a b : Bool) → (if a then b else not b) ≡ false → b ≡ not a
 own-tag true b e = e
@@ -142,7 +142,7 @@ own-tag false false e = absurd (cc)
 
 -- the table takes a package in Idle and in Ready
 process-status : (a : Status) (id tag : ℕ) → is_none (status_table a (ProcessSwPackage id tag)) ≡ false → ((a ≡ Idle) ⊎ (a ≡ Ready)) × (status_table a (ProcessSwPackage id tag) ≡ Some (To Processing))
-process-status x id tag e = grind arith steps 1500000
+process-status x id tag e = grind arith
 
 -- a package is taken into processing
 pub process-fit : (read : Reading) (s : NodeState) (client id tag : ℕ) → client < client_limit → IsFit read s
@@ -234,10 +234,10 @@ stopped read s x id u to o fit v e due runs plans working leaves outcome = recor
     other-id t n = grind arith
 
 passes-some : (o : Option ℕ) (n : ℕ) → some_passes (λ i. i == n) o ≡ true → o ≡ Some n
-passes-some x n e = grind arith steps 1500000
+passes-some x n e = grind arith
 
 cancel-status : (a : Status) (id : ℕ) → is_none (status_table a (Cancel id)) ≡ false → (a ≡ Processing) × (status_table a (Cancel id) ≡ Some Resume)
-cancel-status x id e = grind arith steps 1500000
+cancel-status x id e = grind arith
 
 -- a package is not processed after all
 pub cancel-fit : (read : Reading) (s : NodeState) (client id : ℕ) → IsFit read s

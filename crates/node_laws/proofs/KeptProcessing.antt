@@ -29,10 +29,10 @@ pub data IsLate : Phase → Type 0 where
 
 -- in each of them the same is said of a transfer
 pub whole-in : (t : Transfer) (p q : Phase) → IsLate p → IsLate q → IsWholeFromTransferred t p → IsWholeFromTransferred t q
-whole-in t p q a b h = grind arith steps 500000
+whole-in t p q a b h = grind arith
 
 read-in : (read : Reading) (t : Transfer) (p q : Phase) → IsLate p → IsLate q → IsRead read t p → IsRead read t q
-read-in read t p q a b h = grind arith steps 500000
+read-in read t p q a b h = grind arith
 
 -- the transfers with one of them in another late phase
 module _ (s : NodeState) (client id : ℕ) (u : Transfer) (p : Phase) (q : Phase) (e : found client id s.transfers ≡ Some u) (phase : u.header.phase ≡ p) (a : IsLate p) (b : IsLate q) where
@@ -66,7 +66,7 @@ some-units (part ∷ parts) h =
 -- a unit that isn't the last
 pub more-fit : (read : Reading) (s : NodeState) (x : Session) (id : ℕ) → IsFit read s → Busy (record s { status = Processing }) (record x { processing = Some id }) → nat_lt (x.units_done + 1) (all_units (parts_of_id s x id)) ≡ true
     → IsFit read (record s { status = Processing; session = Some (record x { processing = Some id; units_done = x.units_done + 1 }) })
-more-fit read s x id fit v more = grind arith steps 500000
+more-fit read s x id fit v more = grind arith
 
 filter-none : {X : Type 0} (p : X → Bool) (xs : List X) → AllByRecursion (λ x. p x ≡ false) xs → filter p xs ≡ []
 filter-none p [] h = refl
@@ -92,16 +92,16 @@ names-of-parts (c ∷ cs) = ap (λ ns. cluster_of c.part ∷ ns) (names-of-parts
 -- a processed transfer isn't the one in processing
 not-planned : (id n : ℕ) (ts : List Transfer) → InProcessing (Some id) ts → is_processed ts n ≡ true → (n == id) ≡ false
 not-planned id n [] h k = absurd (cc)
-not-planned id n (t ∷ ts) h k = grind (arith, eqb-true, not-planned id n ts h.1) steps 500000
+not-planned id n (t ∷ ts) h k = grind (arith, eqb-true, not-planned id n ts h.1)
 
 -- a test that holds stays so where it does at each transfer
 any-still : (p : Transfer → Bool) (g : Transfer → Transfer) (ts : List Transfer) → AllByRecursion (λ t. p t ≡ true → p (g t) ≡ true) ts → list_any p ts ≡ true → list_any p (map g ts) ≡ true
 any-still p g [] h k = k
-any-still p g (t ∷ ts) h k = grind (arith, any-still p g ts h.1) steps 500000
+any-still p g (t ∷ ts) h k = grind (arith, any-still p g ts h.1)
 
 any-found : (p q : Transfer → Bool) (g : Transfer → Transfer) (ts : List Transfer) (u : Transfer) → find q ts ≡ Some u → p (g u) ≡ true → list_any p (map g ts) ≡ true
 any-found p q g [] u e h = absurd (cc)
-any-found p q g (t ∷ ts) u e h = grind (arith, any-found p q g ts u) steps 500000
+any-found p q g (t ∷ ts) u e h = grind (arith, any-found p q g ts u)
 
 -- the session after the last unit of a package
 abbrev later : Session → ℕ → List (Part Bytes) → Session
@@ -153,7 +153,7 @@ last-fit read s x id u fit v e = record {
     other-id t n = grind arith
 
     same : map (λ change. change.part) x.changes ++ parts_of (found x.owner id s.transfers) ≡ map (λ change. change.part) (x.changes ++ changes_of id u.parts) ++ []
-    same = grind (arith, parts_of, parts-of-changes, map-append, changes_of, append-nil) steps 500000
+    same = grind (arith, parts_of, parts-of-changes, map-append, changes_of, append-nil)
 
     still : (t : Transfer) (p : Phase) → (t.header.id == id) ≡ false → IsPlannedWhole x t p → IsPlannedWhole (later x id u.parts) t p
     still t Processed n h =

@@ -6,7 +6,7 @@ use Rattle.node_laws.proofs.Names.{Status, Ready, Processing, Activating, Verify
 use Rattle.node_laws.proofs.Names.{RolledBack, CleaningUp, NodeState, Session, has_status, first_refusal, Goal, To}
 use Rattle.node_laws.proofs.Names.{CleanUp, status_table, session_refusals, arrive, led_by, names_among, Reading}
 use Rattle.node_laws.proofs.Names.{SessionIsDue, should_run, LeavesOneToVerify, may_plan_nothing, parts_in, IsFit, ap}
-use Rattle.node_laws.proofs.Names.{◌∙◌, ◌+◌, ◌∷◌, not, filter, map, slice_set, length-set, ltb-true, map-append}
+use Rattle.node_laws.proofs.Names.{◌∙◌, ◌∷◌, not, filter, map, slice_set, length-set, ltb-true, map-append}
 use Rattle.node_laws.proofs.Names.{Change, Part, BeingProcessed, Processed, Idle, Transfer, is_in, cluster_of}
 use Rattle.node_laws.proofs.Names.{parts_of_id, activate_unit, verify_unit, roll_back_unit, clean_up_unit, end_mark}
 use Rattle.node_laws.proofs.NameLists.{names_of, Within, within-self, within-left, within-right, within-trans}
@@ -30,7 +30,7 @@ moved s x a b running done verified o v due runs plans working unfinished leaves
 
 pub moved-fit : (read : Reading) (s : NodeState) (x : Session) (b : Status) (running : List (Cluster Bytes)) → IsFit read s → names_rise (names_of running) ≡ true → Busy (record s { status = b; running = running }) x
     → IsFit read (record s { status = b; running = running; session = Some x })
-moved-fit read s x b running fit rise v = grind arith steps 500000
+moved-fit read s x b running fit rise v = grind arith
 
 pub or-true : (b : Bool) → (b || true) ≡ true
 or-true true = refl
@@ -173,13 +173,13 @@ activate-fit read s x fit v = grind (arith, or-false, planned-rise, names-of-run
 
 -- one change more is verified, or the node turns back
 pub verify-fit : (read : Reading) (s : NodeState) (x : Session) (passed : Bool) → IsFit read s → s.session ≡ Some x → Busy (record s { status = Verifying }) x → IsFit read (verify_unit s x passed)
-verify-fit read s x false fit e v = grind arith steps 500000
+verify-fit read s x false fit e v = grind arith
 verify-fit read s x true fit e v = grind (arith, nat_lt, names_rise, names_of, base-of, moved-fit, moved, ltb-true)
 
 -- the saved clusters run again
 pub roll_back-fit : (read : Reading) (s : NodeState) (x : Session) → IsFit read s → s.session ≡ Some x → Busy (record s { status = RollingBack }) x → IsFit read (roll_back_unit s x)
 roll_back-fit read s x fit e v =
-    grind (arith, moved, names-of-running, within-left, names_of, changed_names, within-self) steps 500000
+    grind (arith, moved, names-of-running, within-left, names_of, changed_names, within-self)
 
 -- the session is over
 pub clean_up-fit : (read : Reading) (s : NodeState) (x : Session) → IsFit read s → Busy (record s { status = CleaningUp }) x → IsFit read (clean_up_unit s x)

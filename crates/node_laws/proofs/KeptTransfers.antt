@@ -83,7 +83,7 @@ data-fit read s client id counter bytes fit r =
     (sound u.0 phase size some) (subst (IsRead read (block bytes u.0)) (sym phase) tt)
   where
     sound : (u : Transfer) → u.header.phase ≡ Transferring → u.header.received + length bytes ≤ u.header.size → (length bytes == 0) ≡ false → IsSound s.next_id u → IsSound s.next_id (block bytes u)
-    sound u phase size some k = grind (arith, length-append) steps 500000
+    sound u phase size some k = grind (arith, length-append)
 
 -- the bytes are whole, and a package
 pub exit-fit : (read : Reading) (s : NodeState) (client id : ℕ) (v : Verdict) → IsReading read → IsFit read s → v ≡ read (option_map_or (λ t. t.bytes) (transfer_of s client id) [])
@@ -103,7 +103,7 @@ exit-fit read s client id v reading fit is r =
     accepted bytes (Err refusal) q e = absurd (cc)
 
     sound : (u : Transfer) → u.header.size ≤ u.header.received → (0 < length (parts_read v)) × (all_differ (map cluster_of (parts_read v)) ≡ true) → IsSound s.next_id u → IsSound s.next_id (whole v u)
-    sound u there some k = grind (arith) steps 500000
+    sound u there some k = grind (arith)
 
 pub delete-fit : (read : Reading) (s : NodeState) (client id : ℕ) → IsFit read s → first_refusal (delete_refusals (header_of (transfer_of s client id))) ≡ None → IsFit read (deleted s id)
 delete-fit read s client id fit r =
@@ -126,4 +126,4 @@ delete-fit read s client id fit r =
     }
   where
     unprocessed : (h : Header) → (is_in BeingProcessed h || is_in Processed h) ≡ false → IsEarly h.phase
-    unprocessed h e = grind (arith, phase_code, transferring, transferred) steps 500000
+    unprocessed h e = grind (arith, phase_code, transferring, transferred)

@@ -31,39 +31,39 @@ each-unmap P f (x ∷ xs) h = (h.0, each-unmap P f xs h.1)
 
 pub each-filter : {X : Type 0} (P : X → Type 0) (p : X → Bool) (xs : List X) → AllByRecursion P xs → AllByRecursion P (filter p xs)
 each-filter P p [] h = tt
-each-filter P p (x ∷ xs) h = grind (arith, each-filter P p xs h.1) steps 500000
+each-filter P p (x ∷ xs) h = grind (arith, each-filter P p xs h.1)
 
 -- what passes a filter passes its test
 pub each-passes : {X : Type 0} (p : X → Bool) (xs : List X) → AllByRecursion (λ x. p x ≡ true) (filter p xs)
 each-passes p [] = tt
-each-passes {X} p (x ∷ xs) = grind (arith, each-passes p xs) steps 500000
+each-passes {X} p (x ∷ xs) = grind (arith, each-passes p xs)
 
 pub length-filter : {X : Type 0} (p : X → Bool) (xs : List X) → length (filter p xs) ≤ length xs
 length-filter p [] = omega arith
-length-filter p (x ∷ xs) = grind (arith, length-filter p xs) steps 500000
+length-filter p (x ∷ xs) = grind (arith, length-filter p xs)
 
 -- what a search finds passes its test and has each element's fact
 pub found-has : {X : Type 0} (p : X → Bool) (P : X → Type 0) (xs : List X) (x : X) → AllByRecursion P xs → find p xs ≡ Some x → (p x ≡ true) × P x
 found-has p P [] x h e = absurd (cc)
-found-has {X} p P (y ∷ ys) x h e = grind (arith, found-has p P ys x h.1) steps 500000
+found-has {X} p P (y ∷ ys) x h e = grind (arith, found-has p P ys x h.1)
 
 -- a search goes through a filter that lets all that it looks for pass
 pub find-filter : {X : Type 0} (p q : X → Bool) → ((x : X) → p x ≡ true → q x ≡ true) → (xs : List X) → find p (filter q xs) ≡ find p xs
 find-filter p q f [] = refl
-find-filter {X} p q f (x ∷ xs) = grind (arith, find-filter p q f xs) steps 500000
+find-filter {X} p q f (x ∷ xs) = grind (arith, find-filter p q f xs)
 
 -- and so does the test that some element passes
 pub any-filter : {X : Type 0} (p q : X → Bool) (xs : List X) → AllByRecursion (λ x. p x ≡ true → q x ≡ true) xs → list_any p xs ≡ true → list_any p (filter q xs) ≡ true
 any-filter p q [] f h = h
-any-filter {X} p q (x ∷ xs) f h = grind (arith, any-filter p q xs f.1) steps 500000
+any-filter {X} p q (x ∷ xs) f h = grind (arith, any-filter p q xs f.1)
 
 pub any-more : {X : Type 0} (p : X → Bool) (xs ys : List X) → list_any p xs ≡ true → list_any p (xs ++ ys) ≡ true
 any-more p [] ys h = absurd (cc)
-any-more p (x ∷ xs) ys h = grind (arith, any-more p xs ys) steps 500000
+any-more p (x ∷ xs) ys h = grind (arith, any-more p xs ys)
 
 -- numbers that rise
 pub rise-tail : (a : ℕ) (ns : List ℕ) → numbers_rise (a ∷ ns) ≡ true → numbers_rise ns ≡ true
-rise-tail a x r = grind arith steps 1500000
+rise-tail a x r = grind arith
 
 pub rise-above : (a : ℕ) (ns : List ℕ) → numbers_rise (a ∷ ns) ≡ true → AllByRecursion (λ n. a < n) ns
 rise-above a [] r = tt
@@ -73,7 +73,7 @@ rise-above a (b ∷ ns) r =
     (first, each-imp _ _ (λ n h. omega (arith, first, h)) ns (rise-above b ns parts.1))
 
 rise-onto : (a : ℕ) (ns : List ℕ) → AllByRecursion (λ n. a < n) ns → numbers_rise ns ≡ true → numbers_rise (a ∷ ns) ≡ true
-rise-onto a x h r = grind arith steps 1500000
+rise-onto a x h r = grind arith
 
 pub rise-append : (ns : List ℕ) (n : ℕ) → numbers_rise ns ≡ true → AllByRecursion (λ m. m < n) ns → numbers_rise (ns ++ n ∷ []) ≡ true
 rise-append [] n r b = refl
@@ -98,7 +98,7 @@ rows-clear ((false, r) ∷ rows) e = (refl, rows-clear rows e)
 rows-clear ((true, r) ∷ rows) e = absurd (cc)
 
 pub both-none : {X : Type 0} (o q : Option X) → option_or o q ≡ None → (o ≡ None) × (q ≡ None)
-both-none x q e = grind arith steps 1500000
+both-none x q e = grind arith
 
 pub neither : (a b : Bool) → (a || b) ≡ false → (a ≡ false) × (b ≡ false)
 neither false b e = (refl, e)
@@ -117,19 +117,19 @@ or-false true e = refl
 or-false false e = absurd (cc)
 
 pub some-header : (o : Option Transfer) → is_none (header_of o) ≡ false → (u : Transfer) × (o ≡ Some u)
-some-header x e = grind arith steps 1500000
+some-header x e = grind arith
 
 pub some-transfer : (o : Option Transfer) → is_none o ≡ false → (u : Transfer) × (o ≡ Some u)
-some-transfer x e = grind arith steps 1500000
+some-transfer x e = grind arith
 
 pub is-transferring : (h : Header) → is_in Transferring h ≡ true → h.phase ≡ Transferring
-is-transferring h e = grind arith steps 500000
+is-transferring h e = grind arith
 
 pub is-transferred : (h : Header) → is_in Transferred h ≡ true → h.phase ≡ Transferred
-is-transferred h e = grind arith steps 500000
+is-transferred h e = grind arith
 
 pub is-processing : (h : Header) → is_in BeingProcessed h ≡ true → h.phase ≡ BeingProcessed
-is-processing h e = grind arith steps 500000
+is-processing h e = grind arith
 
 -- One transfer changes, and the others stay.
 abbrev pub ids : List Transfer → List ℕ
@@ -175,7 +175,7 @@ pub each-changed : (R : Transfer → Transfer → Type 0) (client id : ℕ) (f :
 each-changed R client id f ts u r e other own = each-imp _ _ (λ t. go t) ts (only client id ts u r e)
   where
     go : (t : Transfer) → ((t.header.id == id) ≡ true → t ≡ u) → R t (changed id f t)
-    go t h = grind (arith) steps 500000
+    go t h = grind (arith)
 
 -- a fact of each transfer
 pub all-changed : (P Q : Transfer → Type 0) (client id : ℕ) (f : Transfer → Transfer) (ts : List Transfer) (u : Transfer) → numbers_rise (ids ts) ≡ true → found client id ts ≡ Some u
@@ -195,8 +195,8 @@ pub record KeepsNames (f : Transfer → Transfer) : Type 0 where
 
 pub ids-changed : (id : ℕ) (f : Transfer → Transfer) → KeepsNames f → (ts : List Transfer) → ids (map (changed id f) ts) ≡ ids ts
 ids-changed id f k [] = refl
-ids-changed id f k (t ∷ ts) = grind (arith, ids-changed id f k ts) steps 500000
+ids-changed id f k (t ∷ ts) = grind (arith, ids-changed id f k ts)
 
 pub found-changed : (owner n id : ℕ) (f : Transfer → Transfer) → KeepsNames f → (ts : List Transfer) → found owner n (map (changed id f) ts) ≡ option_map (changed id f) (found owner n ts)
 found-changed owner n id f k [] = refl
-found-changed owner n id f k (t ∷ ts) = grind (arith, found-changed owner n id f k ts) steps 500000
+found-changed owner n id f k (t ∷ ts) = grind (arith, found-changed owner n id f k ts)

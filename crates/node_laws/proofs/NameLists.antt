@@ -17,7 +17,7 @@ pub eq-name : (a b : List ℕ) → a ≡ b → bytes_eq a b ≡ true
 eq-name a b e = (bytes_eq-Decides a b).1 e
 
 pub name-swap : (a b : List ℕ) → bytes_eq a b ≡ bytes_eq b a
-name-swap a b = grind (arith, eq-name, name-eq) steps 500000
+name-swap a b = grind (arith, eq-name, name-eq)
 
 -- all names of one list are in another
 abbrev pub Within : List (List ℕ) → List (List ℕ) → Type 0
@@ -42,7 +42,7 @@ within-self (x ∷ xs) = (has-self x xs, within-more xs xs x (within-self xs))
 
 pub has-append : (xs ys : List (List ℕ)) (n : List ℕ) → has_name (xs ++ ys) n ≡ (has_name xs n || has_name ys n)
 has-append [] ys n = refl
-has-append (x ∷ xs) ys n = grind (arith, has-append xs ys n) steps 500000
+has-append (x ∷ xs) ys n = grind (arith, has-append xs ys n)
 
 pub within-left : (zs xs ys : List (List ℕ)) → Within zs xs → Within zs (xs ++ ys)
 within-left zs xs ys h = each-imp _ _ (λ z k. has-append xs ys z ∙ ap (λ b. b || has_name ys z) k) zs h
@@ -76,7 +76,7 @@ still-has n x (y ∷ ys) e = go (bytes_eq n y) refl (still-has n x ys e)
 
 apart-none : (n : List ℕ) (ys : List (List ℕ)) → has_name ys n ≡ false → apart_from n ys ≡ ys
 apart-none n [] e = refl
-apart-none n (y ∷ ys) e = grind (arith, apart-none n ys) steps 500000
+apart-none n (y ∷ ys) e = grind (arith, apart-none n ys)
 
 abbrev CountsOnce : List ℕ → List (List ℕ) → Type 0
 CountsOnce n ys = length (different_names ys) ≡ 1 + length (different_names (apart_from n ys))
@@ -88,7 +88,7 @@ one-less n (y ∷ ys) e = grind (arith, name-eq, apart-none, still-has, name-swa
 
 none-is : (xs : List (List ℕ)) (n : List ℕ) → has_name xs n ≡ false → AllByRecursion (λ x. bytes_eq x n ≡ false) xs
 none-is [] n e = tt
-none-is (x ∷ xs) n e = grind (arith, name-swap, none-is xs n) steps 500000
+none-is (x ∷ xs) n e = grind (arith, name-swap, none-is xs n)
 
 -- names that are all in another list are not more
 pub fewer-within : (xs ys : List (List ℕ)) → Within xs ys → length (different_names xs) ≤ length (different_names ys)
@@ -104,7 +104,7 @@ fewer-within (x ∷ xs) ys h = go (has_name xs x) refl (fewer-within xs ys h.1) 
 
 -- one name more is at most one more
 pub one-more : (xs : List (List ℕ)) (n : List ℕ) → length (different_names (n ∷ xs)) ≤ length (different_names xs) + 1
-one-more xs n = grind arith steps 500000
+one-more xs n = grind arith
 
 -- the order of names
 pub lt-trans : (a b c : List ℕ) → name_lt a b ≡ true → name_lt b c ≡ true → name_lt a c ≡ true
@@ -119,7 +119,7 @@ abbrev pub Behind : List ℕ → List (List ℕ) → Type 0
 Behind a ns = AllByRecursion (λ n. name_lt a n ≡ true) ns
 
 pub names-tail : (a : List ℕ) (ns : List (List ℕ)) → names_rise (a ∷ ns) ≡ true → names_rise ns ≡ true
-names-tail a x r = grind arith steps 1500000
+names-tail a x r = grind arith
 
 pub names-behind : (a : List ℕ) (ns : List (List ℕ)) → names_rise (a ∷ ns) ≡ true → Behind a ns
 names-behind a [] r = tt
@@ -128,13 +128,13 @@ names-behind a (b ∷ ns) r =
     (parts.0, each-imp _ _ (λ n h. lt-trans a b n parts.0 h) ns (names-behind b ns parts.1))
 
 pub names-onto : (a : List ℕ) (ns : List (List ℕ)) → Behind a ns → names_rise ns ≡ true → names_rise (a ∷ ns) ≡ true
-names-onto a x h r = grind arith steps 1500000
+names-onto a x h r = grind arith
 
 -- names before one, that one, and names behind it
 pub names-around : (xs : List (List ℕ)) (n : List ℕ) (ys : List (List ℕ)) → names_rise xs ≡ true → AllByRecursion (λ x. name_lt x n ≡ true) xs → names_rise (n ∷ ys) ≡ true → names_rise (xs ++ n ∷ ys) ≡ true
 names-around [] n ys r h k = k
 names-around (x ∷ xs) n ys r h k =
-    grind (arith, each-append, each-imp, names-tail, names-around xs n ys (names-tail x xs r) h.1 k) steps 500000
+    grind (arith, each-append, each-imp, names-tail, names-around xs n ys (names-tail x xs r) h.1 k)
 
 pub names-filter : {X : Type 0} (f : X → List ℕ) (p : X → Bool) (xs : List X) → names_rise (map f xs) ≡ true → names_rise (map f (filter p xs)) ≡ true
 names-filter f p [] r = refl
@@ -160,7 +160,7 @@ with-rise c cs r =
     (names-onto c.name (names_of behind) (each-map _ _ behind (each-passes _ cs)) (names-filter _ _ cs r))
 
 changed-rise : (part : Part Bytes) (cs : List (Cluster Bytes)) → names_rise (names_of cs) ≡ true → names_rise (names_of (changed_by part cs)) ≡ true
-changed-rise part cs r = grind (arith, names-filter, with-rise) steps 500000
+changed-rise part cs r = grind (arith, names-filter, with-rise)
 
 pub planned-rise : (changes : List (Change Bytes)) (cs : List (Cluster Bytes)) → names_rise (names_of cs) ≡ true → names_rise (names_of (planned changes cs)) ≡ true
 planned-rise [] cs r = r
@@ -261,7 +261,7 @@ differ-kept running changes parts e h k = differ-append _ _ h k (swap changes pa
 -- a running cluster's name
 running-name : (clusters : List (Cluster Bytes)) (name : List ℕ) → has_cluster clusters name ≡ true → has_name (names_of clusters) name ≡ true
 running-name [] name h = absurd (cc)
-running-name (c ∷ cs) name h = grind (arith, name-swap, running-name cs name) steps 500000
+running-name (c ∷ cs) name h = grind (arith, name-swap, running-name cs name)
 
 -- with a part more the names are those before and the part's
 with-part : (running : List (Cluster Bytes)) (changes : List (Change Bytes)) (before : List (Part Bytes)) (part : Part Bytes)
@@ -293,7 +293,7 @@ few-with running changes before part p few = go part.manifest.action p.1 p.2
         omega (arith, same, few)
 
     go : (a : Action) → suits a (has_cluster running (cluster_of part)) ≡ true → (is_install a && nat_le cluster_limit (length (names_among running changes before))) ≡ false → length (different_names more) ≤ cluster_limit
-    go Install h k = grind (arith, leb-false, fewer-within, cluster_of, with-part) steps 500000
+    go Install h k = grind (arith, leb-false, fewer-within, cluster_of, with-part)
     go _ h k = there h
 
 -- the names stay few after an accepted package

@@ -17,13 +17,13 @@ pub data IsEarly : Phase → Type 0 where
   transferred : IsEarly Transferred
 
 pub early-not_processed : (h : Header) → IsEarly h.phase → is_in Processed h ≡ false
-early-not_processed h e = grind arith steps 500000
+early-not_processed h e = grind arith
 
 pub early-not_processing : (h : Header) → IsEarly h.phase → is_in BeingProcessed h ≡ false
-early-not_processing h e = grind arith steps 500000
+early-not_processing h e = grind arith
 
 pub early-whole : (x : Session) (t : Transfer) → IsEarly t.header.phase → IsPlannedWhole x t t.header.phase
-early-whole x t e = grind arith steps 500000
+early-whole x t e = grind arith
 
 -- what such a change keeps
 pub record Quiet (next : ℕ) (ts us : List Transfer) : Type 0 where
@@ -42,7 +42,7 @@ pub record Processes (next owner n : ℕ) (ts : List Transfer) (P : Transfer →
   pub has : P transfer
 
 pub processes : (next owner n : ℕ) (ts : List Transfer) (P : Transfer → Type 0) → Held next ts → InProcessing (Some n) ts → IsSomeAnd (found owner n ts) P → Processes next owner n ts P
-processes next owner n ts P h k some = grind (arith, found-is, found-has) steps 500000
+processes next owner n ts P h k some = grind (arith, found-is, found-has)
 
 module _ (s : NodeState) (next : ℕ) (us : List Transfer) (quiet : Quiet s.next_id s.transfers us) (held : Held next us) where
   abbrev after : NodeState
@@ -58,14 +58,14 @@ module _ (s : NodeState) (next : ℕ) (us : List Transfer) (quiet : Quiet s.next
       quiet.found_still owner n p.transfer p.is p.in_processing ∙ sym p.is
 
   still-unfinished : (owner done : ℕ) (o : Option ℕ) → Held s.next_id s.transfers → InProcessing o s.transfers → IfSome o (IsUnfinished owner done s.transfers) → IfSome o (IsUnfinished owner done us)
-  still-unfinished owner x y h k m = grind (arith, same-found) steps 1500000
+  still-unfinished owner x y h k m = grind (arith, same-found)
 
   below-next : (owner done : ℕ) (o : Option ℕ) → Held s.next_id s.transfers → InProcessing o s.transfers → IfSome o (IsUnfinished owner done s.transfers) → IfSome o (λ n. n < s.next_id)
   below-next owner done None h k m = tt
   below-next owner done (Some n) h k m = (processes s.next_id owner n s.transfers _ h k m).below
 
   same-parts : (x : Session) → Held s.next_id s.transfers → InProcessing x.processing s.transfers → IfSome x.processing (IsUnfinished x.owner x.units_done s.transfers) → parts_in after x ≡ parts_in s x
-  same-parts x h k m = grind (arith, same-found) steps 500000
+  same-parts x h k m = grind (arith, same-found)
 
   busy-quiet : (x : Session) → Base s → Busy s x → Busy after x
   busy-quiet x b v = grind (arith, same-parts, each-imp, below-next, still-unfinished, names_among, cluster_limit)
@@ -77,7 +77,7 @@ module _ (s : NodeState) (next : ℕ) (us : List Transfer) (quiet : Quiet s.next
 -- a transfer more
 pub quiet-started : (next : ℕ) (ts : List Transfer) (t : Transfer) → t.header.id ≡ next → IsEarly t.header.phase → Quiet next ts (ts ++ t ∷ [])
 quiet-started next ts t e early =
-    grind (arith, each-append, early-whole, any-more, early-not_processing, find-append, found) steps 500000
+    grind (arith, each-append, early-whole, any-more, early-not_processing, find-append, found)
 
 -- a transfer's header or bytes, before processing
 pub quiet-changed : (next client id : ℕ) (ts : List Transfer) (u : Transfer) (f : Transfer → Transfer) → Held next ts → KeepsNames f → found client id ts ≡ Some u → IsEarly u.header.phase → IsEarly (f u).header.phase → Quiet next ts (map (changed id f) ts)
@@ -122,4 +122,4 @@ quiet-deleted next client id ts u h e early = record {
             absurd (cc)
 
     passes : (n : ℕ) (t : Transfer) → ((t.header.id == id) ≡ true → t ≡ u) → ((t.header.id == n) && is_in Processed t.header) ≡ true → not (t.header.id == id) ≡ true
-    passes n t k p = grind (arith, not, and_parts, is_in, early-not_processed) steps 500000
+    passes n t k p = grind (arith, not, and_parts, is_in, early-not_processed)

@@ -55,13 +55,13 @@ pub record Free (s : NodeState) : Type 0 where
   pub names : length (names_among {D = Bytes} {E = Bytes} s.running [] []) ≤ cluster_limit
 
 pub base-of : (s : NodeState) → IsConsistent s → Base s
-base-of s v = grind arith steps 500000
+base-of s v = grind arith
 
 pub busy-is : (s : NodeState) (x : Session) → Base s → Busy s x → IsConsistent (record s { session = Some x })
-busy-is s x b v = grind arith steps 500000
+busy-is s x b v = grind arith
 
 pub free-is : (s : NodeState) → Base s → Free s → IsConsistent (record s { session = None })
-free-is s b v = grind arith steps 500000
+free-is s b v = grind arith
 
 pub busy-of : (s : NodeState) (x : Session) → s.session ≡ Some x → IsConsistent s → Busy s x
 busy-of s x e v = record {
@@ -92,4 +92,4 @@ free-of s e v = record {
 
 -- a fact of the state without a session, and of the state with one
 pub by-session : (s : NodeState) (P : Option Session → Type 0) → (s.session ≡ None → P None) → ((x : Session) → s.session ≡ Some x → P (Some x)) → P s.session
-by-session s P none some = grind arith steps 500000
+by-session s P none some = grind arith

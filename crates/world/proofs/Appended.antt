@@ -32,7 +32,7 @@ in-last e (x ∷ xs) = inr (in-last e xs)
 
 -- an earlier campaign stays one
 stays : (f : Fold) (e : MasterEvent) (x : ℕ × CampaignResult) → InEarlier x f.earlier → InEarlier x (after_event f e).earlier
-stays f x y h = grind (arith, in-more) steps 1500000
+stays f x y h = grind (arith, in-more)
 
 all-stay : (f : Fold) (es : List MasterEvent) (x : ℕ × CampaignResult) → InEarlier x f.earlier → InEarlier x (campaign_from f es).earlier
 all-stay f [] x h = h

@@ -12,7 +12,7 @@ use Rattle.world.proofs.EarlyFacts.{Hold, Apart, Has, Sends, Fills, Activates, I
 module _ (N : NodeRules) (laws : NodeLaws N) where
   hold-same : (s t : N.State) → KeepsTransfers N s t → (ids : List ℕ) (ps : List (List ℕ)) → Hold N s ids ps → Hold N t ids ps
   hold-same s t keeps [] [] h = tt
-  hold-same s t keeps (id ∷ ids) (p ∷ ps) h = grind (arith, hold-same s t keeps ids ps h.2) steps 500000
+  hold-same s t keeps (id ∷ ids) (p ∷ ps) h = grind (arith, hold-same s t keeps ids ps h.2)
   hold-same s t keeps _ _ h = absurd h
 
   -- all that these transfers need is that they stay, and that no other than id changes
@@ -34,7 +34,7 @@ module _ (N : NodeRules) (laws : NodeLaws N) where
 
   -- a step that keeps client 0's transfers, and its session or that it has none
   pub at-same : (s t : N.State) → KeepsTransfers N s t → (N.mine s ≡ None → N.mine t ≡ None) → ((tag : ℕ) → N.mine s ≡ Some tag → KeepsSession N s t) → (k : ℕ) (ps : List (List ℕ)) (stage : Stage) → IsAt N s k ps stage → IsAt N t k ps stage
-  at-same s t transfers none session k ps x h = grind (arith, hold-same) steps 1500000
+  at-same s t transfers none session k ps x h = grind (arith, hold-same)
 
   pub at-foreign : (s : N.State) (call : N.ForeignCall) (k : ℕ) (ps : List (List ℕ)) (stage : Stage) → IsAt N s k ps stage → IsAt N (N.foreign s call) k ps stage
   at-foreign s call = at-same s (N.foreign s call) (laws.foreign_transfers s call) (laws.foreign_none s call) (laws.foreign_session s call)
@@ -52,16 +52,13 @@ module _ (N : NodeRules) (laws : NodeLaws N) where
         | inr p ↦
             (let keeps = laws.unit_received s passed k h.mine (λ e. cc (p.0, e)) in
             let u = laws.unit_processing s passed k p.1 h.mine p.0 p.2 in (
-              record {
-                mine = u.0;
-                planned = grind arith steps 1000000;
-              },
+              record { mine = u.0; planned = grind arith },
               keeps,
             ))
       ]
 
   at-none_unit : (s : N.State) (passed : Bool) (k : ℕ) (ps : List (List ℕ)) (stage : Stage) → N.mine s ≡ None → IsAt N s k ps stage → IsAt N (N.unit s passed) k ps stage
-  at-none_unit s passed k ps stage none = grind (arith, at-same) steps 500000
+  at-none_unit s passed k ps stage none = grind (arith, at-same)
 
   pub at-unit : (s : N.State) (passed : Bool) (k : ℕ) (ps : List (List ℕ)) (stage : Stage) → IsAt N s k ps stage → IsAt N (N.unit s passed) k ps stage
   at-unit s passed k ps At_sync h = at-none_unit s passed k ps At_sync h h
@@ -93,13 +90,13 @@ module _ (N : NodeRules) (laws : NodeLaws N) where
   IsLed s call k ps stage = (onward ps stage (N.judge s call).1 ≡ Refused_once) ⊎ IsAt N (N.judge s call).0 k ps (onward ps stage (N.judge s call).1)
 
   led-refused : (s : N.State) (call : Call) (k : ℕ) (ps : List (List ℕ)) (stage : Stage) (why : Refusal) → (N.judge s call).1 ≡ Refused why → IsLed s call k ps stage
-  led-refused s call k ps stage why e = grind arith steps 500000
+  led-refused s call k ps stage why e = grind arith
 
   led-to : (s : N.State) (call : Call) (k : ℕ) (ps : List (List ℕ)) (stage : Stage) (r : Reply) → (N.judge s call).1 ≡ r → IsAt N (N.judge s call).0 k ps (onward ps stage r) → IsLed s call k ps stage
   led-to s call k ps stage r e h = inr (subst (λ y. IsAt N (N.judge s call).0 k ps (onward ps stage y)) (sym e) h)
 
   led-sync : (s : N.State) (k : ℕ) (ps : List (List ℕ)) → IsAt N s k ps At_sync → IsLed s Sync k ps At_sync
-  led-sync s k ps h = grind arith steps 500000
+  led-sync s k ps h = grind arith
 
   led-start : (s : N.State) (k : ℕ) (ps : List (List ℕ)) (ids : List ℕ) (p : List ℕ) (left : List (List ℕ)) → IsAt N s k ps (At_start ids (p ∷ left)) → IsLed s (TransferStart (length p)) k ps (At_start ids (p ∷ left))
   led-start s k ps ids p left h =
@@ -131,10 +128,10 @@ module _ (N : NodeRules) (laws : NodeLaws N) where
     where
       go : (block rest : List ℕ) → block ++ rest ≡ b ∷ bs → rest ≡ drop 4096 (b ∷ bs) → IsLed s (TransferData id counter block) k ps (At_data ids id counter (b ∷ bs) left)
       go block rest e is =
-          grind (arith, led-to, led-refused, laws.data_transfers, laws.data_received, laws.data_session, hold-apart, append_assoc) steps 500000
+          grind (arith, led-to, led-refused, laws.data_transfers, laws.data_received, laws.data_session, hold-apart, append_assoc)
 
   led-exit : (s : N.State) (k : ℕ) (ps : List (List ℕ)) (ids : List ℕ) (id counter : ℕ) (left : List (List ℕ)) → IsAt N s k ps (At_data ids id counter [] left) → IsLed s (TransferExit id) k ps (At_data ids id counter [] left)
-  led-exit s k ps ids id counter left h = grind (arith, go, laws.exit_replies, led-to, led-refused) steps 2000000
+  led-exit s k ps ids id counter left h = grind (arith, go, laws.exit_replies, led-to, led-refused)
     where
       sends : (qs : List (List ℕ)) → left ≡ qs → Sends N (N.judge s (TransferExit id)).0 (ids ++ id ∷ []) qs ps
       sends qs e =
@@ -142,7 +139,7 @@ module _ (N : NodeRules) (laws : NodeLaws N) where
             done = h.done ++ h.whole ∷ [];
             all = append_assoc h.done (h.whole ∷ []) qs ∙ (ap (λ l. h.done ++ h.whole ∷ l) (sym e) ∙ h.all);
             none = (laws.exit_session s id).mine ∙ h.none;
-            hold = grind (arith, hold-same, laws.exit_received, hold-push, append-nil) steps 1000000;
+            hold = grind (arith, hold-same, laws.exit_received, hold-push, append-nil);
           }
 
       go : (qs : List (List ℕ)) → left ≡ qs → IsAt N (N.judge s (TransferExit id)).0 k ps (next_package (ids ++ id ∷ []) qs)
@@ -151,7 +148,7 @@ module _ (N : NodeRules) (laws : NodeLaws N) where
 
   -- a package comes into processing
   led-process : (s : N.State) (k : ℕ) (ps : List (List ℕ)) (id : ℕ) (ids : List ℕ) (taken : ℕ) → IsAt N s k ps (At_process (id ∷ ids) taken) → IsLed s (ProcessSwPackage id k) k ps (At_process (id ∷ ids) taken)
-  led-process s k ps id ids taken h = grind (arith, from, laws.process_replies, led-to, led-refused) steps 2000000
+  led-process s k ps id ids taken h = grind (arith, from, laws.process_replies, led-to, led-refused)
     where
       next : (done left : List (List ℕ)) → done ++ left ≡ ps → Has N (N.judge s (ProcessSwPackage id k)).0 k (flat_map N.changes_of done) → (js : List ℕ) → Hold N (N.judge s (ProcessSwPackage id k)).0 js left → IsAt N (N.judge s (ProcessSwPackage id k)).0 k ps (next_processed js (suc taken))
       next done [] all has [] hold = subst (λ l. Has N (N.judge s (ProcessSwPackage id k)).0 k (flat_map N.changes_of l)) (sym (append-nil done) ∙ all) has
@@ -165,7 +162,7 @@ module _ (N : NodeRules) (laws : NodeLaws N) where
           next (done ++ p ∷ []) left (append_assoc done (p ∷ []) left ∙ all)
           (record {
             mine = u.0;
-            planned = grind (arith, append-nil, flat_map-append) steps 1000000;
+            planned = grind (arith, append-nil, flat_map-append);
           }) ids (hold-same s (N.judge s (ProcessSwPackage id k)).0 keeps ids left hold.2)
 
       first : (done : List (List ℕ)) → done ++ [] ≡ ps → N.mine s ≡ None → Hold N s (id ∷ ids) done → (N.judge s (ProcessSwPackage id k)).1 ≡ Done → IsAt N (N.judge s (ProcessSwPackage id k)).0 k ps (next_processed ids (suc taken))
@@ -176,15 +173,14 @@ module _ (N : NodeRules) (laws : NodeLaws N) where
 
       later : (done left : List (List ℕ)) → done ++ left ≡ ps → Has N s k (flat_map N.changes_of done) → Hold N s (id ∷ ids) left → (N.judge s (ProcessSwPackage id k)).1 ≡ Done → IsAt N (N.judge s (ProcessSwPackage id k)).0 k ps (next_processed ids (suc taken))
       later done [] all has hold d = absurd hold
-      later done (p ∷ left) all has hold d = grind (arith, laws.process_ready, flat_map, goes) steps 1500000
+      later done (p ∷ left) all has hold d = grind (arith, laws.process_ready, flat_map, goes)
 
       from : (n : ℕ) → IsAt N s k ps (At_process (id ∷ ids) n) → (N.judge s (ProcessSwPackage id k)).1 ≡ Done → IsAt N (N.judge s (ProcessSwPackage id k)).0 k ps (next_processed ids (suc taken))
       from zero g d = first g.done g.all g.none g.hold d
       from (suc n) g d = later g.done g.left g.all g.has g.hold d
 
   led-activate : (s : N.State) (k : ℕ) (ps : List (List ℕ)) → IsAt N s k ps At_activate → IsLed s Activate k ps At_activate
-  led-activate s k ps h =
-      grind arith steps 500000
+  led-activate s k ps h = grind arith
 
   pub at-judge : (s : N.State) (k : ℕ) (ps : List (List ℕ)) (stage : Stage) (call : Call) → call_at k stage ≡ Some call → IsAt N s k ps stage → IsLed s call k ps stage
   at-judge s k ps At_sync call e h = let q : Sync ≡ call = cc e in subst (λ c. IsLed s c k ps At_sync) q (led-sync s k ps h)

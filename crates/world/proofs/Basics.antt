@@ -14,29 +14,29 @@ use Rattle.pm_types.specs.declared.replies.Reply.TheVariants as reply
 
 -- a judgment that is refused, or done
 pub judged-by : (s : NodeState) (client : ℕ) (c : Call) (v : Verdict) (P : NodeState → Type 0) → P s → P (accepted s client c v) → P (judge s client c v).0
-judged-by s client c v P here there = grind arith steps 500000
+judged-by s client c v P here there = grind arith
 
 pub refused-leaves : (s : NodeState) (client : ℕ) (c : Call) (v : Verdict) (why : Refusal) → (reply_to s client c v) ≡ Refused why → (judge s client c v).0 ≡ s
-refused-leaves s client c v why e = grind arith steps 500000
+refused-leaves s client c v why e = grind arith
 
 pub done-accepted : (s : NodeState) (client : ℕ) (c : Call) (v : Verdict) → (reply_to s client c v) ≡ Done → (judge s client c v).0 ≡ accepted s client c v
-done-accepted s client c v e = grind arith steps 500000
+done-accepted s client c v e = grind arith
 
 pub done-none : (r : Reply) (o : Option Refusal) → (refused_or r o) ≡ Done → o ≡ None
-done-none r x e = grind arith steps 1500000
+done-none r x e = grind arith
 
 pub done-or-refused : (r : Reply) (o : Option Refusal) → r ≡ Done → ((refused_or r o) ≡ Done) ⊎ ((why : Refusal) × ((refused_or r o) ≡ Refused why))
-done-or-refused r x e = grind arith steps 1500000
+done-or-refused r x e = grind arith
 
 pub or-none : {A : Type 0} (a b : Option A) → option_or a b ≡ None → (a ≡ None) × (b ≡ None)
-or-none x b e = grind arith steps 1500000
+or-none x b e = grind arith
 
 pub not-refused : (row : Bool × Refusal) (rows : List (Bool × Refusal)) → first_refusal (row ∷ rows) ≡ None → (row.0 ≡ false) × (first_refusal rows ≡ None)
-not-refused x rows e = grind arith steps 1500000
+not-refused x rows e = grind arith
 
 -- what is kept
 pub last-kept : (s : NodeState) (at : CallNo) (c : Call) (r : Reply) → IsConsistent s → of_client (kept_after s at c r).last 0 ≡ Some (record { no = at; reply = r })
-last-kept s at c r v = grind (arith, get_or-set_same) steps 500000
+last-kept s at c r v = grind (arith, get_or-set_same)
 
 pub keep_last : (s : NodeState) (at : CallNo) (c : Call) (r : Reply) → IsConsistent s → last_in (kept_after s at c r) ≡ at
 keep_last s at c r v = ap (λ o. option_map_or (λ (k : Kept). k.no) o zero_no) (last-kept s at c r v)
@@ -54,12 +54,12 @@ seen owner tag st false true p q r i = let z : tag ≡ 0 = eqb-true tag 0 q in a
 seen owner tag st false false p q r i = absurd (cc r)
 
 session-shown : (o : Option Session) (st : Status) → SessionIsDue st o → option_map (mark_of st) o ≡ seen_of (option_map_or (λ (x : Session). x.owner) o 0) st (option_and_then (λ (x : Session). tag_if (x.owner == 0) x.tag) o)
-session-shown x y h = grind arith steps 1500000
+session-shown x y h = grind arith
 
 module _ (read : Reading) (clusters : List (Cluster Bytes)) where
   -- a step that leaves the session and the status
   pub keeps-of : (s t : NodeState) → t.session ≡ s.session → t.status ≡ s.status → KeepsSession (real read clusters) s t
-  keeps-of s t e q = grind arith steps 500000
+  keeps-of s t e q = grind arith
 
   pub keep_session : (s : NodeState) (at : CallNo) (c : Call) (r : Reply) → KeepsSession (real read clusters) s (kept_after s at c r)
   keep_session s at c r = keeps-of s (kept_after s at c r) refl refl
@@ -93,7 +93,7 @@ module _ (read : Reading) (clusters : List (Cluster Bytes)) where
 
   -- each of the six calls is done or refused
   pub six_replies : (s : NodeState) (c : Call) → (c ≡ Activate) ⊎ ((c ≡ Finish) ⊎ ((c ≡ Rollback) ⊎ (c ≡ Revert))) → ((judged_in read s c).1 ≡ Done) ⊎ ((why : Refusal) × ((judged_in read s c).1 ≡ Refused why))
-  six_replies s c h = grind (arith, nat_tests) steps 500000
+  six_replies s c h = grind (arith, nat_tests)
 
   pub process_replies : (s : NodeState) (id tag : ℕ) → ((judged_in read s (ProcessSwPackage id tag)).1 ≡ Done) ⊎ ((why : Refusal) × ((judged_in read s (ProcessSwPackage id tag)).1 ≡ Refused why))
   process_replies s id tag = done-or-refused reply.Done (refusal s 0 (call.ProcessSwPackage id tag) (verdict_for read s 0 (call.ProcessSwPackage id tag))) refl
@@ -112,7 +112,7 @@ module _ (read : Reading) (clusters : List (Cluster Bytes)) where
       go (Some why) = inr (why, refl)
 
   pub synced_only : (s : NodeState) (c : Call) (x : Shown) → (judged_in read s c).1 ≡ Synced x → c ≡ Sync
-  synced_only s c x e = grind arith steps 500000
+  synced_only s c x e = grind arith
 
   -- transfers don't touch the session
   pub start_session : (s : NodeState) (size : ℕ) → KeepsSession (real read clusters) s (judged_in read s (TransferStart size)).0

@@ -19,7 +19,7 @@ abbrev pub IsCalm : Call → Type 0
 IsCalm call = (call ≡ Sync) ⊎ ((call ≡ Finish) ⊎ ((id : ℕ) × (call ≡ DeleteTransfer id)))
 
 pub late-commit : (call : Call) (o : Option Status) (shown : Option _) → (is_sync call || (end_call_at Commit o call || delete_at shown call)) ≡ true → IsCalm call
-late-commit x y shown e = grind arith steps 1500000
+late-commit x y shown e = grind arith
 
 module _ (N : NodeRules) (laws : NodeLaws N) (k : ℕ) (changes : List N.Change) where
   -- the campaign's session waits for Finish, or is being cleaned up after it
@@ -34,10 +34,10 @@ module _ (N : NodeRules) (laws : NodeLaws N) (k : ℕ) (changes : List N.Change)
     pub none : (spans N k moves).ended ≡ []
 
   pub waits-keeps : (s t : N.State) → KeepsSession N s t → Waits s → Waits t
-  waits-keeps s t keeps w = grind arith steps 500000
+  waits-keeps s t keeps w = grind arith
 
   pub waits-judge : (s : N.State) (call : Call) → IsCalm call → Waits s → Waits (N.judge s call).0
-  waits-judge s call calm w = grind (arith, finished, laws.sync_state, waits-keeps, laws.delete_session) steps 2000000
+  waits-judge s call calm w = grind (arith, finished, laws.sync_state, waits-keeps, laws.delete_session)
     where
       finished : Waits (N.judge s Finish).0
       finished =
@@ -60,7 +60,7 @@ module _ (N : NodeRules) (laws : NodeLaws N) (k : ℕ) (changes : List N.Change)
       shut_spans b o e z = subst (λ c. (if ((spans N k moves).is_open && c) then z else spans N k moves) ≡ z) (sym e) (subst (λ c. (if (c && true) then z else spans N k moves) ≡ z) (sym o) refl)
 
       waiting : N.status (after N moves) ≡ Activated → IsWaiting (Unit_done passed ∷ moves)
-      waiting a = grind arith steps 500000
+      waiting a = grind arith
 
       ends : N.status (after N moves) ≡ CleaningUp → N.outcome (after N moves) ≡ Some New → IsNew N k changes (Unit_done passed ∷ moves)
       ends c o =
@@ -88,12 +88,7 @@ module _ (N : NodeRules) (laws : NodeLaws N) (k : ℕ) (changes : List N.Change)
 
   pub new-delivered : (moves : List (Move N)) (m : Message) → begins_span N k (after N moves) m ≡ false → IsNew N k changes moves → IsNew N k changes (Delivered m ∷ moves)
   new-delivered moves m no_begin h =
-      record {
-        span = h.span;
-        only = grind (arith, begins_span, after) steps 1000000;
-        outcome = h.outcome;
-        brings = h.brings;
-      }
+      record { span = h.span; only = grind (arith, begins_span, after); outcome = h.outcome; brings = h.brings }
 
 -- What every event keeps of the half for successful campaigns, from the decision Commit on.
 bool-cases : (b : Bool) → (b ≡ true → ⊥) → b ≡ false
@@ -101,7 +96,7 @@ bool-cases true f = absurd (f refl)
 bool-cases false f = refl
 
 has-tag-process : (k : ℕ) (call : Call) → IsCalm call → has_tag k call ≡ false
-has-tag-process k call x = grind arith steps 1500000
+has-tag-process k call x = grind arith
 
 module _ (N : NodeRules) (laws : NodeLaws N) (packages : Packages) (n : ℕ) where
   abbrev pub changes_of : ℕ → List N.Change
@@ -114,10 +109,10 @@ module _ (N : NodeRules) (laws : NodeLaws N) (packages : Packages) (n : ℕ) whe
 
   -- an executed delivery was executable
   fresh-exec : (s : N.State) (m : Message) → is_fresh_done (reached N s m.at m.call) ≡ true → Executable N s m
-  fresh-exec s m e = grind (arith, nat_tests) steps 500000
+  fresh-exec s m e = grind (arith, nat_tests)
 
   exec-back : (s : N.State) (m m' : Message) → Executable N (delivered N s m.at m.call) m' → Executable N s m'
-  exec-back s m m' = grind (arith, nat_tests) steps 500000
+  exec-back s m m' = grind (arith, nat_tests)
 
   calm-begins : (k : ℕ) (s : N.State) (m : Message) → (Executable N s m → IsCalm m.call) → begins_span N k s m ≡ false
   calm-begins k s m calm =
@@ -148,7 +143,7 @@ module _ (N : NodeRules) (laws : NodeLaws N) (packages : Packages) (n : ℕ) whe
   committed-foreign f x call kept =
       record {
         calm = λ c current commit m h exec. kept.calm c current commit m h (subst (λ l. IsBelow l m.at) (laws.foreign_last (state_of N x) call).0 exec);
-        committed = λ c current commit named. grind (arith, new-foreign) steps 1000000;
+        committed = λ c current commit named. grind (arith, new-foreign);
         entered = λ k earlier low high named. new-foreign N laws k (changes_of k) x.moves call (kept.entered k earlier low high named);
       }
 
@@ -187,7 +182,7 @@ module _ (N : NodeRules) (laws : NodeLaws N) (packages : Packages) (n : ℕ) whe
   committed-same f g x same kept =
       record {
         calm = λ d current commit. let b = same.back d current in kept.calm b.0 b.1 (sym b.2.decision ∙ commit);
-        committed = λ d current commit named. grind arith steps 1000000;
+        committed = λ d current commit named. grind arith;
         entered = λ k earlier low high named. kept.entered k (subst (λ l. InEarlier (k, Successful) l) same.earlier earlier) low high named;
       }
 
@@ -200,7 +195,7 @@ module _ (N : NodeRules) (laws : NodeLaws N) (packages : Packages) (n : ℕ) whe
   committed-decide f x c d current ready kept =
       record {
         calm = λ c' current' commit m h exec. absurd ((ready (is_commit c' current' commit)).quiet m h exec);
-        committed = λ c' current' commit named. grind (arith, some-inj) steps 1000000;
+        committed = λ c' current' commit named. grind (arith, some-inj);
         entered = kept.entered;
       }
     where
@@ -221,10 +216,7 @@ module _ (N : NodeRules) (laws : NodeLaws N) (packages : Packages) (n : ℕ) whe
                   let flag = names low high (subst (λ j. packages j n ≢ []) k_is named) in
                   let commit = success c.decision (subst (λ y. is_result_of c.decision y ≡ true) (sym r_is) result) in
                   subst (λ j. IsNew N j (changes_of j) x.moves) (sym k_is)
-                  (elim (kept.committed c current commit flag) [
-                    | inl w ↦ absurd (waits_no_more w)
-                    | inr h ↦ h
-                  ]))
+                  (elim (kept.committed c current commit flag) [ inl w ↦ absurd (waits_no_more w) | inr h ↦ h ]))
             ];
       }
     where
@@ -233,4 +225,4 @@ module _ (N : NodeRules) (laws : NodeLaws N) (packages : Packages) (n : ℕ) whe
       success _ e = absurd (cc e)
 
       waits_no_more : IsWaiting N laws c.campaign (changes_of c.campaign) x.moves → ⊥
-      waits_no_more w = grind (arith, flagged-ended) steps 500000
+      waits_no_more w = grind (arith, flagged-ended)

@@ -35,7 +35,7 @@ module _ (N : NodeRules) (laws : NodeLaws N) (packages : Packages) (numbers : Li
   WorldEarly w = (n : ℕ) → EachEarly n w.fold (w.node n)
 
   one-node : (w : World N) (n : ℕ) (x : NodeWorld N) → WorldEarly w → EachEarly n w.fold x → WorldEarly (with_node N w n x)
-  one-node w n x each new k = grind arith steps 500000
+  one-node w n x each new k = grind arith
 
   answered : (f : Fold) (n : ℕ) (x : NodeWorld N) (m : Message) → InSent m x.sent → (a : Reached) → ((r : Reply) → (a ≡ Again r) ⊎ (a ≡ Fresh r) → (m.at ≡ N.last (state_of N x)) × (N.kept (state_of N x) ≡ r)) → EachEarly n f x → EachEarly n f (record { moves = x.moves; sent = x.sent; told = answer_of m a x.told })
   answered f n x m sent (Stale last) facts h = h
@@ -85,7 +85,7 @@ module _ (N : NodeRules) (laws : NodeLaws N) (packages : Packages) (numbers : Li
 
       marked : (o : Option Current) (d : Current) → changed_in o (Start epoch) ≡ Some d → d.decision ≡ None → d.restart ≡ false → ⊥
       marked None d e' undecided quiet = cc e'
-      marked (Some c) d e' undecided quiet = grind arith steps 500000
+      marked (Some c) d e' undecided quiet = grind arith
 
   plain : (w : World N) (e : MasterEvent) → ((n : ℕ) (c : Current) → SameAt n c (changed c e)) → ((c : Current) → (changed c e).restart ≡ c.restart) → ((n : ℕ) (c : Current) → vote_of (changed c e) n ≡ Some Vote.Yes → (vote_of c n ≡ Some Vote.Yes) ⊎ (showed_after_activate Activated (w.node n).told ≡ true)) → WorldEarly w → WorldEarly (record { fold = record { epoch = w.fold.epoch; earlier = w.fold.earlier; current = changed_in w.fold.current e }; node = w.node })
   plain w e sames restarts votes each n =
@@ -121,7 +121,7 @@ module _ (N : NodeRules) (laws : NodeLaws N) (packages : Packages) (numbers : Li
     where
       forth : (p : Option Current) → w.fold.current ≡ p → (k : ℕ) → InPresent w.fold n (λ c. k ≡ c.campaign) → InPresent (record { epoch = w.fold.epoch; earlier = w.fold.earlier; current = changed_in p (Decide d) }) n (λ c. k ≡ c.campaign)
       forth None q k h = absurd (none-some w.fold.current h.0 q h.1)
-      forth (Some c) q k h = grind arith steps 500000
+      forth (Some c) q k h = grind arith
 
       decided : (p : Option Current) (c : Current) → changed_in p (Decide d) ≡ Some c → c.decision ≡ None → ⊥
       decided None c q u = cc q
@@ -132,7 +132,7 @@ module _ (N : NodeRules) (laws : NodeLaws N) (packages : Packages) (numbers : Li
   ended w nd o (Some c) e h evidence kept each n =
       record {
         live = elim (eqb_tells n nd) [ inl q ↦ here q.1 | inr q ↦ other q.1 ];
-        early = grind (arith, early-no, and-both, unless-true, some-inj) steps 1000000;
+        early = grind (arith, early-no, and-both, unless-true, some-inj);
       }
     where
       here : n ≡ nd → KeptLive N (record { epoch = w.fold.epoch; earlier = w.fold.earlier; current = Some (changed c (EndedAt nd o)) }) n (w.node n)
@@ -157,7 +157,7 @@ module _ (N : NodeRules) (laws : NodeLaws N) (packages : Packages) (numbers : Li
       }
     where
       out : (k : ℕ) → InPresent w.fold n (λ y. k ≡ y.campaign) → ⊥
-      out k p = grind (arith, flagged-ended, and-both, unless-true) steps 500000
+      out k p = grind (arith, flagged-ended, and-both, unless-true)
 
   of-record : (w : World N) (e : MasterEvent) → refusal_of w.fold e ≡ None → Evidence N packages numbers w e → WorldKept N laws packages numbers w → WorldEarly w → WorldEarly (recorded N w e)
   of-record w (Start epoch) h evidence kept each = start w epoch (eqb-true epoch (w.fold.epoch + 1) (unless-true (nat_eq epoch (w.fold.epoch + 1)) h)) each
@@ -174,7 +174,7 @@ module _ (N : NodeRules) (laws : NodeLaws N) (packages : Packages) (numbers : Li
   of-record w (VoteOf nd v) h evidence kept each = plain w (VoteOf nd v) (λ n c. same-refl n c (changed c (VoteOf nd v)) refl refl refl refl) (λ c. refl) (λ n c y. voted n c y) each
     where
       voted : (n : ℕ) (c : Current) → vote_of (changed c (VoteOf nd v)) n ≡ Some Vote.Yes → (vote_of c n ≡ Some Vote.Yes) ⊎ (showed_after_activate Activated (w.node n).told ≡ true)
-      voted n c y = grind (arith, part-with, showed_after_activate) steps 1500000
+      voted n c y = grind (arith, part-with, showed_after_activate)
   of-record w (Decide d) h evidence kept each = decide w d w.fold.current refl each
   of-record w (EndedAt nd o) h evidence kept each = ended w nd o w.fold.current refl h evidence kept each
   of-record w (Enter r) h evidence kept each = enter w r w.fold.current refl h each
@@ -191,13 +191,12 @@ module _ (N : NodeRules) (laws : NodeLaws N) (packages : Packages) (numbers : Li
   keeps w Restart allowed kept each = start w (w.fold.epoch + 1) refl each
 
   ready : (w : World N) (c : Current) → w.fold.current ≡ Some c → refusal_of w.fold (Decide Commit) ≡ None → WorldKept N laws packages numbers w → WorldEarly w → (n : ℕ) → IsReadyToCommit N laws packages n c (w.node n)
-  ready w c current h kept each n =
-      grind (arith, some-inj, unless-true, and-both, not, ready-node, is_none) steps 500000
+  ready w c current h kept each n = grind (arith, some-inj, unless-true, and-both, not, ready-node, is_none)
 
   pub early-opened : (openings : ℕ → N.ForeignCall) → WorldEarly (opened_world N openings)
   early-opened openings n =
       record {
-        live = grind (arith, laws.foreign_last, laws.formatted_last) steps 1000000;
+        live = grind (arith, laws.foreign_last, laws.formatted_last);
         early = early-no N laws packages numbers n nothing_yet (record { moves = Foreign (openings n) ∷ []; sent = []; told = [] }) (λ d current undecided quiet. cc current);
       }
 

@@ -26,22 +26,22 @@ or-right true b e = refl
 or-right false b e = e
 
 sync-is : (call : Call) → is_sync call ≡ true → call ≡ Sync
-sync-is x e = grind arith steps 1500000
+sync-is x e = grind arith
 
 -- what the message before a new one of an undecided campaign is
 told-before : (a b d e g : Bool) → a ≡ true → d ≡ true → g ≡ false → (not a || (b || (not d || (e && g)))) ≡ true → b ≡ true
 told-before a true d e g p q r h = refl
-told-before a false d e g p q r h = grind arith steps 500000
+told-before a false d e g p q r h = grind arith
 
 module _ (N : NodeRules) (laws : NodeLaws N) (packages : Packages) (numbers : List ℕ) where
   -- the number of a delivered message that was not Stale is the last one
   pub last-facts : (s : N.State) (m : Message) (r : Reply) → (reached N s m.at m.call ≡ Again r) ⊎ (reached N s m.at m.call ≡ Fresh r) → m.at ≡ N.last (delivered N s m.at m.call)
-  last-facts s m r h = grind arith steps 500000
+  last-facts s m r h = grind arith
 
   module _ (n : ℕ) where
     -- the last number is below the next
     pub next-exec : (f : Fold) (x : NodeWorld N) → KeptOld N f n x → KeptLive N f n x → IsBelow (N.last (state_of N x)) (next_number f.epoch x.sent)
-    next-exec f x old live = grind (arith, next-above, nat_eq) steps 500000
+    next-exec f x old live = grind (arith, next-above, nat_eq)
 
     -- what always holds
     pub live-deliver : (f : Fold) (x : NodeWorld N) (m : Message) → InSent m x.sent → KeptOld N f n x → KeptLive N f n x → KeptLive N f n (record { moves = Delivered m ∷ x.moves; sent = x.sent; told = x.told })
@@ -75,10 +75,10 @@ module _ (N : NodeRules) (laws : NodeLaws N) (packages : Packages) (numbers : Li
             entry k e _ _ p h = live.entry_sent k e h
 
     pub live-foreign : (f : Fold) (x : NodeWorld N) (call : N.ForeignCall) → KeptLive N f n x → KeptLive N f n (record { moves = Foreign call ∷ x.moves; sent = x.sent; told = x.told })
-    live-foreign f x call live = grind arith steps 500000
+    live-foreign f x call live = grind arith
 
     pub live-unit : (f : Fold) (x : NodeWorld N) (passed : Bool) → KeptLive N f n x → KeptLive N f n (record { moves = Unit_done passed ∷ x.moves; sent = x.sent; told = x.told })
-    live-unit f x passed live = grind arith steps 500000
+    live-unit f x passed live = grind arith
 
     pub live-told : (f : Fold) (x : NodeWorld N) (told : List Told) → KeptLive N f n x → KeptLive N f n (record { moves = x.moves; sent = x.sent; told = told })
     live-told f x told live = record { last_sent = live.last_sent; live = live.live; entry_sent = live.entry_sent }
@@ -87,7 +87,7 @@ module _ (N : NodeRules) (laws : NodeLaws N) (packages : Packages) (numbers : Li
     live-send f x m exec old live =
         record {
           last_sent = elim live.last_sent [ inl e ↦ inl e | inr h ↦ inr (h.0, inr h.1, h.2) ];
-          live = λ y h not_sync from. grind (arith, state_of) steps 1000000;
+          live = λ y h not_sync from. grind (arith, state_of);
           entry_sent = λ k e h. let q = live.entry_sent k e h in (inr q.0, q.1);
         }
 
@@ -148,7 +148,7 @@ module _ (N : NodeRules) (laws : NodeLaws N) (packages : Packages) (numbers : Li
       where
         stays : (c : Current) → IsAt N (state_of N x) c.campaign (packages c.campaign n) (stage_after (packages c.campaign n) (round_entries N c.campaign x.moves)) → (spans N c.campaign x.moves).ended ≡ [] → (spans N c.campaign (Unit_done passed ∷ x.moves)).ended ≡ []
         stays c at none =
-            grind (arith, span-ended, spans, is_status, state_of, stage_after, round_entries, is-cleaning) steps 1500000
+            grind (arith, span-ended, spans, is_status, state_of, stage_after, round_entries, is-cleaning)
 
     pub early-answered-event : (f : Fold) (x : NodeWorld N) (m : Message) (r : Reply) → InSent m x.sent → m.at ≡ N.last (state_of N x) → N.kept (state_of N x) ≡ r → KeptLive N f n x → KeptEarly N packages f n x → KeptEarly N packages f n (record { moves = x.moves; sent = x.sent; told = Answered m r ∷ x.told })
     early-answered-event f x m r sent at kept live early =
@@ -169,7 +169,7 @@ module _ (N : NodeRules) (laws : NodeLaws N) (packages : Packages) (numbers : Li
 
     pub early-send : (f : Fold) (x : NodeWorld N) (c : Current) (call : Call) → f.current ≡ Some c → MaySend packages f.epoch n c x.told x.sent call → KeptOld N f n x → KeptLive N f n x → KeptEarly N packages f n x → KeptEarly N packages f n (record { moves = x.moves; sent = record { at = next_number f.epoch x.sent; call = call; campaign = c.campaign; decided = is_some c.decision } ∷ x.sent; told = x.told })
     early-send f x c call current may old live early =
-        grind (arith, here, some-inj, state_of, round_entries, spans, next_number, is_some) steps 2000000
+        grind (arith, here, some-inj, state_of, round_entries, spans, next_number, is_some)
       where
         here : c.decision ≡ None → c.restart ≡ false → EarlyAt N f.epoch c.campaign (packages c.campaign n) (state_of N x) (round_entries N c.campaign x.moves) (spans N c.campaign x.moves).ended (record { at = next_number f.epoch x.sent; call = call; campaign = c.campaign; decided = is_some c.decision } ∷ x.sent) x.told
         here undecided quiet =
@@ -188,7 +188,7 @@ module _ (N : NodeRules) (laws : NodeLaws N) (packages : Packages) (numbers : Li
 
     -- the records
     pub early-fold : (f g : Fold) (x : NodeWorld N) → g.epoch ≡ f.epoch → ((d : Current) → g.current ≡ Some d → (c : Current) × (f.current ≡ Some c) × (d.campaign ≡ c.campaign) × (d.decision ≡ c.decision) × (d.restart ≡ c.restart) × (vote_of d n ≡ Some Vote.Yes → (vote_of c n ≡ Some Vote.Yes) ⊎ (showed_after_activate Activated x.told ≡ true))) → KeptEarly N packages f n x → KeptEarly N packages g n x
-    early-fold f g x epoch back early = grind arith steps 500000
+    early-fold f g x epoch back early = grind arith
 
     pub early-no : (g : Fold) (x : NodeWorld N) → ((d : Current) → g.current ≡ Some d → d.decision ≡ None → d.restart ≡ false → ⊥) → KeptEarly N packages g n x
     early-no g x never = record { at = λ d current undecided quiet. absurd (never d current undecided quiet); yes = λ d current undecided quiet. absurd (never d current undecided quiet) }
@@ -217,7 +217,7 @@ module _ (N : NodeRules) (laws : NodeLaws N) (packages : Packages) (numbers : Li
                 over = λ d. absurd (cc d);
                 activated = λ d. absurd (cc d);
               }));
-          yes = λ c current undecided quiet voted. grind (arith, some-inj, part-none) steps 1000000;
+          yes = λ c current undecided quiet voted. grind (arith, some-inj, part-none);
         }
       where
         is_fresh : IsFresh f k

@@ -13,7 +13,7 @@ use Rattle.world.proofs.Events.{below-irrefl}
 use Rattle.world.proofs.AtRounds.{at-foreign, at-unit, at-keep, at-judge}
 
 pub same-no : (a b : CallNo) → no_eq a b ≡ true → a ≡ b
-same-no a b e = grind arith steps 500000
+same-no a b e = grind arith
 
 -- what told has for a number is an answer to a message of this number
 pub told-in : (ts : List Told) (at : CallNo) (r : Reply) → told_reply ts at ≡ Some r → (m : Message) × InTold (Answered m r) ts × (m.at ≡ at)
@@ -27,14 +27,14 @@ told-in (Answered m q ∷ ts) at r e = go (no_eq m.at at) refl e (λ z. told-in 
 
 pub showed-done : (x : Status) (ts : List Told) → showed_after_activate x ts ≡ true → activate_done ts ≡ true
 showed-done x [] e = absurd (cc e)
-showed-done x (Answered m r ∷ ts) e = grind (arith, showed-done x ts e) steps 500000
-showed-done x (Showed s ∷ ts) e = grind (arith, showed-done x ts) steps 500000
+showed-done x (Answered m r ∷ ts) e = grind (arith, showed-done x ts e)
+showed-done x (Showed s ∷ ts) e = grind (arith, showed-done x ts)
 
 call-activate : (call : Call) → is_activate call ≡ true → call ≡ Activate
-call-activate x e = grind arith steps 1500000
+call-activate x e = grind arith
 
 reply-done : (r : Reply) → is_done r ≡ true → r ≡ Done
-reply-done x e = grind arith steps 1500000
+reply-done x e = grind arith
 
 -- the replies that are told lead to the same stage as the entries
 stage-push : (ps : List (List ℕ)) (stage : Stage) (rs : List Reply) (r : Reply) → stage_of ps stage (rs ++ r ∷ []) ≡ onward ps (stage_of ps stage rs) r
@@ -57,7 +57,7 @@ module _ (k : ℕ) (ps : List (List ℕ)) where
   told-stage ts [] sent done told = ap (stage_of ps At_sync) (replies-none ts sent done)
   told-stage ts (e ∷ es) [] done told = absurd done
   told-stage ts (e ∷ es) (m ∷ ms) done told =
-      grind (arith, not, flag-true, stage_after, stage-push, told-stage ts es ms done.3 told.1) steps 500000
+      grind (arith, not, flag-true, stage_after, stage-push, told-stage ts es ms done.3 told.1)
 
   at-activate : (stage : Stage) → call_at k stage ≡ Some Activate → stage ≡ At_activate
   at-activate stage e = grind arith
@@ -94,16 +94,16 @@ all-told ts us [] f h = tt
 all-told ts us (e ∷ es) f h = (f e (inl refl) h.0, all-told ts us es (λ y q. f y (inr q)) h.1)
 
 older-told : (ts us : List Told) (es : List ClientEntry) → ((e : ClientEntry) → InEntries e es → told_reply ts e.message.at ≡ Some e.reply → told_reply us e.message.at ≡ Some e.reply) → OlderTold ts es → OlderTold us es
-older-told ts us x f h = grind (arith, all-told) steps 1500000
+older-told ts us x f h = grind (arith, all-told)
 
 module _ (N : NodeRules) (laws : NodeLaws N) where
   -- a delivery is nothing, or an executable call that is judged, kept and answered
   pub judged-cases : (s : N.State) (m : Message) (P : N.State → Option Reply → Type 0) → P s None → (Executable N s m → P (N.keep (N.judge s m.call).0 m.at m.call (N.judge s m.call).1) (Some (N.judge s m.call).1)) → P (delivered N s m.at m.call) (judged (reached N s m.at m.call))
-  judged-cases s m P here there = grind (arith, nat_tests) steps 500000
+  judged-cases s m P here there = grind (arith, nat_tests)
 
   module _ (epoch k : ℕ) (ps : List (List ℕ)) where
     sent-done : (s : N.State) (es : List ClientEntry) (ended : List (Span N)) (sent : List Message) (told : List Told) → EarlyAt N epoch k ps s es ended sent told → (some : List Message) → AllDone k es some → (m : Message) → InSent m some → m.campaign ≡ k → IsBelow (N.last s) m.at → ⊥
-    sent-done s es ended sent told h some all m q c below = grind (arith, in-done) steps 500000
+    sent-done s es ended sent told h some all m q c below = grind (arith, in-done)
 
     -- an executable message of the campaign is the one that waits
     pub is-next : (s : N.State) (es : List ClientEntry) (ended : List (Span N)) (sent : List Message) (told : List Told) → EarlyAt N epoch k ps s es ended sent told → (m : Message) → InSent m sent → m.campaign ≡ k → IsBelow (N.last s) m.at → (m.decided ≡ false) × (call_at k (stage_after ps es) ≡ Some m.call) × AllTold told es × AllDone k (record { message = m; reply = (N.judge s m.call).1 } ∷ es) sent
@@ -130,9 +130,9 @@ module _ (N : NodeRules) (laws : NodeLaws N) where
           epochs = h.epochs;
           follows = (n.1, h.follows);
           sends = inl (n.3, n.2);
-          last = λ e i. grind (arith, laws.keep_last, laws.keep_kept) steps 1000000;
-          told_entry = λ e i r t. grind (arith, told-in) steps 1000000;
-          is_on = grind (arith, refused-none, stage_after, at-judge, at-keep) steps 1000000;
+          last = λ e i. grind (arith, laws.keep_last, laws.keep_kept);
+          told_entry = λ e i r t. grind (arith, told-in);
+          is_on = grind (arith, refused-none, stage_after, at-judge, at-keep);
           over = λ d. absurd (over-none k ps (stage_after ps es) m.call (h.over d) n.1);
           activated = λ d. absurd (over-none k ps (stage_after ps es) m.call (h.over (showed-done Activated told d)) n.1);
         })
@@ -140,12 +140,11 @@ module _ (N : NodeRules) (laws : NodeLaws N) where
     -- a foreign call
     pub early-foreign : (s : N.State) (call : N.ForeignCall) (es : List ClientEntry) (ended : List (Span N)) (sent : List Message) (told : List Told) → EarlyAt N epoch k ps s es ended sent told → EarlyAt N epoch k ps (N.foreign s call) es ended sent told
     early-foreign s call es ended sent told h =
-        grind (arith, at-foreign, stage_after, showed-done, laws.foreign_session) steps 500000
+        grind (arith, at-foreign, stage_after, showed-done, laws.foreign_session)
 
     -- a unit, which leaves the spans that ended unless the session is being cleaned up
     pub early-unit : (s : N.State) (passed : Bool) (es : List ClientEntry) (ended ended' : List (Span N)) (sent : List Message) (told : List Told) → (IsAt N s k ps (stage_after ps es) → ended ≡ [] → ended' ≡ []) → EarlyAt N epoch k ps s es ended sent told → EarlyAt N epoch k ps (N.unit s passed) es ended' sent told
-    early-unit s passed es ended ended' sent told stays h =
-        grind (arith, at-unit, stage_after, laws.unit_still) steps 500000
+    early-unit s passed es ended ended' sent told stays h = grind (arith, at-unit, stage_after, laws.unit_still)
 
     -- an answer that is told: its message is the last one that was judged
     pub early-answered : (s : N.State) (es : List ClientEntry) (ended : List (Span N)) (sent : List Message) (told : List Told) (m : Message) (r : Reply) → InSent m sent → m.at ≡ N.last s → N.kept s ≡ r → (m.call ≢ Sync → m.campaign ≡ k) → EarlyAt N epoch k ps s es ended sent told → EarlyAt N epoch k ps s es ended sent (Answered m r ∷ told)
@@ -179,17 +178,17 @@ module _ (N : NodeRules) (laws : NodeLaws N) where
 
         -- an entry with the last number has this reply
         reply-is : (e : ClientEntry) → InEntries e es → m.at ≡ e.message.at → e.reply ≡ r
-        reply-is e i same = grind arith steps 500000
+        reply-is e i same = grind arith
 
         more : (e : ClientEntry) → InEntries e es → told_reply told e.message.at ≡ Some e.reply → told_reply (Answered m r ∷ told) e.message.at ≡ Some e.reply
-        more e i t = grind (arith, nat_tests) steps 500000
+        more e i t = grind (arith, nat_tests)
 
         entry : (e : ClientEntry) → InEntries e es → (r' : Reply) (b : Bool) → no_eq m.at e.message.at ≡ b → (if b then Some r else told_reply told e.message.at) ≡ Some r' → r' ≡ e.reply
         entry e i r' true p t = let x : r ≡ r' = cc t in sym x ∙ sym (reply-is e i (same-no m.at e.message.at p))
         entry e i r' false p t = h.told_entry e i r' t
 
         new : m.call ≡ Activate → r ≡ Done → stage_after ps es ≡ Over
-        new call done = grind (arith, in-done, activate-over, below-irrefl) steps 500000
+        new call done = grind (arith, in-done, activate-over, below-irrefl)
 
     -- a status that is told
     pub early-showed : (s : N.State) (es : List ClientEntry) (ended : List (Span N)) (sent : List Message) (told : List Told) (x : Status) → N.status s ≡ x → EarlyAt N epoch k ps s es ended sent told → EarlyAt N epoch k ps s es ended sent (Showed x ∷ told)
@@ -197,7 +196,7 @@ module _ (N : NodeRules) (laws : NodeLaws N) where
 
     -- before a new message all entries were told
     pub all-answered : (s : N.State) (es : List ClientEntry) (ended : List (Span N)) (sent : List Message) (told : List Told) → ((m : Message) (r : Reply) → InTold (Answered m r) told → IsBelow (N.last s) m.at → ⊥) → ((m : Message) (ms : List Message) → sent ≡ m ∷ ms → m.campaign ≡ k → is_told told m.at ≡ true) → EarlyAt N epoch k ps s es ended sent told → AllDone k es sent × AllTold told es
-    all-answered s es ended sent told known newest h = grind (arith, done, waiting) steps 2000000
+    all-answered s es ended sent told known newest h = grind (arith, done, waiting)
       where
         reply-of : (o : Option Reply) → is_some o ≡ true → (r : Reply) × (o ≡ Some r)
         reply-of None e = absurd (cc e)
@@ -219,4 +218,4 @@ module _ (N : NodeRules) (laws : NodeLaws N) where
             known a.0 r.0 a.1 (subst (λ z. IsBelow (N.last s) z) (sym a.2) w.3)
 
     pub early-sent : (s : N.State) (es : List ClientEntry) (ended : List (Span N)) (sent : List Message) (told : List Told) (m : Message) → m.campaign ≡ k → m.decided ≡ false → m.at.epoch ≡ epoch → IsBelow (N.last s) m.at → call_at k (stage_of ps At_sync (replies_of k told sent)) ≡ Some m.call → AllDone k es sent × AllTold told es → EarlyAt N epoch k ps s es ended sent told → EarlyAt N epoch k ps s es ended (m ∷ sent) told
-    early-sent s es ended sent told m c d e below call all h = grind (arith, told-stage) steps 500000
+    early-sent s es ended sent told m c d e below call all h = grind (arith, told-stage)

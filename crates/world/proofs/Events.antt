@@ -21,10 +21,10 @@ use Rattle.world.proofs.NodeLemmas.{none-delivered}
 
 -- order of numbers
 pub below-trans : (a b c : CallNo) → IsBelow a b → IsBelow b c → IsBelow a c
-below-trans a b c x y = grind arith steps 1500000
+below-trans a b c x y = grind arith
 
 pub below-irrefl : (a : CallNo) → IsBelow a a → ⊥
-below-irrefl a x = grind arith steps 1500000
+below-irrefl a x = grind arith
 
 below-tests : (a b c d : ℕ) → (nat_lt a c || (nat_eq a c && nat_lt b d)) ≡ false → (nat_eq a c && nat_eq b d) ≡ false → (c < a) ⊎ ((c ≡ a) × (d < b))
 below-tests a b c d p q = grind arith
@@ -50,8 +50,7 @@ shown-told k epoch (Answered m r ∷ ts) e = go (is_end_sync k epoch m) refl (λ
 
 pub status-told : (k epoch : ℕ) (ts : List Told) (x : Status) → last_status k epoch ts ≡ Some x → SyncTold k epoch ts
 status-told k epoch [] x e = absurd (cc e)
-status-told k epoch (Showed s ∷ ts) x e =
-    grind (arith, told-later, shown-told, status-told k epoch ts x) steps 500000
+status-told k epoch (Showed s ∷ ts) x e = grind (arith, told-later, shown-told, status-told k epoch ts x)
 status-told k epoch (Answered m r ∷ ts) x e = go (is_end_sync k epoch m) refl (λ q. status-told k epoch ts x q) e
   where
     go : (b : Bool) → is_end_sync k epoch m ≡ b → (last_status k epoch ts ≡ Some x → SyncTold k epoch ts) → or_else (status_of_shown (shown_if b r)) (last_status k epoch ts) ≡ Some x → SyncTold k epoch (Answered m r ∷ ts)
@@ -59,7 +58,7 @@ status-told k epoch (Answered m r ∷ ts) x e = go (is_end_sync k epoch m) refl 
     go false q rec e' = told-later k epoch (Answered m r) ts (rec e')
 
 pub end-sync-decided : (k epoch : ℕ) (m : Message) → is_end_sync k epoch m ≡ true → (m.decided ≡ true) × (m.campaign ≡ k)
-end-sync-decided k epoch m e = grind arith steps 500000
+end-sync-decided k epoch m e = grind arith
 
 module _ (N : NodeRules) (laws : NodeLaws N) (f : Fold) (n : ℕ) where
   -- after an answer to a message of the decided campaign nothing from before the decision is executable
@@ -112,8 +111,8 @@ module _ (N : NodeRules) (laws : NodeLaws N) (f : Fold) (n : ℕ) where
         ends_old = steps.ends_old;
         session = steps.session;
         open_span = steps.open_span;
-        old_so_far = λ c current d. grind arith steps 1000000;
-        fresh = λ k is_fresh. grind arith steps 1000000;
+        old_so_far = λ c current d. grind arith;
+        fresh = λ k is_fresh. grind arith;
         entered = λ k result earlier r.
             elim (steps.ended k) [
               | inl e ↦ subst (λ l. EachEnded N (λ y. N.Leaves y.before y.left) l) (sym e) (kept.entered k result earlier r)
@@ -125,7 +124,7 @@ module _ (N : NodeRules) (laws : NodeLaws N) (f : Fold) (n : ℕ) where
   event-foreign x call fold kept = kept-step x (Foreign call) fold kept steps
     where
       mine-back : (tag : ℕ) → N.mine (N.foreign (state_of N x) call) ≡ Some tag → N.mine (state_of N x) ≡ Some tag
-      mine-back tag e = grind arith steps 500000
+      mine-back tag e = grind arith
 
       steps : Steps x (Foreign call)
       steps =
@@ -156,13 +155,13 @@ module _ (N : NodeRules) (laws : NodeLaws N) (f : Fold) (n : ℕ) where
       at_status x i = inl (same x i refl)
 
   pub unit-back : (s : N.State) (passed : Bool) (tag : ℕ) → N.mine (N.unit s passed) ≡ Some tag → N.mine s ≡ Some tag
-  unit-back s passed tag e = grind (arith, unit-mine) steps 500000
+  unit-back s passed tag e = grind (arith, unit-mine)
 
   pub is-cleaning : (x : Status) → is_status x CleaningUp ≡ true → x ≡ CleaningUp
-  is-cleaning x e = grind arith steps 1500000
+  is-cleaning x e = grind arith
 
   pub span-ended : (y : Spans N) (b : Bool) (z : List (Span N)) → ((if (y.is_open && b) then record { is_open = false; ended = z } else y).ended ≡ y.ended) ⊎ ((y.is_open ≡ true) × (b ≡ true) × ((if (y.is_open && b) then record { is_open = false; ended = z } else y).ended ≡ z))
-  span-ended y b z = grind arith steps 500000
+  span-ended y b z = grind arith
 
   pub event-unit : (x : NodeWorld N) (passed : Bool) → KeptFold f → KeptOld N f n x → KeptOld N f n (record { moves = Unit_done passed ∷ x.moves; sent = x.sent; told = x.told })
   event-unit x passed fold kept = kept-step x (Unit_done passed) fold kept steps
@@ -176,7 +175,7 @@ module _ (N : NodeRules) (laws : NodeLaws N) (f : Fold) (n : ℕ) where
             kept_holds = kept-unit N laws (state_of N x) passed kept.kept_holds;
             ends_old = λ c current d. ends_old-unit N laws (state_of N x) passed (kept.ends_old c current d);
             session = λ tag e. kept.session tag (unit-back (state_of N x) passed tag e);
-            open_span = λ k e. grind (arith, spans, state_of, unit-mine) steps 1000000;
+            open_span = λ k e. grind (arith, spans, state_of, unit-mine);
             ended = λ k.
                 elim (span-ended (spans N k x.moves) (is_status (N.status (state_of N x)) CleaningUp) (record { outcome = N.outcome (state_of N x); before = state_of N x; left = N.unit (state_of N x) passed } ∷ (spans N k x.moves).ended)) [
                   | inl e ↦ inl e
@@ -202,8 +201,7 @@ module _ (N : NodeRules) (laws : NodeLaws N) (f : Fold) (n : ℕ) where
   and-left false b e = absurd (cc e)
 
   pub begins-mine : (k : ℕ) (s : N.State) (at : CallNo) (call : Call) → (has_tag k call && (is_status (N.status s) Idle && is_fresh_done (reached N s at call))) ≡ true → N.mine (delivered N s at call) ≡ Some k
-  begins-mine k s at x e =
-      grind arith steps 1500000
+  begins-mine k s at x e = grind arith
 
   pub or-true : (a b : Bool) → (a || b) ≡ true → (a ≡ true) ⊎ (b ≡ true)
   or-true true b e = inl refl
@@ -220,10 +218,10 @@ module _ (N : NodeRules) (laws : NodeLaws N) (f : Fold) (n : ℕ) where
       no_process early a b id tag e = early m sent (kept.tags m sent id tag e).1 (fresh_exec a b)
 
       back : (m' : Message) → InSent m' x.sent → Executable N (delivered N (state_of N x) m.at m.call) m' → Executable N (state_of N x) m'
-      back m' s' exec = grind (arith, nat_tests) steps 500000
+      back m' s' exec = grind (arith, nat_tests)
 
       none : NoneEarly N (state_of N x) x.sent → N.mine (state_of N x) ≡ None → N.mine (delivered N (state_of N x) m.at m.call) ≡ None
-      none early e = grind (arith, delivered-cases, state_of, laws.keep_session, none-judge, no_process) steps 1500000
+      none early e = grind (arith, delivered-cases, state_of, laws.keep_session, none-judge, no_process)
 
       rolled : NoneEarly N (state_of N x) x.sent → IsRolledBack N (state_of N x) → IsRolledBack N (delivered N (state_of N x) m.at m.call)
       rolled early r =
@@ -288,7 +286,7 @@ module _ (N : NodeRules) (laws : NodeLaws N) (f : Fold) (n : ℕ) where
             ends_old = ends_old;
             session = session;
             open_span = λ k e.
-                grind (arith, or-true, spans, begins_span, state_of, some-delivered, begins-mine) steps 1000000;
+                grind (arith, or-true, spans, begins_span, state_of, some-delivered, begins-mine);
             ended = λ k. inl refl;
           }
 
@@ -356,7 +354,7 @@ module _ (N : NodeRules) (laws : NodeLaws N) where
   or-right false b e = e
 
   stays-open : (y : Spans N) (b : Bool) (z : List (Span N)) → y.is_open ≡ true → (b ≡ true → ⊥) → (if (y.is_open && b) then record { is_open = false; ended = z } else y).is_open ≡ true
-  stays-open y b z open_ shut = grind arith steps 500000
+  stays-open y b z open_ shut = grind arith
 
   pub open-mine : (moves : List (Move N)) (k : ℕ) → N.mine (after N moves) ≡ Some k → (spans N k moves).is_open ≡ true
   open-mine [] k e = absurd (cc (laws.formatted_mine, e))
@@ -364,9 +362,8 @@ module _ (N : NodeRules) (laws : NodeLaws N) where
     where
       go : (o : Option ℕ) → N.mine (after N ms) ≡ o → (N.mine (after N ms) ≡ Some k → (spans N k ms).is_open ≡ true) → ((spans N k ms).is_open || begins_span N k (after N ms) m) ≡ true
       go None q rec = or-right (spans N k ms).is_open (begins_span N k (after N ms) m) (none-begins (after N ms) m.at m.call k q e)
-      go (Some t) q rec = grind (arith, some-delivered, after, spans, begins_span) steps 1500000
-  open-mine (Foreign call ∷ ms) k e =
-      grind (arith, spans, laws.foreign_none, laws.foreign_session, open-mine ms k) steps 500000
+      go (Some t) q rec = grind (arith, some-delivered, after, spans, begins_span)
+  open-mine (Foreign call ∷ ms) k e = grind (arith, spans, laws.foreign_none, laws.foreign_session, open-mine ms k)
   open-mine (Unit_done passed ∷ ms) k e =
       let mine = unit-back N laws nothing_yet 0 (after N ms) passed k e in
       stays-open (spans N k ms) (is_status (N.status (after N ms)) CleaningUp) _ (open-mine ms k mine) (λ c.

@@ -81,7 +81,7 @@ module _ (read : Reading) (clusters : List (Cluster Bytes)) (keeps : KeepsNode r
       go _ e = refl
 
   pub unit-is : (x : FitState read) (passed : Bool) → (fit_unit read clusters keeps x passed (is_working x.state.status)).state ≡ unit_in x.state passed
-  unit-is x passed = grind arith steps 500000
+  unit-is x passed = grind arith
 
   session-of : (x y : FitState read) (u : NodeState) → y.state ≡ u → KeepsSession (real read clusters) x.state u → KeepsSession (fit read clusters keeps) x y
   session-of x y u e k = let h = subst (λ z. KeepsSession (real read clusters) x.state z) (sym e) k in record { mine = h.mine; status = h.status; planned = h.planned; in_process = h.in_process; outcome = h.outcome }

@@ -120,8 +120,7 @@ Tests a b Equal = (no_lt a b ≡ false) × (no_eq a b ≡ true)
 Tests a b Greater = (no_lt a b ≡ false) × (no_eq a b ≡ false)
 
 tests : (a b : CallNo) → Tests a b (call_no_cmp a b)
-tests a b =
-    grind arith steps 500000
+tests a b = grind arith
 
 module _ (read : Reading) (clusters : List (Cluster Bytes)) (s : NodeState) (at : CallNo) (c : Call) where
   abbrev done : NodeState × Reached
@@ -132,5 +131,4 @@ module _ (read : Reading) (clusters : List (Cluster Bytes)) (s : NodeState) (at 
 
   -- a call whose epoch is at least 1, as every call number's is
   pub delivered-is : 0 < at.epoch → (delivered (real read clusters) s at c ≡ (step s 0 at (c) (verdict_for read s 0 (c))).0) × (world_reached (real read clusters) s at c ≡ (step s 0 at (c) (verdict_for read s 0 (c))).1)
-  delivered-is epoch =
-      grind arith
+  delivered-is epoch = grind arith

@@ -35,7 +35,7 @@ module _ (N : NodeRules) (laws : NodeLaws N) (packages : Packages) (numbers : Li
     pub ready : (w : World N) (c : Current) → w.fold.current ≡ Some c → refusal_of w.fold (Decide Commit) ≡ None → WorldNew w → Holds w → (n : ℕ) → IsReadyToCommit N laws packages n c (w.node n)
 
   one-node : (w : World N) (n : ℕ) (x : NodeWorld N) → ((k : ℕ) → KeptCommitted N laws packages k w.fold (w.node k)) → KeptCommitted N laws packages n w.fold x → (k : ℕ) → KeptCommitted N laws packages k w.fold (if nat_eq k n then x else w.node k)
-  one-node w n x each new k = grind arith steps 500000
+  one-node w n x each new k = grind arith
 
   names-same : (f g : Fold) → ((n : ℕ) → SameFold n f g) → IsNamed f → IsNamed g
   names-same f g same names d current n low high steps =
@@ -49,7 +49,7 @@ module _ (N : NodeRules) (laws : NodeLaws N) (packages : Packages) (numbers : Li
   deliver f n x (Some m) false is fold old kept = committed-deliver N laws packages n f x m (is m refl) fold (event-deliver N laws f n x m (is m refl) fold old) kept
 
   send : (f : Fold) (n : ℕ) (x : NodeWorld N) (call : Call) (o : Option Current) → f.current ≡ o → InCurrent o (λ c. MaySend packages f.epoch n c x.told x.sent call) → KeptCommitted N laws packages n f x → KeptCommitted N laws packages n f (record { moves = x.moves; sent = record { at = next_number f.epoch x.sent; call = call; campaign = campaign_of o; decided = decided_of o } ∷ x.sent; told = x.told })
-  send f n x call y e may kept = grind (arith, committed-send) steps 1500000
+  send f n x call y e may kept = grind (arith, committed-send)
 
   start-fold : (w : World N) (epoch : ℕ) → epoch ≡ w.fold.epoch + 1 → (n : ℕ) → SameFold n w.fold (after_event w.fold (Start epoch))
   start-fold w epoch e n = same-fold n w.fold epoch (Start epoch) (omega (arith, e)) (λ c. start-same n c epoch)
@@ -78,7 +78,7 @@ module _ (N : NodeRules) (laws : NodeLaws N) (packages : Packages) (numbers : Li
   begin : (w : World N) (k : ℕ) (named : NodeSet) → w.fold.current ≡ None → NamesOf packages k named → WorldNew w → Parts (emptied N w (record { epoch = w.fold.epoch; earlier = w.fold.earlier; current = Some (begun k named) }))
   begin w k named none names new =
       record {
-        names = λ c current n low high steps. grind (arith, some-inj) steps 1000000;
+        names = λ c current n low high steps. grind (arith, some-inj);
         each = λ n.
             record {
               calm = λ c current commit. absurd (not_yet c current commit);
@@ -88,17 +88,17 @@ module _ (N : NodeRules) (laws : NodeLaws N) (packages : Packages) (numbers : Li
       }
     where
       not_yet : (c : Current) → Some (begun k named) ≡ Some c → c.decision ≡ Some Commit → ⊥
-      not_yet c current commit = grind arith steps 500000
+      not_yet c current commit = grind arith
 
   decide : (w : World N) (d : Decision) (o : Option Current) → w.fold.current ≡ o → in_current o (Decide d) ≡ None → ((c : Current) → o ≡ Some c → d ≡ Commit → (n : ℕ) → IsReadyToCommit N laws packages n c (w.node n)) → WorldNew w → Parts (record { fold = record { epoch = w.fold.epoch; earlier = w.fold.earlier; current = changed_in o (Decide d) }; node = w.node })
   decide w d None e h ready new = absurd (cc h)
   decide w d (Some c) e h ready new = grind (arith, committed-decide)
 
   ended : (w : World N) (nd : NodeId) (o : Outcome) (p : Option Current) → w.fold.current ≡ p → WorldNew w → Parts (record { fold = record { epoch = w.fold.epoch; earlier = w.fold.earlier; current = changed_in p (EndedAt nd o) }; node = w.node })
-  ended w nd o None e new = grind arith steps 500000
+  ended w nd o None e new = grind arith
   ended w nd o (Some c) e new =
       record {
-        names = λ c' current n low high steps. grind (arith, some-inj) steps 1000000;
+        names = λ c' current n low high steps. grind (arith, some-inj);
         each = λ n.
             record {
               calm = λ c' current commit. (new.each n).calm c e (ap (λ y. y.decision) (some-inj (changed c (EndedAt nd o)) c' current) ∙ commit);
@@ -157,7 +157,7 @@ module _ (N : NodeRules) (laws : NodeLaws N) (packages : Packages) (numbers : Li
       (early.keeps w e made.0 new holds) made.1
 
   new-opened : (openings : ℕ → N.ForeignCall) → WorldNew (opened_world N openings)
-  new-opened openings = grind arith steps 500000
+  new-opened openings = grind arith
 
   -- with Enter Successful every named node is new, over every list of events
   pub new-law : Early → (openings : ℕ → N.ForeignCall) (events : List (Event N)) (w : World N) → Makes N packages numbers (opened_world N openings) events w → (k : ℕ) → InEarlier (k, Successful) w.fold.earlier → (n : ℕ) → 1 ≤ n → n ≤ 8 → packages k n ≢ [] → IsNew N k (flat_map N.changes_of (packages k n)) (w.node n).moves

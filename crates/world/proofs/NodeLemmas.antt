@@ -10,22 +10,20 @@ use Rattle.world.proofs.Invariant.{IsRolledBack, EndsOld, KeptHolds}
 module _ (N : NodeRules) (laws : NodeLaws N) where
   -- a step that keeps client 0's session keeps both facts
   pub rolled-keeps : (s t : N.State) → KeepsSession N s t → IsRolledBack N s → IsRolledBack N t
-  rolled-keeps s t k rolled tag mine = grind arith steps 500000
+  rolled-keeps s t k rolled tag mine = grind arith
 
   pub ends_old-keeps : (s t : N.State) → KeepsSession N s t → EndsOld N s → EndsOld N t
-  ends_old-keeps s t k old tag mine status = grind arith steps 500000
+  ends_old-keeps s t k old tag mine status = grind arith
 
   pub ends_old-none : (s : N.State) → N.mine s ≡ None → EndsOld N s
   ends_old-none s none tag mine status = absurd (cc (none, mine))
 
   -- a foreign call
   pub rolled-foreign : (s : N.State) (call : N.ForeignCall) → IsRolledBack N s → IsRolledBack N (N.foreign s call)
-  rolled-foreign s call rolled =
-      grind arith steps 500000
+  rolled-foreign s call rolled = grind arith
 
   pub ends_old-foreign : (s : N.State) (call : N.ForeignCall) → EndsOld N s → EndsOld N (N.foreign s call)
-  ends_old-foreign s call old =
-      grind arith steps 500000
+  ends_old-foreign s call old = grind arith
 
   -- a unit
   pub cleaned : (s : N.State) (passed : Bool) (tag : ℕ) → N.mine s ≡ Some tag → N.status s ≡ CleaningUp → N.mine (N.unit s passed) ≡ None
@@ -35,7 +33,7 @@ module _ (N : NodeRules) (laws : NodeLaws N) where
   still s passed x e f = laws.unit_still s passed (ap is_working e ∙ f)
 
   pub rolled-unit : (s : N.State) (passed : Bool) → IsRolledBack N s → IsRolledBack N (N.unit s passed)
-  rolled-unit s passed rolled = grind (arith, laws.unit_none, still, cleaned) steps 500000
+  rolled-unit s passed rolled = grind (arith, laws.unit_none, still, cleaned)
 
   -- no unit leads into CleaningUp
   pub ends_old-unit : (s : N.State) (passed : Bool) → EndsOld N s → EndsOld N (N.unit s passed)
@@ -49,7 +47,7 @@ module _ (N : NodeRules) (laws : NodeLaws N) where
           let p = laws.unit_processing s passed tag (laws.processing_id s tag e i).0 e i (laws.processing_id s tag e i).1 in
           elim p.2 [ inl h ↦ other Processing (λ q. cc) h.0 | inr h ↦ other Ready (λ q. cc) h.0 ]
       at_status tag e Activating i = other Verifying (λ q. cc) (laws.unit_activating s passed tag e i).1
-      at_status tag e Verifying i = grind arith steps 500000
+      at_status tag e Verifying i = grind arith
       at_status tag e RollingBack i = other RolledBack (λ q. cc) (laws.unit_rolling s passed tag e i).1
       at_status tag e CleaningUp i = ends_old-none (N.unit s passed) (cleaned s passed tag e i)
       at_status tag e x i = rw (still s passed x i refl) old
@@ -179,7 +177,7 @@ module _ (N : NodeRules) (laws : NodeLaws N) where
 
   -- a delivery is nothing, or a call that is judged and kept
   pub delivered-cases : (s : N.State) (at : CallNo) (call : Call) (P : N.State → Type 0) → P s → (no_lt at (N.last s) ≡ false → no_eq at (N.last s) ≡ false → P (N.keep (N.judge s call).0 at call (N.judge s call).1)) → P (delivered N s at call)
-  delivered-cases s at call P here there = grind arith steps 500000
+  delivered-cases s at call P here there = grind arith
 
   pub none-delivered : (s : N.State) (at : CallNo) (call : Call) → ((id tag : ℕ) → call ≢ ProcessSwPackage id tag) → N.mine s ≡ None → N.mine (delivered N s at call) ≡ None
   none-delivered s at call not e = grind (arith, laws.keep_session, none-judge)
@@ -189,7 +187,7 @@ module _ (N : NodeRules) (laws : NodeLaws N) where
 
   -- what a Sync shows
   pub sync-shown : (s : N.State) (call : Call) (x : Shown) → call ≡ Sync → (N.judge s call).1 ≡ Synced x → (x.session ≡ shown_session N s) × ((N.judge s call).0 ≡ s)
-  sync-shown s call x e r = grind arith steps 500000
+  sync-shown s call x e r = grind arith
 
   -- what a kept Sync says: of a call just judged, after a foreign call and after a unit
   pub kept-fresh : (s : N.State) (at : CallNo) (call : Call) → KeptHolds N (N.keep (N.judge s call).0 at call (N.judge s call).1)
@@ -201,10 +199,10 @@ module _ (N : NodeRules) (laws : NodeLaws N) where
           sync-shown s call x (laws.synced_only s call x r) r
 
       none_of : (x : Shown) → N.kept (N.keep (N.judge s call).0 at call (N.judge s call).1) ≡ Synced x → is_masters x.session ≡ false → N.mine (N.keep (N.judge s call).0 at call (N.judge s call).1) ≡ None
-      none_of x k f = grind (arith, said, is_masters, laws.keep_session) steps 1500000
+      none_of x k f = grind (arith, said, is_masters, laws.keep_session)
 
       rolled_of : (x : Shown) → N.kept (N.keep (N.judge s call).0 at call (N.judge s call).1) ≡ Synced x → session_status x.session ≡ RolledBack → IsRolledBack N (N.keep (N.judge s call).0 at call (N.judge s call).1)
-      rolled_of x k f tag mine = grind (arith, said, laws.keep_session, session_status) steps 1500000
+      rolled_of x k f tag mine = grind (arith, said, laws.keep_session, session_status)
 
   pub kept-foreign : (s : N.State) (call : N.ForeignCall) → KeptHolds N s → KeptHolds N (N.foreign s call)
   kept-foreign s call h =

@@ -30,10 +30,10 @@ unless-true false e = absurd (cc e)
 
 -- what a record changes in the current campaign, where it changes no part that a node sees
 pub same-refl : (n : ℕ) (c d : Current) → d.campaign ≡ c.campaign → d.named ≡ c.named → d.ended ≡ c.ended → d.decision ≡ c.decision → SameAt n c d
-same-refl n c d a b e g = grind arith steps 500000
+same-refl n c d a b e g = grind arith
 
 pub start-same : (n : ℕ) (c : Current) (epoch : ℕ) → SameAt n c (changed c (Start epoch))
-start-same n c epoch = grind arith steps 500000
+start-same n c epoch = grind arith
 
 pub same-fold : (n : ℕ) (f : Fold) (epoch : ℕ) (e : MasterEvent) → f.epoch ≤ epoch → ((c : Current) → SameAt n c (changed c e)) → SameFold n f (record { epoch = epoch; earlier = f.earlier; current = changed_in f.current e })
 same-fold n f epoch e le same = record { epoch = le; earlier = refl; back = λ d h. back f.current d h; forth = λ c h. forth f.current c h }
@@ -60,7 +60,7 @@ module _ (N : NodeRules) (laws : NodeLaws N) (packages : Packages) (numbers : Li
 
   -- one node changes
   one-node : (w : World N) (n : ℕ) (x : NodeWorld N) → WorldKept w → KeptOld N w.fold n x → WorldKept (with_node N w n x)
-  one-node w n x kept new = grind arith steps 500000
+  one-node w n x kept new = grind arith
 
   -- the reply of a delivery is the one that the node keeps then
   pub reply-facts : (s : N.State) (m : Message) (r : Reply) → (reached N s m.at m.call ≡ Again r) ⊎ (reached N s m.at m.call ≡ Fresh r) → (N.kept (delivered N s m.at m.call) ≡ r) × (Executable N (delivered N s m.at m.call) m → ⊥)
@@ -83,7 +83,7 @@ module _ (N : NodeRules) (laws : NodeLaws N) (packages : Packages) (numbers : Li
   kept-unit-told f n x passed false fold kept = event-unit N laws f n x passed fold kept
 
   pub kept-send : (f : Fold) (n : ℕ) (x : NodeWorld N) (call : Call) (o : Option Current) → f.current ≡ o → InCurrent o (λ c. MaySend packages f.epoch n c x.told x.sent call) → KeptFold f → KeptOld N f n x → KeptOld N f n (record { moves = x.moves; sent = record { at = next_number f.epoch x.sent; call = call; campaign = campaign_of o; decided = decided_of o } ∷ x.sent; told = x.told })
-  kept-send f n x call y e may fold kept = grind (arith, event-send) steps 1500000
+  kept-send f n x call y e may fold kept = grind (arith, event-send)
 
   kept-start : (w : World N) (epoch : ℕ) → epoch ≡ w.fold.epoch + 1 → WorldKept w → WorldKept (emptied N w (after_event w.fold (Start epoch)))
   kept-start w epoch e kept =
@@ -108,7 +108,7 @@ module _ (N : NodeRules) (laws : NodeLaws N) (packages : Packages) (numbers : Li
   kept-begin : (w : World N) (k : ℕ) (named : NodeSet) → w.fold.current ≡ None → all_below k w.fold.earlier ≡ true → WorldKept w → WorldKept (emptied N w (record { epoch = w.fold.epoch; earlier = w.fold.earlier; current = Some (begun k named) }))
   kept-begin w k named none below kept =
       record {
-        fold = grind (arith, some-inj, part-none, below-in) steps 1000000;
+        fold = grind (arith, some-inj, part-none, below-in);
         each = λ n. event-begin N laws n w.fold (w.node n) k named none below (kept.each n);
       }
 
@@ -201,7 +201,7 @@ module _ (N : NodeRules) (laws : NodeLaws N) (packages : Packages) (numbers : Li
   kept-event w Restart allowed kept = kept-start w (w.fold.epoch + 1) refl kept
 
   pub kept-formatted : WorldKept (formatted_world N)
-  kept-formatted = grind arith steps 500000
+  kept-formatted = grind arith
 
   pub kept-opened : (openings : ℕ → N.ForeignCall) → WorldKept (opened_world N openings)
   kept-opened openings = record { fold = kept-formatted.fold; each = λ n. event-foreign N laws nothing_yet n (record { moves = []; sent = []; told = [] }) (openings n) kept-formatted.fold (kept-formatted.each n) }

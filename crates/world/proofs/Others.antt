@@ -26,14 +26,14 @@ use Rattle.pm_types.specs.declared.replies.Reply.TheVariants as reply
 
 -- a numbered call leaves the state, or is judged and kept
 pub foreign-cases : (read : Reading) (s : NodeState) (f : ForeignCall) (P : NodeState → Type 0) → P s → P (after_call s (suc f.other) f.at f.call (verdict_for read s (suc f.other) f.call) (reply_to s (suc f.other) f.call (verdict_for read s (suc f.other) f.call))) → P (foreign_in read s f)
-foreign-cases read s f P here there = grind arith steps 500000
+foreign-cases read s f P here there = grind arith
 
 -- what no call touches
 accepted-last : (s : NodeState) (client : ℕ) (c : Call) (v : Verdict) → (accepted s client c v).last ≡ s.last
-accepted-last s client x v = grind arith steps 1500000
+accepted-last s client x v = grind arith
 
 accepted-ended : (s : NodeState) (client : ℕ) (c : Call) (v : Verdict) → (accepted s client c v).ended ≡ s.ended
-accepted-ended s client x v = grind arith steps 1500000
+accepted-ended s client x v = grind arith
 
 -- client 0's last number and end stay
 pub foreign_last : (read : Reading) (s : NodeState) (f : ForeignCall) → (last_in (foreign_in read s f) ≡ last_in s) × (kept_in (foreign_in read s f) ≡ kept_in s) × (ended_in (foreign_in read s f) ≡ ended_in s)
@@ -59,11 +59,11 @@ same : (s : NodeState) → SameSession s s
 same s = record { session = refl; status = refl }
 
 foreign-keeps : (s : NodeState) (x : Session) (client : ℕ) (c : Call) (v : Verdict) → s.session ≡ Some x → (x.owner == client) ≡ false → SameSession s (judge s client c v).0
-foreign-keeps s x client z v e n = grind arith steps 1500000
+foreign-keeps s x client z v e n = grind arith
 
 pub foreign_session : (read : Reading) (clusters : List (Cluster Bytes)) (s : NodeState) (f : ForeignCall) (tag : ℕ) → mine_in s ≡ Some tag → KeepsSession (real read clusters) s (foreign_in read s f)
 foreign_session read clusters s f tag mine =
-    grind (arith, eqb-other, mine-some, eqb-true, foreign-keeps, verdict_for, foreign-cases, real, keeps-of, after_call, reply_to) steps 2000000
+    grind (arith, eqb-other, mine-some, eqb-true, foreign-keeps, verdict_for, foreign-cases, real, keeps-of, after_call, reply_to)
   where
     eqb-other : (a b : ℕ) → a ≡ 0 → (a == suc b) ≡ false
     eqb-other a b e = elim (eqb_tells a (suc b)) [ inl h ↦ absurd (let z : a ≡ suc b = h.1 in omega (arith, e, z)) | inr h ↦ h.0 ]
@@ -89,20 +89,20 @@ pub record Leaves0 (g : Transfer → Transfer) (t : Transfer) : Type 0 where
 
 ids-left : (g : Transfer → Transfer) (ts : List Transfer) → AllByRecursion (λ t. Leaves0 g t) ts → map (λ (t : Transfer). t.header.id) (filter (λ (t : Transfer). t.header.client == 0) (map g ts)) ≡ map (λ (t : Transfer). t.header.id) (filter (λ (t : Transfer). t.header.client == 0) ts)
 ids-left g [] h = refl
-ids-left g (t ∷ ts) h = grind (arith, ids-left g ts h.1) steps 500000
+ids-left g (t ∷ ts) h = grind (arith, ids-left g ts h.1)
 
 found-left : (j : ℕ) (g : Transfer → Transfer) (ts : List Transfer) → AllByRecursion (λ t. Leaves0 g t) ts → find (λ (t : Transfer). is_of 0 j t.header) (map g ts) ≡ find (λ (t : Transfer). is_of 0 j t.header) ts
 found-left j g [] h = refl
-found-left j g (t ∷ ts) h = grind (arith, found-left j g ts h.1) steps 500000
+found-left j g (t ∷ ts) h = grind (arith, found-left j g ts h.1)
 
 -- a filter that keeps client 0's transfers
 ids-kept : (p : Transfer → Bool) (ts : List Transfer) → AllByRecursion (λ (t : Transfer). (t.header.client == 0) ≡ true → p t ≡ true) ts → filter (λ (t : Transfer). t.header.client == 0) (filter p ts) ≡ filter (λ (t : Transfer). t.header.client == 0) ts
 ids-kept p [] h = refl
-ids-kept p (t ∷ ts) h = grind (arith, ids-kept p ts h.1) steps 500000
+ids-kept p (t ∷ ts) h = grind (arith, ids-kept p ts h.1)
 
 found-kept : (j : ℕ) (p : Transfer → Bool) (ts : List Transfer) → AllByRecursion (λ (t : Transfer). (t.header.client == 0) ≡ true → p t ≡ true) ts → find (λ (t : Transfer). is_of 0 j t.header) (filter p ts) ≡ find (λ (t : Transfer). is_of 0 j t.header) ts
 found-kept j p [] h = refl
-found-kept j p (t ∷ ts) h = grind (arith, found-kept j p ts h.1) steps 500000
+found-kept j p (t ∷ ts) h = grind (arith, found-kept j p ts h.1)
 
 module _ (read : Reading) (clusters : List (Cluster Bytes)) where
   keeps-left : (s t : NodeState) (g : Transfer → Transfer) → AllByRecursion (λ y. Leaves0 g y) s.transfers → t.transfers ≡ map g s.transfers → KeepsTransfers (real read clusters) s t
@@ -131,7 +131,7 @@ module _ (read : Reading) (clusters : List (Cluster Bytes)) where
       each s.transfers (subst (λ o. ChangesAreDue s o) e v.changes).whole v.processing.each) refl
     where
       each : (t : Transfer) → IsPlannedWhole x t t.header.phase → is_in BeingProcessed t.header ≡ some_passes (λ (i : ℕ). i == t.header.id) (id_in_processing s) → (t.header.client == 0) ≡ true → not (is_in BeingProcessed t.header || is_in Processed t.header) ≡ true
-      each t whole being own = grind arith steps 500000
+      each t whole being own = grind arith
 
   -- a unit without a session of client 0
   abbrev Nothing0 : NodeState → NodeState → Type 0
@@ -144,7 +144,7 @@ module _ (read : Reading) (clusters : List (Cluster Bytes)) where
       some-is a b q = cc q
 
       not-mine : (x : Session) → s.session ≡ Some x → (x.owner == 0) ≡ false
-      not-mine x e = grind arith steps 500000
+      not-mine x e = grind arith
 
       over : (a t : NodeState) → Some a ≡ Some t → Nothing0 s a → Nothing0 s (with_entry (UnitAfter t.status) t)
       over a t q k = let e = some-is a t q in subst (λ y. Nothing0 s (with_entry (UnitAfter y.status) y)) e (k.0, k.1, record { transfers = k.2.transfers; received = k.2.received })
@@ -194,11 +194,11 @@ module _ (read : Reading) (clusters : List (Cluster Bytes)) where
   phase-keeps phase = record { id = λ t. refl; client = λ t. refl }
 
   then-led : (s t : NodeState) (c : Call) → KeepsTransfers (real read clusters) s t → KeepsTransfers (real read clusters) s (led_by c t)
-  then-led s t c k = grind arith steps 500000
+  then-led s t c k = grind arith
 
   -- a found transfer of another client is none of client 0's
   others : (s : NodeState) (a id : ℕ) → IsConsistent s → is_none (header_of (transfer_of s (suc a) id)) ≡ false → AllByRecursion (λ (y : Transfer). (y.header.id == id) ≡ true → (y.header.client == suc a) ≡ true) s.transfers
-  others s a id v f = grind (arith, unique) steps 500000
+  others s a id v f = grind (arith, unique)
 
   not-own : (a : ℕ) (t : Transfer) → (t.header.client == 0) ≡ true → (t.header.client == suc a) ≡ true → ⊥
   not-own a t p q = let x : t.header.client ≡ 0 = eqb-true t.header.client 0 p in let y : t.header.client ≡ suc a = eqb-true t.header.client (suc a) q in omega (arith, x, y)
@@ -217,7 +217,7 @@ module _ (read : Reading) (clusters : List (Cluster Bytes)) where
           head-false row rows e = (not-refused row rows e).0
 
           each : (t : Transfer) → ((t.header.id == id) ≡ true → (t.header.client == suc a) ≡ true) → Leaves0 (λ y. if y.header.id == id then record y { header = grown (length bytes) y.header; bytes = y.bytes ++ bytes } else y) t
-          each t h = grind (arith, grown, not-own) steps 1500000
+          each t h = grind (arith, grown, not-own)
 
   delete-others : (s : NodeState) (a id : ℕ) (w : Verdict) → IsConsistent s → KeepsTransfers (real read clusters) s (judge s (suc a) (call.DeleteTransfer id) w).0
   delete-others s a id w v = go (refusal s (suc a) (call.DeleteTransfer id) w) refl
@@ -233,10 +233,10 @@ module _ (read : Reading) (clusters : List (Cluster Bytes)) where
           head-false row rows e = (not-refused row rows e).0
 
           each : (t : Transfer) → ((t.header.id == id) ≡ true → (t.header.client == suc a) ≡ true) → (t.header.client == 0) ≡ true → not (t.header.id == id) ≡ true
-          each t h own = grind (arith, not, not-own) steps 1500000
+          each t h own = grind (arith, not, not-own)
 
   start-others : (s : NodeState) (a size : ℕ) → KeepsTransfers (real read clusters) s (started s (suc a) size)
-  start-others s a size = grind (arith, filter-append, append-nil, find-append) steps 500000
+  start-others s a size = grind (arith, filter-append, append-nil, find-append)
 
   judged-others : (s : NodeState) (a : ℕ) (c : Call) (w : Verdict) → IsConsistent s → KeepsTransfers (real read clusters) s (judge s (suc a) c w).0
   judged-others s a call.Sync w v = keeps-all read clusters s s refl

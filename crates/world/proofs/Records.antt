@@ -24,7 +24,7 @@ index-with _ _ _ v = inr refl
 
 -- another node's part is as before
 pub part-other : {A : Type 0} (xs : List (Option A)) (m n : ℕ) (v : Option A) → n ≢ m → part_of None (with_part xs m v) n ≡ part_of None xs n
-part-other xs x y v d = grind (arith, index-with) steps 1500000
+part-other xs x y v d = grind (arith, index-with)
 
 -- what is there was there, or came now
 pub part-with : {A : Type 0} (xs : List (Option A)) (m n : ℕ) (v : Option A) (y : A) → part_of None (with_part xs m v) n ≡ Some y → (part_of None xs n ≡ Some y) ⊎ ((n ≡ m) × (v ≡ Some y))
@@ -53,7 +53,7 @@ pub flagged-ended : (flags : List Bool) (ended : List (Option Outcome)) (n : ℕ
 flagged-ended flags ended n a q e = let h = flagged-each has_ended None flags ended n a q in let z = ap has_ended e in cc
 
 pub flagged-yes : (flags : List Bool) (votes : List (Option Vote)) (n : ℕ) → all_flagged voted_yes flags votes ≡ true → part_of false flags n ≡ true → part_of None votes n ≡ Some Vote.Yes
-flagged-yes flags votes n a q = grind (arith, flagged-each) steps 500000
+flagged-yes flags votes n a q = grind (arith, flagged-each)
 
 -- What the records of the master keep of the invariant.
 -- the same campaign as node n sees it
@@ -91,7 +91,7 @@ below-append k (x ∷ xs) y h =
     (subst (λ b. (b && all_below k xs) ≡ true) (sym q.0) r.0, r.1)
 
 not-commit : (o : Option Decision) (r : CampaignResult) → is_result_of o r ≡ true → r ≢ Successful → o ≢ Some Commit
-not-commit o r h q e = grind arith steps 500000
+not-commit o r h q e = grind arith
 
 pub below-in : (k : ℕ) (xs : List (ℕ × CampaignResult)) (j : ℕ) (r : CampaignResult) → all_below k xs ≡ true → InEarlier (j, r) xs → j < k
 below-in k [] j r a h = absurd h
@@ -101,13 +101,13 @@ below-in k (x ∷ xs) j r a h =
 
 module _ (N : NodeRules) (laws : NodeLaws N) (n : ℕ) where
   pub forget : (f : Fold) (x : NodeWorld N) → KeptOld N f n x → KeptOld N f n (record { moves = x.moves; sent = x.sent; told = [] })
-  forget f x kept = grind arith steps 500000
+  forget f x kept = grind arith
 
   pub present-forth : (f g : Fold) → SameFold n f g → (P : ℕ → Type 0) → InPresent f n (λ c. P c.campaign) → InPresent g n (λ c. P c.campaign)
-  present-forth f g same P h = grind arith steps 500000
+  present-forth f g same P h = grind arith
 
   fresh-back : (f g : Fold) → SameFold n f g → (k : ℕ) → IsFresh g k → IsFresh f k
-  fresh-back f g same k h = grind arith steps 500000
+  fresh-back f g same k h = grind arith
 
   -- Start, PhaseTo, VoteOf and CancelAsked
   pub event-same : (f g : Fold) (x : NodeWorld N) → SameFold n f g → (g.epoch ≡ f.epoch) ⊎ (x.told ≡ []) → KeptOld N f n x → KeptOld N g n x
@@ -134,7 +134,7 @@ module _ (N : NodeRules) (laws : NodeLaws N) (n : ℕ) where
         ends_old = λ c current d. let b = same.back c current in kept.ends_old b.0 b.1 (λ q. d (b.2.decision ∙ q));
         session = λ tag e. present-forth f g same (λ k. tag ≡ k) (kept.session tag e);
         open_span = kept.open_span;
-        old_so_far = λ c current d. grind (arith, spans) steps 1000000;
+        old_so_far = λ c current d. grind (arith, spans);
         fresh = λ k h. kept.fresh k (fresh-back f g same k h);
         entered = λ k r h q. kept.entered k r (subst (λ l. InEarlier (k, r) l) same.earlier h) q;
       }
@@ -159,7 +159,7 @@ module _ (N : NodeRules) (laws : NodeLaws N) (n : ℕ) where
         ends_old = λ c current d tag mine status. absurd (free tag mine);
         session = λ tag mine. absurd (free tag mine);
         open_span = kept.open_span;
-        old_so_far = λ c current d. grind (arith, some-inj, spans) steps 1000000;
+        old_so_far = λ c current d. grind (arith, some-inj, spans);
         fresh = λ j h. kept.fresh j (back j h.above);
         entered = kept.entered;
       }
@@ -184,7 +184,7 @@ module _ (N : NodeRules) (laws : NodeLaws N) (n : ℕ) where
         epochs = kept.epochs;
         tags = kept.tags;
         early = kept.early;
-        decided = λ m h q c' current' same e. grind (arith, some-inj) steps 1000000;
+        decided = λ m h q c' current' same e. grind (arith, some-inj);
         ordered = kept.ordered;
         begun = λ m h k fresh. kept.begun m h k (back k fresh);
         present = λ m h exec. forth (λ k. m.campaign ≡ k) (kept.present m h exec);
@@ -211,7 +211,7 @@ module _ (N : NodeRules) (laws : NodeLaws N) (n : ℕ) where
       back k h = record { above = h.above; other = λ c' current' q. h.other (record c { decision = Some d }) refl (ap (λ y. y.campaign) (some-inj c c' (sym current ∙ current')) ∙ q) }
 
       forth : (P : ℕ → Type 0) → InPresent f n (λ y. P y.campaign) → InPresent (record { epoch = f.epoch; earlier = f.earlier; current = Some (record c { decision = Some d }) }) n (λ y. P y.campaign)
-      forth P h = grind arith steps 500000
+      forth P h = grind arith
 
       no_finish : (m : Message) → InSent m x.sent → m.call ≡ Finish → Executable N (state_of N x) m → ⊥
       no_finish m h call exec = go m.decided refl
@@ -312,7 +312,7 @@ module _ (N : NodeRules) (laws : NodeLaws N) (n : ℕ) where
       }
     where
       out : (P : ℕ → Type 0) → InPresent f n (λ y. P y.campaign) → ⊥
-      out P h = grind (arith, flagged-ended) steps 500000
+      out P h = grind (arith, flagged-ended)
 
       back : (k : ℕ) → all_below k (f.earlier ++ (c.campaign, r) ∷ []) ≡ true → IsFresh f k
-      back k h = grind (arith, below-append, some-inj) steps 500000
+      back k h = grind (arith, below-append, some-inj)

@@ -54,7 +54,7 @@ module _ (k : ℕ) (ps : List (List ℕ)) where
   next-rest ids (p ∷ left) later some = refl
 
   processed-later : (ids : List ℕ) (taken : ℕ) (later : List ℕ) → processed k ids ≡ rest_of k ps (next_processed ids taken) later
-  processed-later x taken later = grind arith steps 1500000
+  processed-later x taken later = grind arith
 
   -- a fitting reply takes the first call away
   one-on : (stage : Stage) (r : Reply) (rs : List Reply) → ps ≢ [] → Fits stage r → (call : Call) × (call_at k stage ≡ Some call) × (rest_of k ps stage (ids_of (r ∷ rs)) ≡ call ∷ rest_of k ps (onward ps stage r) (ids_of rs))
@@ -85,8 +85,8 @@ module _ (k : ℕ) (ps : List (List ℕ)) where
   )
   one-on (At_process (id ∷ ids) taken) Done rs some h = (ProcessSwPackage id k, refl, ap (λ (l : List Call). ProcessSwPackage id k ∷ l) (processed-later ids (suc taken) (ids_of rs)))
   one-on At_activate Done rs some h = (Activate, refl, refl)
-  one-on Over r rs some h = grind arith steps 500000
-  one-on Refused_once r rs some h = grind arith steps 500000
+  one-on Over r rs some h = grind arith
+  one-on Refused_once r rs some h = grind arith
   one-on _ _ rs some h = absurd h
 
   -- the stages that are reached ask for a call, or all is done
@@ -97,10 +97,10 @@ module _ (k : ℕ) (ps : List (List ℕ)) where
   IsReached _ = Unit {0}
 
   reached-next : (ids : List ℕ) (left : List (List ℕ)) → (left ≡ [] → ids ≢ []) → IsReached (next_package ids left)
-  reached-next x y some = grind arith steps 1500000
+  reached-next x y some = grind arith
 
   reached-processed : (ids : List ℕ) (taken : ℕ) → IsReached (next_processed ids taken)
-  reached-processed x taken = grind arith steps 1500000
+  reached-processed x taken = grind arith
 
   reached-on : (stage : Stage) (r : Reply) → ps ≢ [] → Fits stage r → IsReached (onward ps stage r)
   reached-on At_sync (Synced x) some h = reached-next [] ps (λ e. absurd (some e))
@@ -117,7 +117,7 @@ module _ (k : ℕ) (ps : List (List ℕ)) where
 
   -- with no further reply the first call of the rest comes
   first-is : (stage : Stage) → IsReached stage → call_at k stage ≡ nth_call (rest_of k ps stage []) 0
-  first-is x h = grind arith steps 1500000
+  first-is x h = grind arith
 
   from-stage : (stage : Stage) (rs : List Reply) → ps ≢ [] → IsReached stage → AllFit ps stage rs → call_at k (stage_of ps stage rs) ≡ nth_call (rest_of k ps stage (ids_of rs)) (length rs)
   from-stage stage [] some h fit = first-is stage h
@@ -127,4 +127,4 @@ module _ (k : ℕ) (ps : List (List ℕ)) where
 
   -- the stage's call is the list's call at the number of replies
   pub stages-list : (rs : List Reply) → ps ≢ [] → AllFit ps At_sync rs → call_at k (stage_of ps At_sync rs) ≡ nth_call (round_calls k (ids_of rs) ps) (length rs)
-  stages-list rs some fit = grind (arith, from-stage, processed-is, append_assoc) steps 500000
+  stages-list rs some fit = grind (arith, from-stage, processed-is, append_assoc)

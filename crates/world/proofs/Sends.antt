@@ -15,7 +15,7 @@ IsRoundCall k call = (call ≢ Finish) × ((id tag : ℕ) → call ≡ ProcessSw
 -- the next number is above all that were sent
 pub next-above : (epoch : ℕ) (sent : List Message) → Falling sent → ((m : Message) → InSent m sent → m.at.epoch ≤ epoch) → (older : Message) → InSent older sent → IsBelow older.at (next_number epoch sent)
 next-above epoch [] falling epochs older h = absurd h
-next-above epoch (m ∷ ms) falling epochs older h = grind (arith, first, next_number, below-trans) steps 2000000
+next-above epoch (m ∷ ms) falling epochs older h = grind (arith, first, next_number, below-trans)
   where
     first : IsBelow m.at (next_number epoch (m ∷ ms))
     first = go (nat_eq m.at.epoch epoch) refl
@@ -27,10 +27,10 @@ next-above epoch (m ∷ ms) falling epochs older h = grind (arith, first, next_n
             elim (eqb_tells m.at.epoch epoch) [ inl h2 ↦ absurd (cc (h2.0, q)) | inr h2 ↦ inl (let ne : m.at.epoch ≢ epoch = h2.1 in omega arith) ]
 
 pub next-epoch : (epoch : ℕ) (sent : List Message) → (next_number epoch sent).epoch ≡ epoch
-next-epoch epoch x = grind arith steps 1500000
+next-epoch epoch x = grind arith
 
 none-of : (o : Option Decision) → is_some o ≡ false → o ≡ None
-none-of x e = grind arith steps 1500000
+none-of x e = grind arith
 
 or-false : (b : Bool) → (b || false) ≡ true → b ≡ true
 or-false true e = refl
@@ -47,10 +47,7 @@ module _ (N : NodeRules) (laws : NodeLaws N) (packages : Packages) (f : Fold) (n
         decided = λ m h d c' current' same. elim h [ inl e ↦ new_decided m e d c' current' | inr h' ↦ kept.decided m h' d c' current' same ];
         ordered = λ m older h g same d undecided.
             elim h [
-              | inl e ↦ elim g [
-                | inl e' ↦ absurd (cc (e, e', d, undecided))
-                | inr g' ↦ rw e (above older g')
-              ]
+              | inl e ↦ elim g [ inl e' ↦ absurd (cc (e, e', d, undecided)) | inr g' ↦ rw e (above older g') ]
               | inr h' ↦ elim g [
                 | inl e' ↦ absurd (kept.decided m h' d c current (same ∙ ap (λ y. y.campaign) e') (undecided_of older e' undecided))
                 | inr g' ↦ kept.ordered m older h' g' same d undecided
@@ -90,26 +87,26 @@ module _ (N : NodeRules) (laws : NodeLaws N) (packages : Packages) (f : Fold) (n
       undecided_of m e d = none-of c.decision (sym (ap (λ y. y.decided) e) ∙ d)
 
       round : c.decision ≡ None → IsRoundCall c.campaign call
-      round q = grind arith steps 500000
+      round q = grind arith
 
       late : (d : Decision) → c.decision ≡ Some d → MaySendLate f.epoch n c d x.told call
       late d q = subst (λ o. MaySendBy packages f.epoch n c o x.told x.sent call) q may.by
 
       new_tag : (m : Message) → m ≡ record { at = next_number f.epoch x.sent; call = call; campaign = c.campaign; decided = is_some c.decision } → (id tag : ℕ) → m.call ≡ ProcessSwPackage id tag → (tag ≡ m.campaign) × (m.decided ≡ false)
       new_tag m e id tag q =
-          grind (arith, round, is_some, last_status, last_shown, is_sync, end_call_at, delete_at, late) steps 1500000
+          grind (arith, round, is_some, last_status, last_shown, is_sync, end_call_at, delete_at, late)
 
       new_early : (m : Message) → m ≡ record { at = next_number f.epoch x.sent; call = call; campaign = c.campaign; decided = is_some c.decision } → m.decided ≡ false → m.call ≢ Finish
       new_early m e d q = (round (undecided_of m e d)).0 (sym (ap (λ y. y.call) e) ∙ q)
 
       new_decided : (m : Message) → m ≡ record { at = next_number f.epoch x.sent; call = call; campaign = c.campaign; decided = is_some c.decision } → m.decided ≡ true → (c' : Current) → f.current ≡ Some c' → c'.decision ≢ None
-      new_decided m e d c' current' q = grind arith steps 500000
+      new_decided m e d c' current' q = grind arith
 
       not_ended : end_of c n ≡ None
-      not_ended = grind arith steps 500000
+      not_ended = grind arith
 
       last_rolled : (c' : Current) (cause : Cause) → f.current ≡ Some c' → c'.decision ≡ Some (Abort cause) → call ≡ Finish → last_status c'.campaign f.epoch x.told ≡ Some RolledBack
-      last_rolled c' cause current' abort q = grind arith steps 500000
+      last_rolled c' cause current' abort q = grind arith
 
       none_early : (c' : Current) (cause : Cause) → f.current ≡ Some c' → c'.decision ≡ Some (Abort cause) → NoneEarly N (state_of N x) x.sent → NoneEarly N (state_of N x) (record { at = next_number f.epoch x.sent; call = call; campaign = c.campaign; decided = is_some c.decision } ∷ x.sent)
       none_early c' cause current' abort old m h d exec =

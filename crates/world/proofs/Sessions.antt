@@ -15,13 +15,13 @@ use Rattle.pm_types.specs.declared.replies.Reply.TheVariants as reply
 
 -- client 0's session
 pub mine-some : (s : NodeState) (tag : ℕ) → mine_in s ≡ Some tag → (x : Session) × (s.session ≡ Some x) × ((x.owner == 0) ≡ true) × (x.tag ≡ tag)
-mine-some s tag e = grind arith steps 500000
+mine-some s tag e = grind arith
 
 pub session-there : (s : NodeState) → IsConsistent s → s.status ≢ Idle → (x : Session) × (s.session ≡ Some x)
 session-there s v n = grind arith
 
 pub session_status : (s : NodeState) (tag : ℕ) → IsConsistent s → mine_in s ≡ Some tag → s.status ≢ Idle
-session_status s tag v e q = grind arith steps 500000
+session_status s tag v e q = grind arith
 
 not-false : (b : Bool) → not b ≡ false → b ≡ true
 not-false true e = refl
@@ -29,7 +29,7 @@ not-false false e = absurd (cc e)
 
 -- not another's
 pub not-busy : (s : NodeState) (x : Session) → s.session ≡ Some x → some_passes (λ (y : Session). not (y.owner == 0)) s.session ≡ false → mine_in s ≡ Some x.tag
-not-busy s x e f = grind arith steps 500000
+not-busy s x e f = grind arith
 
 -- what the first two refusals leave
 pub let-through : (s : NodeState) (c : Call) → first_refusal (session_refusals s 0 c) ≡ None → (some_passes (λ (y : Session). not (y.owner == 0)) s.session ≡ false) × (is_none (status_table s.status c) ≡ false)
@@ -47,23 +47,23 @@ module _ (read : Reading) (clusters : List (Cluster Bytes)) where
   not-idle s from e f q = let z : is_status Idle Idle ≡ false = subst (λ st. is_status st Idle ≡ false) (sym e ∙ q) f in cc z
 
   pub activate_mine : (s : NodeState) → IsConsistent s → (judged_in read s Activate).1 ≡ Done → (tag : ℕ) × (mine_in s ≡ Some tag) × (s.status ≡ Ready)
-  activate_mine s v d = grind (arith, done-led, done-none, mine-of, not-idle) steps 500000
+  activate_mine s v d = grind (arith, done-led, done-none, mine-of, not-idle)
 
   pub finish_mine : (s : NodeState) → IsConsistent s → (judged_in read s Finish).1 ≡ Done → (tag : ℕ) × (mine_in s ≡ Some tag) × ((s.status ≡ Activated) ⊎ (s.status ≡ RolledBack))
-  finish_mine s v d = grind (arith, let-through, done-none, mine-of, not-idle) steps 500000
+  finish_mine s v d = grind (arith, let-through, done-none, mine-of, not-idle)
 
   pub rollback_mine : (s : NodeState) → IsConsistent s → (judged_in read s Rollback).1 ≡ Done → (tag : ℕ) × (mine_in s ≡ Some tag) × ((s.status ≡ Verifying) ⊎ (s.status ≡ Activated))
-  rollback_mine s v d = grind (arith, let-through, done-none, mine-of, not-idle) steps 500000
+  rollback_mine s v d = grind (arith, let-through, done-none, mine-of, not-idle)
 
   pub revert_mine : (s : NodeState) → IsConsistent s → (judged_in read s Revert).1 ≡ Done → (tag : ℕ) × (mine_in s ≡ Some tag) × (s.status ≡ Ready)
-  revert_mine s v d = grind (arith, let-through, done-none, mine-of, not-idle) steps 500000
+  revert_mine s v d = grind (arith, let-through, done-none, mine-of, not-idle)
 
   -- what a call that is done makes of client 0's session
   abbrev pub MovesTo : NodeState → NodeState → ℕ → Status → Option Outcome → Type 0
   MovesTo s t tag to o = (mine_in t ≡ Some tag) × (t.status ≡ to) × (planned_in t ≡ planned_in s) × (outcome_in t ≡ o)
 
   pub activate : (s : NodeState) (tag : ℕ) → IsConsistent s → mine_in s ≡ Some tag → (judged_in read s Activate).1 ≡ Done → s.status ≡ Ready → MovesTo s (judged_in read s Activate).0 tag Activating None
-  activate s tag v e d st = grind arith steps 500000
+  activate s tag v e d st = grind arith
 
   pub rollback_verifying : (s : NodeState) (tag : ℕ) → IsConsistent s → mine_in s ≡ Some tag → (judged_in read s Rollback).1 ≡ Done → s.status ≡ Verifying → MovesTo s (judged_in read s Rollback).0 tag RollingBack None
   rollback_verifying s tag v e d st = grind arith
@@ -72,20 +72,20 @@ module _ (read : Reading) (clusters : List (Cluster Bytes)) where
   rollback_activated s tag v e d st = grind arith
 
   pub finish_new : (s : NodeState) (tag : ℕ) → mine_in s ≡ Some tag → (judged_in read s Finish).1 ≡ Done → s.status ≡ Activated → MovesTo s (judged_in read s Finish).0 tag CleaningUp (Some New)
-  finish_new s tag e d st = grind arith steps 500000
+  finish_new s tag e d st = grind arith
 
   pub finish_old : (s : NodeState) (tag : ℕ) → mine_in s ≡ Some tag → (judged_in read s Finish).1 ≡ Done → s.status ≡ RolledBack → MovesTo s (judged_in read s Finish).0 tag CleaningUp (Some Old)
-  finish_old s tag e d st = grind arith steps 500000
+  finish_old s tag e d st = grind arith
 
   pub revert : (s : NodeState) (tag : ℕ) → mine_in s ≡ Some tag → (judged_in read s Revert).1 ≡ Done → s.status ≡ Ready → MovesTo s (judged_in read s Revert).0 tag CleaningUp (Some Old)
-  revert s tag e d st = grind arith steps 500000
+  revert s tag e d st = grind arith
 
   -- a Cancel is refused, or stops what is in processing
   abbrev pub Stopped : NodeState → NodeState → Type 0
   Stopped s t = (tag : ℕ) × (mine_in s ≡ Some tag) × (s.status ≡ Processing) × (mine_in t ≡ Some tag) × ((t.status ≡ Ready) ⊎ ((t.status ≡ CleaningUp) × (outcome_in t ≡ Some Old)))
 
   cancel-from : (st : Status) (id : ℕ) → is_none (status_table st (call.Cancel id)) ≡ false → st ≡ Processing
-  cancel-from x id q = grind arith steps 1500000
+  cancel-from x id q = grind arith
 
   pub cancel : (s : NodeState) (id : ℕ) → IsConsistent s → ((why : Refusal) × ((judged_in read s (call.Cancel id)).1 ≡ reply.Refused why)) ⊎ Stopped s (judged_in read s (call.Cancel id)).0
   cancel s id v = elim (done-or-refused reply.Done (refusal s 0 (call.Cancel id) (verdict_for read s 0 (call.Cancel id))) refl) [ inr r ↦ inl r | inl d ↦ inr (done d) ]
@@ -117,22 +117,21 @@ module _ (read : Reading) (clusters : List (Cluster Bytes)) where
 
   -- ProcessSwPackage
   process-through : (s : NodeState) (id tag : ℕ) → (judged_in read s (ProcessSwPackage id tag)).1 ≡ Done → (some_passes (λ (y : Session). not (y.owner == 0)) s.session ≡ false) × (is_none (status_table s.status (call.ProcessSwPackage id tag)) ≡ false) × (is_wrong_tag s 0 tag ≡ false)
-  process-through s id tag d = grind (arith, nat_tests) steps 500000
+  process-through s id tag d = grind (arith, nat_tests)
 
   process-from : (st : Status) (id tag : ℕ) → is_none (status_table st (call.ProcessSwPackage id tag)) ≡ false → (st ≡ Idle) ⊎ (st ≡ Ready)
-  process-from x id tag q = grind arith steps 1500000
+  process-from x id tag q = grind arith
 
   -- the state after an accepted one
   process-led : (s : NodeState) (id tag : ℕ) → (s.status ≡ Idle) ⊎ (s.status ≡ Ready) → (judged_in read s (ProcessSwPackage id tag)).1 ≡ Done → (judged_in read s (ProcessSwPackage id tag)).0 ≡ record (begin_processing s 0 id tag) { status = Processing }
-  process-led s id tag from d = grind arith steps 500000
+  process-led s id tag from d = grind arith
 
   none-there : (s : NodeState) → IsConsistent s → s.status ≡ Idle → s.session ≡ None
-  none-there s v e = grind arith steps 500000
+  none-there s v e = grind arith
 
   pub process_idle : (s : NodeState) (id tag : ℕ) → IsConsistent s → mine_in s ≡ None → (judged_in read s (ProcessSwPackage id tag)).1 ≡ Done → (s.status ≡ Idle) × (mine_in (judged_in read s (ProcessSwPackage id tag)).0 ≡ Some tag) × ((judged_in read s (ProcessSwPackage id tag)).0.status ≡ Processing) × (planned_in (judged_in read s (ProcessSwPackage id tag)).0 ≡ []) × (id_in_processing (judged_in read s (ProcessSwPackage id tag)).0 ≡ Some id)
   process_idle s id tag v none d =
-      grind (arith, process-through, process-from, mine-of, not-idle, process-led, none-there, judged_in, tag_if) steps 500000
+      grind (arith, process-through, process-from, mine-of, not-idle, process-led, none-there, judged_in, tag_if)
 
   pub process_ready : (s : NodeState) (id tag old : ℕ) → IsConsistent s → mine_in s ≡ Some old → (judged_in read s (ProcessSwPackage id tag)).1 ≡ Done → (s.status ≡ Ready) × (tag ≡ old) × (mine_in (judged_in read s (ProcessSwPackage id tag)).0 ≡ Some old) × ((judged_in read s (ProcessSwPackage id tag)).0.status ≡ Processing) × (planned_in (judged_in read s (ProcessSwPackage id tag)).0 ≡ planned_in s) × (id_in_processing (judged_in read s (ProcessSwPackage id tag)).0 ≡ Some id)
-  process_ready s id tag old v mine d =
-      grind arith
+  process_ready s id tag old v mine d = grind arith

@@ -18,7 +18,7 @@ module _ (read : Reading) (o : NodeState) (es : List Entry) where
 
   -- the state after a call
   pub entered-state : (client : ℕ) (at : CallNo) (c : Call) → state_after read o (entered es client at c (reached read now client at c)) ≡ (step now client at c (verdict_for read now client c)).0
-  entered-state client at c = grind (arith, after-append) steps 500000
+  entered-state client at c = grind (arith, after-append)
 
   or-false : (b : Bool) → (b || false) ≡ b
   or-false true = refl
@@ -32,21 +32,21 @@ module _ (read : Reading) (o : NodeState) (es : List Entry) where
 
   -- the spans after a call of client 0
   pub entered-spans : (k : ℕ) (at : CallNo) (c : Call) (r : Reached) → spans read k o (entered es 0 at c r) ≡ same (spans read k o es) (has_tag k c && (is_status now.status Idle && is_fresh_done r))
-  entered-spans k at c x = grind (arith, spans-append, unchanged) steps 1500000
+  entered-spans k at c x = grind (arith, spans-append, unchanged)
 
   -- another client's calls begin and end none
   pub foreign-spans : (k other : ℕ) (at : CallNo) (c : Call) (r : Reached) → spans read k o (entered es (suc other) at c r) ≡ spans read k o es
-  foreign-spans k other at c x = grind (arith, spans-append, unchanged) steps 1500000
+  foreign-spans k other at c x = grind (arith, spans-append, unchanged)
 
   abbrev entry : NodeState → NodeState
   entry t = with_entry (UnitLine t.status) t
 
   -- the state after a unit
   pub worked-state : (passed : Bool) → state_after read o (worked_on es passed (unit now passed)) ≡ unit_in now passed
-  worked-state passed = grind (arith, after-append) steps 500000
+  worked-state passed = grind (arith, after-append)
 
   pub worked-status : (passed : Bool) → shown_by now (unit now passed) ≡ (unit_in now passed).status
-  worked-status passed = grind arith steps 500000
+  worked-status passed = grind arith
 
   joined : (b c : Bool) (a x y : Spans) → x ≡ y → (if c && b then a else x) ≡ (if b && c then a else y)
   joined b c a x y e = grind arith
@@ -97,14 +97,12 @@ module _ (read : Reading) (keeps : KeepsNode read []) where
 
   -- a message of the master arrives
   pub same-deliver : (x : NodeWorld) (y : rules.NodeWorld (fit read [] keeps)) (m : Message) (told : Bool) → 0 < m.at.epoch → SameNode x y → SameNode (delivered read x (Some m) told) (rules.deliver_to (fit read [] keeps) y (Some m) told)
-  same-deliver x y m told low h =
-      grind (arith, delivered-state, entered-state, entered-spans, fit, delivered-reached)
+  same-deliver x y m told low h = grind (arith, delivered-state, entered-state, entered-spans, fit, delivered-reached)
 
   pub same-foreign : (x : NodeWorld) (y : rules.NodeWorld (fit read [] keeps)) (f : ForeignCall) → SameNode x y
       → SameNode (called read x (suc f.other) f.at f.call) (record { moves = rules.Foreign (Calls f) ∷ y.moves; sent = y.sent; told = y.told })
-  same-foreign x y f h = grind (arith, entered-state, foreign-spans) steps 500000
+  same-foreign x y f h = grind (arith, entered-state, foreign-spans)
 
   pub same-work : (x : NodeWorld) (y : rules.NodeWorld (fit read [] keeps)) (passed told : Bool) → SameNode x y
       → SameNode (worked read x passed told) (record { moves = rules.Unit_done passed ∷ y.moves; sent = y.sent; told = if told then Showed (rules.NodeRules.status N (rules.NodeRules.unit N (rules.state_of (fit read [] keeps) y) passed)) ∷ y.told else y.told })
-  same-work x y passed told h =
-      grind (arith, worked-state, worked-status, unit-is, unit_in, worked-spans, fit)
+  same-work x y passed told h = grind (arith, worked-state, worked-status, unit-is, unit_in, worked-spans, fit)

@@ -22,7 +22,7 @@ abbrev HasStarted : Fold → Type 0
 HasStarted f = (c : Current) → f.current ≡ Some c → 0 < f.epoch
 
 started-after : (f : Fold) (e : MasterEvent) → refusal_of f e ≡ None → HasStarted f → HasStarted (after_event f e)
-started-after f y r h = grind arith steps 1500000
+started-after f y r h = grind arith
 
 nth-has : (P : Message → Type 0) (ms : List Message) (i : ℕ) (m : Message) → AllByRecursion P ms → nth_sent ms i ≡ Some m → P m
 nth-has P [] i m h e = absurd (cc)
@@ -30,7 +30,7 @@ nth-has P (x ∷ ms) zero m h e = let same : x ≡ m = cc e in subst P same h.0
 nth-has P (x ∷ ms) (suc i) m h e = nth-has P ms i m h.1 e
 
 next-epoch : (epoch : ℕ) (ms : List Message) → (next_number epoch ms).epoch ≡ epoch
-next-epoch epoch x = grind arith steps 1500000
+next-epoch epoch x = grind arith
 
 module _ (read : Reading) (keeps : KeepsNode read []) (packages : Packages) (numbers : List ℕ) where
   -- an event of the rules that does what one of the tables does
@@ -38,7 +38,7 @@ module _ (read : Reading) (keeps : KeepsNode read []) (packages : Packages) (num
   Follows w v e = (f : rules.Event (fit read [] keeps)) × rules.Allowed (fit read [] keeps) packages numbers v f × SameWorld read keeps (happens read w e) (rules.happens (fit read [] keeps) v f)
 
   same-with : (w : World) (v : rules.World (fit read [] keeps)) (n : ℕ) (x : NodeWorld) (y : rules.NodeWorld (fit read [] keeps)) → SameWorld read keeps w v → SameNode read keeps x y → SameWorld read keeps (with_node w n x) (rules.with_node (fit read [] keeps) v n y)
-  same-with w v n x y h k = grind arith steps 500000
+  same-with w v n x y h k = grind arith
 
   deliver : (w : World) (v : rules.World (fit read [] keeps)) (n which : ℕ) (told : Bool) → SameWorld read keeps w v → which < length (w.node n).sent → Follows w v (Deliver n which told)
   deliver w v n which told h allowed = (
@@ -78,17 +78,17 @@ module _ (read : Reading) (keeps : KeepsNode read []) (packages : Packages) (num
   )
     where
       may : InCurrent v.fold.current (λ c. MaySend packages v.fold.epoch n c (v.node n).told (v.node n).sent call)
-      may = grind arith steps 500000
+      may = grind arith
 
       positive : (o : Option Current) → v.fold.current ≡ o → InCurrent o (λ c. MaySend packages v.fold.epoch n c (v.node n).told (v.node n).sent call) → 0 < v.fold.epoch
       positive None e m = absurd m
       positive (Some c) e m = h.started c e
 
   evidence : (w : World) (v : rules.World (fit read [] keeps)) (e : MasterEvent) → SameWorld read keeps w v → HasEvidence packages numbers w e → rules.Evidence (fit read [] keeps) packages numbers v e
-  evidence w v x h has = grind arith steps 1500000
+  evidence w v x h has = grind arith
 
   same-recorded : (w : World) (v : rules.World (fit read [] keeps)) (e : MasterEvent) → SameWorld read keeps w v → HasStarted (after_event v.fold e) → SameWorld read keeps (recorded w e) (rules.recorded (fit read [] keeps) v e)
-  same-recorded w v e h started = grind (arith, fold-append, fit) steps 500000
+  same-recorded w v e h started = grind (arith, fold-append, fit)
 
   follows : (w : World) (v : rules.World (fit read [] keeps)) (e : Event) → SameWorld read keeps w v → IsAllowed read packages numbers w e → Follows w v e
   follows w v (Deliver n which told) h allowed = deliver w v n which told h allowed
@@ -133,7 +133,7 @@ keeps-node read reading =
 
 module _ (read : Reading) (keeps : KeepsNode read []) (k : ℕ) (packages : List (List ℕ)) (x : NodeWorld) (y : rules.NodeWorld (fit read [] keeps)) (same : SameNode read keeps x y) where
   left-old : rules.IsOld (fit read [] keeps) k y.moves → IsOld read k x.opening x.history
-  left-old h = grind (arith, each, fit) steps 2000000
+  left-old h = grind (arith, each, fit)
     where
       each : (zs : List (rules.Span (fit read [] keeps))) → rules.EachEnded (fit read [] keeps) (λ z. z.left.state.running ≡ saved_in z.before.state) zs → AllByRecursion (λ (z : Span). z.left ≡ z.saved) (map (told_span read keeps) zs)
       each [] e = tt

@@ -34,13 +34,13 @@ unit-cases s passed P here there = go s.session refl
     go (Some x) e = done x e (unit_of s x passed s.status) refl
 
 pub unit-is : (s : NodeState) (passed : Bool) (x : Session) (t : NodeState) → s.session ≡ Some x → unit_of s x passed s.status ≡ Some t → unit_in s passed ≡ with_entry (UnitAfter t.status) t
-unit-is s passed x t e q = grind arith steps 500000
+unit-is s passed x t e q = grind arith
 
 pub unit_last : (s : NodeState) (passed : Bool) → (last_in (unit_in s passed) ≡ last_in s) × (kept_in (unit_in s passed) ≡ kept_in s)
-unit_last s passed = grind arith steps 500000
+unit_last s passed = grind arith
 
 pub unit_still : (s : NodeState) (passed : Bool) → is_working s.status ≡ false → unit_in s passed ≡ s
-unit_still s passed w = grind arith steps 500000
+unit_still s passed w = grind arith
 
 -- client 0's session under a unit
 abbrev pub GoesTo : NodeState → NodeState → ℕ → (Status → Type 0) → Type 0
@@ -50,18 +50,18 @@ at-status : (s : NodeState) (x : Session) (passed : Bool) (st : Status) (t : Nod
 at-status s x passed st t e q = ap (λ y. unit_of s x passed y) e ∙ q
 
 pub unit_activating : (s : NodeState) (passed : Bool) (tag : ℕ) → mine_in s ≡ Some tag → s.status ≡ Activating → GoesTo s (unit_in s passed) tag (λ to. to ≡ Verifying)
-unit_activating s passed tag mine st = grind arith steps 500000
+unit_activating s passed tag mine st = grind arith
 
 pub unit_rolling : (s : NodeState) (passed : Bool) (tag : ℕ) → mine_in s ≡ Some tag → s.status ≡ RollingBack → GoesTo s (unit_in s passed) tag (λ to. to ≡ RolledBack)
-unit_rolling s passed tag mine st = grind arith steps 500000
+unit_rolling s passed tag mine st = grind arith
 
 pub unit_verifying : (s : NodeState) (passed : Bool) (tag : ℕ) → mine_in s ≡ Some tag → s.status ≡ Verifying → GoesTo s (unit_in s passed) tag (λ to. (to ≡ Verifying) ⊎ ((to ≡ Activated) ⊎ (to ≡ RollingBack)))
-unit_verifying s passed tag mine st = grind arith steps 500000
+unit_verifying s passed tag mine st = grind arith
 
 -- the end of a session of client 0
 pub unit_cleaning : (s : NodeState) (passed : Bool) (tag : ℕ) (o : Outcome) → IsConsistent s → mine_in s ≡ Some tag → s.status ≡ CleaningUp → outcome_in s ≡ Some o → (mine_in (unit_in s passed) ≡ None) × ((unit_in s passed).status ≡ Idle) × (ended_in (unit_in s passed) ≡ Some (record { tag = tag; outcome = o }))
 unit_cleaning s passed tag o v mine st out =
-    grind (arith, unit-is, at-status, eqb-true, get_or-set_same, mine_in, ended_in) steps 500000
+    grind (arith, unit-is, at-status, eqb-true, get_or-set_same, mine_in, ended_in)
 
 -- what it leaves
 runs : (s : NodeState) (x : Session) → IsConsistent s → s.session ≡ Some x → s.running ≡ should_run x s.status x.outcome
@@ -73,16 +73,16 @@ names-of (c ∷ cs) = ap (λ (l : List (List ℕ)). cluster_of c.part ∷ l) (na
 
 pub cleaning_new : (s : NodeState) (passed : Bool) (tag : ℕ) → IsConsistent s → mine_in s ≡ Some tag → s.status ≡ CleaningUp → outcome_in s ≡ Some New → BringsIn (planned_in s) s (unit_in s passed)
 cleaning_new s passed tag v mine st out =
-    grind (arith, unit-is, at-status, runs, planned_in, names-of, unit_in, runs-new, planned-run, run_parts) steps 500000
+    grind (arith, unit-is, at-status, runs, planned_in, names-of, unit_in, runs-new, planned-run, run_parts)
 
 pub cleaning_old : (s : NodeState) (passed : Bool) (tag : ℕ) → IsConsistent s → mine_in s ≡ Some tag → s.status ≡ CleaningUp → outcome_in s ≡ Some Old → LeavesIn s (unit_in s passed)
 cleaning_old s passed tag v mine st out = grind arith
 
 pub processing_id : (s : NodeState) (tag : ℕ) → IsConsistent s → s.status ≡ Processing → (id : ℕ) × (id_in_processing s ≡ Some id)
-processing_id s tag v st = grind arith steps 500000
+processing_id s tag v st = grind arith
 
 pub cleaning_outcome : (s : NodeState) (tag : ℕ) → IsConsistent s → mine_in s ≡ Some tag → s.status ≡ CleaningUp → (o : Outcome) × (outcome_in s ≡ Some o)
-cleaning_outcome s tag v mine st = grind arith steps 500000
+cleaning_outcome s tag v mine st = grind arith
 
 -- Laws of the real node: client 0's transfers under its own calls and under units.
 ids-changed : (c id : ℕ) (f : Transfer → Transfer) → KeepsNames f → (ts : List Transfer) → map (λ (t : Transfer). t.header.id) (filter (λ (t : Transfer). t.header.client == c) (map (changed id f) ts)) ≡ map (λ (t : Transfer). t.header.id) (filter (λ (t : Transfer). t.header.client == c) ts)
@@ -91,7 +91,7 @@ ids-changed c id f k (t ∷ ts) = grind (arith, ids-changed c id f k ts)
 
 pub find-all : (P : Transfer → Type 0) (p : Transfer → Bool) (ts : List Transfer) (t : Transfer) → AllByRecursion P ts → find p ts ≡ Some t → P t
 find-all P p [] t a e = absurd (cc e)
-find-all P p (y ∷ ys) t a e = grind (arith, find-all P p ys t a.1) steps 500000
+find-all P p (y ∷ ys) t a e = grind (arith, find-all P p ys t a.1)
 
 abbrev pub data-rest : Option Header → ℕ → ℕ → List (Bool × Refusal)
 data-rest found counter size =
@@ -102,10 +102,10 @@ data-rest found counter size =
 
 module _ (read : Reading) (clusters : List (Cluster Bytes)) where
   pub keeps-all : (s t : NodeState) → t.transfers ≡ s.transfers → KeepsTransfers (real read clusters) s t
-  keeps-all s t e = grind arith steps 500000
+  keeps-all s t e = grind arith
 
   pub keeps-changed : (s t : NodeState) (id : ℕ) (f : Transfer → Transfer) → KeepsNames f → ((y : Transfer) → (f y).bytes ≡ y.bytes) → t.transfers ≡ map (changed id f) s.transfers → KeepsTransfers (real read clusters) s t
-  keeps-changed s t id f k b e = grind (arith, ids-changed, found-changed) steps 500000
+  keeps-changed s t id f k b e = grind (arith, ids-changed, found-changed)
 
   phase-names : (phase : Phase) → KeepsNames (λ t. record t { header = in_phase phase t.header })
   phase-names phase = record { id = λ t. refl; client = λ t. refl }
@@ -117,7 +117,7 @@ module _ (read : Reading) (clusters : List (Cluster Bytes)) where
       (keeps-changed s (exited s id (verdict_for read s 0 (call.TransferExit id))) id (λ t. record t { header = in_phase Transferred t.header; parts = parts_read (verdict_for read s 0 (call.TransferExit id)) }) (record { id = λ t. refl; client = λ t. refl }) (λ t. refl) refl)
 
   led-transfers : (c : Call) (s : NodeState) → (led_by c s).transfers ≡ s.transfers
-  led-transfers c s = grind arith steps 500000
+  led-transfers c s = grind arith
 
   pub process_received : (s : NodeState) (id tag : ℕ) → KeepsTransfers (real read clusters) s (judged_in read s (ProcessSwPackage id tag)).0
   process_received s id tag =
@@ -129,7 +129,7 @@ module _ (read : Reading) (clusters : List (Cluster Bytes)) where
   block-names bytes = record { id = λ t. refl; client = λ t. refl }
 
   pub data_transfers : (s : NodeState) (id counter : ℕ) (bytes : List ℕ) → ids_of (judged_in read s (TransferData id counter bytes)).0 0 ≡ ids_of s 0
-  data_transfers s id counter bytes = grind (arith, ids-changed, block-names) steps 500000
+  data_transfers s id counter bytes = grind (arith, ids-changed, block-names)
 
   pub data_received : (s : NodeState) (id counter : ℕ) (bytes : List ℕ) → (judged_in read s (TransferData id counter bytes)).1 ≡ Done → (received_in (judged_in read s (TransferData id counter bytes)).0 id ≡ received_in s id ++ bytes) × ((other : ℕ) → other ≢ id → received_in (judged_in read s (TransferData id counter bytes)).0 other ≡ received_in s other)
   data_received s id counter bytes d =
@@ -137,7 +137,7 @@ module _ (read : Reading) (clusters : List (Cluster Bytes)) where
 
   ids-below : (next : ℕ) (ts : List Transfer) → AllByRecursion (IsSound next) ts → AllByRecursion (λ (n : ℕ). n < next) (map (λ (t : Transfer). t.header.id) (filter (λ (t : Transfer). t.header.client == 0) ts))
   ids-below next [] a = tt
-  ids-below next (t ∷ ts) a = grind (arith, ids-below next ts a.1) steps 500000
+  ids-below next (t ∷ ts) a = grind (arith, ids-below next ts a.1)
 
   not-below : (b : ℕ) (l : List ℕ) → AllByRecursion (λ (n : ℕ). n < b) l → Contains l b → ⊥
   not-below b l a h = at l a h.0 h.1 h.2
@@ -196,9 +196,8 @@ module _ (read : Reading) (clusters : List (Cluster Bytes)) where
   parts-back id (p ∷ ps) = ap (λ (l : List (Part Bytes)). p ∷ l) (parts-back id ps)
 
   parts-are : (s : NodeState) (x : Session) (id : ℕ) → IsFit read s → s.session ≡ Some x → (x.owner == 0) ≡ true → x.processing ≡ Some id → parts_of_id s x id ≡ parts_read (read (received_in s id))
-  parts-are s x id fit e owner p =
-      grind (arith, received_in, find-all, found-is, eq-eqb) steps 500000
+  parts-are s x id fit e owner p = grind (arith, received_in, find-all, found-is, eq-eqb)
 
   pub unit_processing : (s : NodeState) (passed : Bool) (tag id : ℕ) → IsFit read s → mine_in s ≡ Some tag → s.status ≡ Processing → id_in_processing s ≡ Some id → (mine_in (unit_in s passed) ≡ Some tag) × (ended_in (unit_in s passed) ≡ ended_in s) × ((((unit_in s passed).status ≡ Processing) × (planned_in (unit_in s passed) ≡ planned_in s) × (id_in_processing (unit_in s passed) ≡ Some id)) ⊎ (((unit_in s passed).status ≡ Ready) × (planned_in (unit_in s passed) ≡ planned_in s ++ parts_read (read (received_in s id)))))
   unit_processing s passed tag id fit mine st p =
-      grind (arith, unit-is, mine_in, ended_in, planned_in, received_in, tag_if, map-append, parts-back, parts-are) steps 500000
+      grind (arith, unit-is, mine_in, ended_in, planned_in, received_in, tag_if, map-append, parts-back, parts-are)

@@ -14,7 +14,7 @@ same-names : (a b : List ℕ) → a ≡ b → bytes_eq a b ≡ true
 same-names a b e = (bytes_eq-Decides a b).1 e
 
 eq-swap : (a b : List ℕ) → bytes_eq a b ≡ bytes_eq b a
-eq-swap a b = grind (arith, same-names, eq-names) steps 500000
+eq-swap a b = grind (arith, same-names, eq-names)
 
 lt-not_eq : (a b : List ℕ) → bytes_eq a b ≡ true → name_lt a b ≡ false
 lt-not_eq a b e = go (slice_cmp nat_cmp a b) (sym (texts_ties a b) ∙ e)
@@ -34,8 +34,8 @@ lt-other a b e = go (slice_cmp nat_cmp a b) (slice_cmp nat_cmp b a) (sym (texts_
 
 -- a filter by name keeps what is found, or leaves nothing
 found-by_name : (q : List ℕ → Bool) (name : List ℕ) (cs : List (Cluster Bytes)) → find (λ (c : Cluster Bytes). bytes_eq c.name name) (filter (λ (d : Cluster Bytes). q d.name) cs) ≡ cond (q name) (find (λ (c : Cluster Bytes). bytes_eq c.name name) cs) None
-found-by_name q name [] = grind arith steps 500000
-found-by_name q name (d ∷ ds) = grind (arith, eq-names, found-by_name q name ds) steps 500000
+found-by_name q name [] = grind arith
+found-by_name q name (d ∷ ds) = grind (arith, eq-names, found-by_name q name ds)
 
 with-at : (c : Cluster Bytes) (cs : List (Cluster Bytes)) (name : List ℕ) → cluster_at (with_cluster c cs) name ≡ cond (bytes_eq c.name name) (Some c) (cluster_at cs name)
 with-at c cs name =
@@ -47,8 +47,8 @@ with-at c cs name =
     go : (e : Bool) → bytes_eq c.name name ≡ e → (l : Bool) → name_lt name c.name ≡ l → option_or (cond l (cluster_at cs name) None) (cond e (Some c) (cond (name_lt c.name name) (cluster_at cs name) None)) ≡ cond e (Some c) (cluster_at cs name)
     go true p true q = absurd (let z = lt-not_eq name c.name (eq-swap name c.name ∙ p) in cc (z, q))
     go true p false q = refl
-    go false p true q = grind arith steps 500000
-    go false p false q = grind (arith, lt-other, eq-swap) steps 500000
+    go false p true q = grind arith
+    go false p false q = grind (arith, lt-other, eq-swap)
 
 without-at : (n : List ℕ) (cs : List (Cluster Bytes)) (name : List ℕ) → cluster_at (without n cs) name ≡ cond (bytes_eq n name) None (cluster_at cs name)
 without-at n cs name = found-by_name (λ m. not (bytes_eq m n)) name cs ∙ (ap (λ x. cond (not x) (cluster_at cs name) None) (eq-swap name n) ∙ go (bytes_eq n name))
@@ -58,7 +58,7 @@ without-at n cs name = found-by_name (λ m. not (bytes_eq m n)) name cs ∙ (ap 
     go false = refl
 
 changed-at : (p : Part Bytes) (cs : List (Cluster Bytes)) (name : List ℕ) → cluster_at (changed_by p cs) name ≡ cond (bytes_eq (cluster_of p) name) (left_by p.manifest.action (brought p)) (cluster_at cs name)
-changed-at p cs name = grind (arith, without-at, with-at) steps 500000
+changed-at p cs name = grind (arith, without-at, with-at)
 
 -- the clusters after the parts, each in turn
 abbrev pub run_parts : List (Part Bytes) → List (Cluster Bytes) → List (Cluster Bytes)
@@ -100,4 +100,4 @@ run-named (q ∷ qs) cs p d h =
     ]
 
 pub runs-new : (ps : List (Part Bytes)) (saved running : List (Cluster Bytes)) → all_differ (map cluster_of ps) ≡ true → running ≡ run_parts ps saved → RunsNew ps saved running
-runs-new ps saved running d e = grind (arith, run-named, run-others) steps 500000
+runs-new ps saved running d e = grind (arith, run-named, run-others)

@@ -23,7 +23,7 @@ abbrev read : Reading
 read bytes = Ok (part ∷ [])
 
 reading : IsReading read
-reading = grind arith steps 500000
+reading = grind arith
 
 -- campaign 7 has one package, for node 1
 abbrev packages : Packages
@@ -70,7 +70,7 @@ abbrev start : World
 start = opened (λ n. [])
 
 names : NamesOf packages 7 one
-names = grind arith steps 500000
+names = grind arith
 
 -- what the last Sync shows
 abbrev shown : Outcome → Shown
