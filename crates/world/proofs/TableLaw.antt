@@ -1,7 +1,7 @@
 -- Whole worlds: every event of the tables is one of the rules.
 use Rattle.world.proofs.Names.{◌≡◌, refl, sym, ap, subst, ◌∙◌, ℕ, zero, suc, ◌+◌, ◌<◌, ◌≤◌, Bool, List, [], ◌∷◌}
 use Rattle.world.proofs.Names.{length, arith, Option, Some, None, AllByRecursion, Bytes, CallNo, Call, Cluster}
-use Rattle.world.proofs.Names.{Reading, MasterEvent, Start, Current, Fold, campaign, refusal_of, after_event}
+use Rattle.world.proofs.Names.{Reading, MasterEvent, Start, Current, Fold, refusal_of, after_event}
 use Rattle.world.proofs.Names.{IsInstalled, Message, nth_sent, Packages, MaySend, next_number, campaign_of}
 use Rattle.world.proofs.Names.{decided_of, InCurrent, NodeWorld, World, fold_of, Event, Deliver, Foreign, Work, Send}
 use Rattle.world.proofs.Names.{Record, Restart, HasEvidence, IsAllowed, delivered, message, with_node, recorded}
