@@ -36,10 +36,6 @@ pub let-through : (s : NodeState) (c : Call) → first_refusal (session_refusals
 let-through s c e = grind arith
 
 module _ (read : Reading) (clusters : List (Cluster Bytes)) where
-  -- the six calls' first refusals
-  done-led : (s : NodeState) (c : Call) (o : Option Refusal) → option_or (first_refusal (session_refusals s 0 c)) o ≡ None → (some_passes (λ (y : Session). not (y.owner == 0)) s.session ≡ false) × (is_none (status_table s.status c) ≡ false)
-  done-led s c o e = let-through s c (or-none (first_refusal (session_refusals s 0 c)) o e).0
-
   mine-of : (s : NodeState) → IsConsistent s → s.status ≢ Idle → some_passes (λ (y : Session). not (y.owner == 0)) s.session ≡ false → (tag : ℕ) × (mine_in s ≡ Some tag)
   mine-of s v n f = let x = session-there s v n in (x.0.tag, not-busy s x.0 x.1 f)
 
@@ -47,7 +43,7 @@ module _ (read : Reading) (clusters : List (Cluster Bytes)) where
   not-idle s from e f q = let z : is_status Idle Idle ≡ false = subst (λ st. is_status st Idle ≡ false) (sym e ∙ q) f in cc z
 
   pub activate_mine : (s : NodeState) → IsConsistent s → (judged_in read s Activate).1 ≡ Done → (tag : ℕ) × (mine_in s ≡ Some tag) × (s.status ≡ Ready)
-  activate_mine s v d = grind (arith, done-led, done-none, mine-of, not-idle)
+  activate_mine s v d = grind (arith, done-none, mine-of, not-idle)
 
   pub finish_mine : (s : NodeState) → IsConsistent s → (judged_in read s Finish).1 ≡ Done → (tag : ℕ) × (mine_in s ≡ Some tag) × ((s.status ≡ Activated) ⊎ (s.status ≡ RolledBack))
   finish_mine s v d = grind (arith, let-through, done-none, mine-of, not-idle)
@@ -115,23 +111,9 @@ module _ (read : Reading) (clusters : List (Cluster Bytes)) where
           goes x e [] = inr (refl, ap (λ o. option_and_then (λ (y : Session). y.outcome) (option_map (λ (y : Session). record y { outcome = Some Old }) (option_map stop o))) e)
           goes x e (c ∷ rest) = inl refl
 
-  -- ProcessSwPackage
-  process-through : (s : NodeState) (id tag : ℕ) → (judged_in read s (ProcessSwPackage id tag)).1 ≡ Done → (some_passes (λ (y : Session). not (y.owner == 0)) s.session ≡ false) × (is_none (status_table s.status (call.ProcessSwPackage id tag)) ≡ false) × (is_wrong_tag s 0 tag ≡ false)
-  process-through s id tag d = grind (arith, nat_tests)
-
-  process-from : (st : Status) (id tag : ℕ) → is_none (status_table st (call.ProcessSwPackage id tag)) ≡ false → (st ≡ Idle) ⊎ (st ≡ Ready)
-  process-from x id tag q = grind arith
-
-  -- the state after an accepted one
-  process-led : (s : NodeState) (id tag : ℕ) → (s.status ≡ Idle) ⊎ (s.status ≡ Ready) → (judged_in read s (ProcessSwPackage id tag)).1 ≡ Done → (judged_in read s (ProcessSwPackage id tag)).0 ≡ record (begin_processing s 0 id tag) { status = Processing }
-  process-led s id tag from d = grind arith
-
-  none-there : (s : NodeState) → IsConsistent s → s.status ≡ Idle → s.session ≡ None
-  none-there s v e = grind arith
-
   pub process_idle : (s : NodeState) (id tag : ℕ) → IsConsistent s → mine_in s ≡ None → (judged_in read s (ProcessSwPackage id tag)).1 ≡ Done → (s.status ≡ Idle) × (mine_in (judged_in read s (ProcessSwPackage id tag)).0 ≡ Some tag) × ((judged_in read s (ProcessSwPackage id tag)).0.status ≡ Processing) × (planned_in (judged_in read s (ProcessSwPackage id tag)).0 ≡ []) × (id_in_processing (judged_in read s (ProcessSwPackage id tag)).0 ≡ Some id)
   process_idle s id tag v none d =
-      grind (arith, process-through, process-from, mine-of, not-idle, process-led, none-there, judged_in, tag_if)
+      grind (arith, mine-of, not-idle, judged_in, tag_if)
 
   pub process_ready : (s : NodeState) (id tag old : ℕ) → IsConsistent s → mine_in s ≡ Some old → (judged_in read s (ProcessSwPackage id tag)).1 ≡ Done → (s.status ≡ Ready) × (tag ≡ old) × (mine_in (judged_in read s (ProcessSwPackage id tag)).0 ≡ Some old) × ((judged_in read s (ProcessSwPackage id tag)).0.status ≡ Processing) × (planned_in (judged_in read s (ProcessSwPackage id tag)).0 ≡ planned_in s) × (id_in_processing (judged_in read s (ProcessSwPackage id tag)).0 ≡ Some id)
   process_ready s id tag old v mine d = grind arith
