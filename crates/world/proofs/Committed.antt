@@ -9,8 +9,7 @@ use Rattle.world.proofs.Names.{MaySendLate, has_tag}
 use Rattle.world.proofs.Rules.{NodeRules, NodeLaws, KeepsSession, Move, Delivered, Foreign, Unit_done, after, Spans}
 use Rattle.world.proofs.Rules.{spans, begins_span, IsNew, reached, delivered, NodeWorld, state_of, is_fresh_done}
 use Rattle.world.proofs.Rules.{InEarlier}
-use Rattle.world.proofs.Invariant.{Executable, KeptOld, KeptFold}
-use Rattle.world.proofs.NodeLemmas.{refused-or}
+use Rattle.world.proofs.Invariant.{Executable, KeptOld, KeptFold, refused-or}
 use Rattle.world.proofs.Events.{above-last, begins-mine, and-left}
 use Rattle.world.proofs.Records.{flagged-ended, SameFold, some-inj, in-append}
 

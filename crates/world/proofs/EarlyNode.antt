@@ -8,9 +8,8 @@ use Rattle.world.proofs.Names.{call_at, onward, stage_of, one_if, replies_of, ac
 use Rattle.world.proofs.Rules.{NodeRules, NodeLaws, reached, delivered, Span}
 use Rattle.world.proofs.Invariant.{Executable}
 use Rattle.world.proofs.EarlyFacts.{ClientEntry, judged, with_entry, InEntries, stage_after, Follows, IsAt, AllDone}
-use Rattle.world.proofs.EarlyFacts.{OneWaits, AllTold, OlderTold, EarlyAt}
+use Rattle.world.proofs.EarlyFacts.{OneWaits, AllTold, OlderTold, EarlyAt, at-foreign, at-unit, at-keep, at-judge}
 use Rattle.world.proofs.Events.{below-irrefl}
-use Rattle.world.proofs.AtRounds.{at-foreign, at-unit, at-keep, at-judge}
 
 pub same-no : (a b : CallNo) → no_eq a b ≡ true → a ≡ b
 same-no a b e = grind arith

@@ -13,11 +13,10 @@ use Rattle.world.proofs.Rules.{NodeRules, NodeLaws, delivered, reached, Move, De
 use Rattle.world.proofs.Rules.{NodeWorld, step, state_of, Span, Spans, spans, is_fresh_done, begins_span, EachEnded}
 use Rattle.world.proofs.Rules.{after}
 use Rattle.world.proofs.Invariant.{IsRolledBack, EndsOld, KeptHolds, Executable, NoneEarly, InPresent, NotCommit}
-use Rattle.world.proofs.Invariant.{KeptOld, KeptFold}
-use Rattle.world.proofs.NodeLemmas.{rolled-keeps, ends_old-keeps, rolled-foreign, ends_old-foreign, rolled-unit}
-use Rattle.world.proofs.NodeLemmas.{ends_old-unit, kept-foreign, kept-unit, kept-delivered, delivered-cases}
-use Rattle.world.proofs.NodeLemmas.{none-judge, some-judge, some-delivered, rolled-judge, ends_old-judge, cleaned}
-use Rattle.world.proofs.NodeLemmas.{none-delivered}
+use Rattle.world.proofs.Invariant.{KeptOld, KeptFold, rolled-keeps, ends_old-keeps, rolled-foreign, ends_old-foreign}
+use Rattle.world.proofs.Invariant.{rolled-unit, ends_old-unit, kept-foreign, kept-unit, kept-delivered}
+use Rattle.world.proofs.Invariant.{delivered-cases, none-judge, some-judge, some-delivered, rolled-judge}
+use Rattle.world.proofs.Invariant.{ends_old-judge, cleaned, none-delivered}
 
 -- order of numbers
 pub below-trans : (a b c : CallNo) → IsBelow a b → IsBelow b c → IsBelow a c

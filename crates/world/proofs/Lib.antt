@@ -1,11 +1,7 @@
 pub mod Names
-pub mod Invariant
-pub mod EarlyFacts
-pub mod NodeLemmas
 pub mod Sends
 pub mod OldLaw
 pub mod NewLaw
-pub mod AtRounds
 pub mod EarlyNode
 pub mod EarlyEvents
 pub mod RoundList
@@ -25,3 +21,5 @@ pub mod Instance
 pub mod TableLaw
 pub mod Events
 pub mod Records
+pub mod Invariant
+pub mod EarlyFacts
