@@ -32,11 +32,8 @@ module _ (N : NodeRules) (laws : NodeLaws N) (k : ℕ) (changes : List N.Change)
     pub is_open : (spans N k moves).is_open ≡ true
     pub none : (spans N k moves).ended ≡ []
 
-  pub waits-keeps : (s t : N.State) → KeepsSession N s t → Waits s → Waits t
-  waits-keeps s t keeps w = grind arith
-
   pub waits-judge : (s : N.State) (call : Call) → IsCalm call → Waits s → Waits (N.judge s call).0
-  waits-judge s call calm w = grind (arith, finished, laws.sync_state, waits-keeps, laws.delete_session)
+  waits-judge s call calm w = grind (arith, finished, laws.sync_state, laws.delete_session)
     where
       finished : Waits (N.judge s Finish).0
       finished =
@@ -49,7 +46,7 @@ module _ (N : NodeRules) (laws : NodeLaws N) (k : ℕ) (changes : List N.Change)
 
   pub waiting-delivered : (moves : List (Move N)) (m : Message) → (Executable N (after N moves) m → IsCalm m.call) → IsWaiting moves → IsWaiting (Delivered m ∷ moves)
   waiting-delivered moves m calm w =
-      grind (arith, after, waits-keeps, laws.keep_session, waits-judge, above-last, begins_span)
+      grind (arith, after, laws.keep_session, waits-judge, above-last, begins_span)
 
   -- a unit goes on waiting, or ends the one span as New
   pub waiting-unit : (moves : List (Move N)) (passed : Bool) → IsWaiting moves → IsWaiting (Unit_done passed ∷ moves) ⊎ IsNew N k changes (Unit_done passed ∷ moves)

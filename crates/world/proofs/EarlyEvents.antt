@@ -217,7 +217,7 @@ module _ (N : NodeRules) (laws : NodeLaws N) (packages : Packages) (numbers : Li
                 over = λ d. absurd (cc d);
                 activated = λ d. absurd (cc d);
               }));
-          yes = λ c current undecided quiet voted. grind (arith, some-inj, part-none);
+          yes = λ c current undecided quiet voted. grind (arith, some-inj);
         }
       where
         is_fresh : IsFresh f k

@@ -108,7 +108,7 @@ module _ (N : NodeRules) (laws : NodeLaws N) (packages : Packages) (numbers : Li
   kept-begin : (w : World N) (k : ℕ) (named : NodeSet) → w.fold.current ≡ None → all_below k w.fold.earlier ≡ true → WorldKept w → WorldKept (emptied N w (record { epoch = w.fold.epoch; earlier = w.fold.earlier; current = Some (begun k named) }))
   kept-begin w k named none below kept =
       record {
-        fold = grind (arith, some-inj, part-none, below-in);
+        fold = grind (arith, some-inj, below-in);
         each = λ n. event-begin N laws n w.fold (w.node n) k named none below (kept.each n);
       }
 

@@ -200,9 +200,6 @@ module _ (read : Reading) (clusters : List (Cluster Bytes)) where
   others : (s : NodeState) (a id : ℕ) → IsConsistent s → is_none (header_of (transfer_of s (suc a) id)) ≡ false → AllByRecursion (λ (y : Transfer). (y.header.id == id) ≡ true → (y.header.client == suc a) ≡ true) s.transfers
   others s a id v f = grind (arith, unique)
 
-  not-own : (a : ℕ) (t : Transfer) → (t.header.client == 0) ≡ true → (t.header.client == suc a) ≡ true → ⊥
-  not-own a t p q = let x : t.header.client ≡ 0 = eqb-true t.header.client 0 p in let y : t.header.client ≡ suc a = eqb-true t.header.client (suc a) q in omega (arith, x, y)
-
   data-others : (s : NodeState) (a id counter : ℕ) (bytes : List ℕ) (w : Verdict) → IsConsistent s → KeepsTransfers (real read clusters) s (judge s (suc a) (call.TransferData id counter bytes) w).0
   data-others s a id counter bytes w v = go (refusal s (suc a) (call.TransferData id counter bytes) w) refl
     where
@@ -217,7 +214,7 @@ module _ (read : Reading) (clusters : List (Cluster Bytes)) where
           head-false row rows e = (not-refused row rows e).0
 
           each : (t : Transfer) → ((t.header.id == id) ≡ true → (t.header.client == suc a) ≡ true) → Leaves0 (λ y. if y.header.id == id then record y { header = grown (length bytes) y.header; bytes = y.bytes ++ bytes } else y) t
-          each t h = grind (arith, grown, not-own)
+          each t h = grind (arith, grown)
 
   delete-others : (s : NodeState) (a id : ℕ) (w : Verdict) → IsConsistent s → KeepsTransfers (real read clusters) s (judge s (suc a) (call.DeleteTransfer id) w).0
   delete-others s a id w v = go (refusal s (suc a) (call.DeleteTransfer id) w) refl
@@ -233,7 +230,7 @@ module _ (read : Reading) (clusters : List (Cluster Bytes)) where
           head-false row rows e = (not-refused row rows e).0
 
           each : (t : Transfer) → ((t.header.id == id) ≡ true → (t.header.client == suc a) ≡ true) → (t.header.client == 0) ≡ true → not (t.header.id == id) ≡ true
-          each t h own = grind (arith, not, not-own)
+          each t h own = grind (arith, not)
 
   start-others : (s : NodeState) (a size : ℕ) → KeepsTransfers (real read clusters) s (started s (suc a) size)
   start-others s a size = grind (arith, filter-append, append-nil, find-append)

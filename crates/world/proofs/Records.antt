@@ -9,14 +9,6 @@ use Rattle.world.proofs.Rules.{NodeRules, NodeLaws, NodeWorld, state_of, spans, 
 use Rattle.world.proofs.Invariant.{Executable, InPresent, NotCommit, IsFresh, KeptOld, Falling}
 use Rattle.world.proofs.Events.{below-trans, end-sync-decided}
 
-pub part-none : {A : Type 0} (k n : ℕ) → part_of {A = Option A} None (replicate k None) n ≡ None
-part-none k zero = refl
-part-none {A} k (suc i) = at k i
-  where
-    at : (k i : ℕ) → slice_index_or {A = Option A} (replicate k None) i None ≡ None
-    at (suc k) (suc i) = at k i
-    at _ _ = refl
-
 index-with : {A : Type 0} (xs : List (Option A)) (m n : ℕ) (v : Option A) → (n ≡ m) ⊎ (slice_index_or (slice_set xs m v) n None ≡ slice_index_or xs n None)
 index-with (x ∷ xs) zero zero v = inl refl
 index-with (x ∷ xs) (suc m) (suc n) v = elim (index-with xs m n v) [ inl e ↦ inl (ap suc e) | inr e ↦ inr e ]

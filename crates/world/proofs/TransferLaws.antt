@@ -124,16 +124,12 @@ module _ (read : Reading) (clusters : List (Cluster Bytes)) where
       judged-by s 0 (call.ProcessSwPackage id tag) (verdict_for read s 0 (call.ProcessSwPackage id tag)) (λ t. KeepsTransfers (real read clusters) s t) (keeps-all s s refl)
       (keeps-changed s (led_by (call.ProcessSwPackage id tag) (begin_processing s 0 id tag)) id (λ t. record t { header = in_phase BeingProcessed t.header }) (phase-names BeingProcessed) (λ t. refl) (led-transfers (call.ProcessSwPackage id tag) (begin_processing s 0 id tag)))
 
-  -- TransferData
-  block-names : (bytes : List ℕ) → KeepsNames (λ t. record t { header = grown (length bytes) t.header; bytes = t.bytes ++ bytes })
-  block-names bytes = record { id = λ t. refl; client = λ t. refl }
-
   pub data_transfers : (s : NodeState) (id counter : ℕ) (bytes : List ℕ) → ids_of (judged_in read s (TransferData id counter bytes)).0 0 ≡ ids_of s 0
-  data_transfers s id counter bytes = grind (arith, ids-changed, block-names)
+  data_transfers s id counter bytes = grind (arith, ids-changed)
 
   pub data_received : (s : NodeState) (id counter : ℕ) (bytes : List ℕ) → (judged_in read s (TransferData id counter bytes)).1 ≡ Done → (received_in (judged_in read s (TransferData id counter bytes)).0 id ≡ received_in s id ++ bytes) × ((other : ℕ) → other ≢ id → received_in (judged_in read s (TransferData id counter bytes)).0 other ≡ received_in s other)
   data_received s id counter bytes d =
-      grind (arith, not-refused, done-none, found-changed, block-names, received_in, found-is)
+      grind (arith, not-refused, done-none, found-changed, received_in, found-is)
 
   ids-below : (next : ℕ) (ts : List Transfer) → AllByRecursion (IsSound next) ts → AllByRecursion (λ (n : ℕ). n < next) (map (λ (t : Transfer). t.header.id) (filter (λ (t : Transfer). t.header.client == 0) ts))
   ids-below next [] a = tt
