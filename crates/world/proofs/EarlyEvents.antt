@@ -6,7 +6,7 @@ use Rattle.world.proofs.Names.{begun, Call, Reply, Sync, Again, Fresh, IsBelow, 
 use Rattle.world.proofs.Names.{Showed, InSent, InTold, is_sync, is_told, Over, Packages, is_end_sync, activate_done}
 use Rattle.world.proofs.Names.{showed_after_activate, may_follow, MaySend, MaySendBy, MaySendEarly, next_number}
 use Rattle.world.proofs.Names.{EndEvidence}
-use Rattle.world.proofs.Records.{part-none, flagged-yes, some-inj, none-some, and-both}
+use Rattle.world.proofs.Records.{flagged-yes, some-inj, none-some, and-both}
 use Rattle.world.proofs.Rules.{NodeRules, NodeLaws, reached, delivered, Delivered, Foreign, Unit_done, NodeWorld}
 use Rattle.world.proofs.Rules.{state_of, spans}
 use Rattle.world.proofs.Invariant.{Executable, InPresent, IsFresh, KeptOld, Falling}

@@ -9,7 +9,7 @@ use Rattle.world.proofs.Names.{in_current, refusal_of, changed, changed_in, afte
 use Rattle.world.proofs.Names.{Call, Reply, Reached, Stale, Again, Fresh, Message, Showed, InSent, nth_sent}
 use Rattle.world.proofs.Names.{answer_of, Packages, MaySend, campaign_of, decided_of, next_number, EndEvidence}
 use Rattle.world.proofs.Names.{InCurrent}
-use Rattle.world.proofs.Records.{part-none, part-other, SameAt, SameFold, some-inj, and-both, below-in, forget}
+use Rattle.world.proofs.Records.{part-other, SameAt, SameFold, some-inj, and-both, below-in, forget}
 use Rattle.world.proofs.Records.{event-same, event-begin, event-decide, event-ended, event-enter}
 use Rattle.world.proofs.Rules.{NodeRules, NodeLaws, reached, delivered, Delivered, Unit_done, NodeWorld, World}
 use Rattle.world.proofs.Rules.{state_of, Event, Deliver, Foreign_calls, Unit_comes, Send, Record, Restart, Evidence}
