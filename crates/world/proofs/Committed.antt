@@ -6,7 +6,7 @@ use Rattle.world.proofs.Names.{delete_at, ◌≢◌, ◌++◌, ◌≤◌, None, 
 use Rattle.world.proofs.Names.{CampaignResult, Successful, Fold, Current, flag_of, all_ended, is_result_of, IsBelow}
 use Rattle.world.proofs.Names.{Told, InSent, Packages, last_status, last_shown, next_number, MaySend, MaySendBy}
 use Rattle.world.proofs.Names.{MaySendLate, has_tag}
-use Rattle.world.proofs.Rules.{NodeRules, NodeLaws, KeepsSession, Move, Delivered, Foreign, Unit_done, after, Spans}
+use Rattle.world.proofs.Rules.{NodeRules, NodeLaws, Move, Delivered, Foreign, Unit_done, after, Spans}
 use Rattle.world.proofs.Rules.{spans, begins_span, IsNew, reached, delivered, NodeWorld, state_of, is_fresh_done}
 use Rattle.world.proofs.Rules.{InEarlier}
 use Rattle.world.proofs.Invariant.{Executable, KeptOld, KeptFold, refused-or}
@@ -180,6 +180,17 @@ module _ (N : NodeRules) (laws : NodeLaws N) (packages : Packages) (n : ℕ) whe
         calm = λ d current commit. let b = same.back d current in kept.calm b.0 b.1 (sym b.2.decision ∙ commit);
         committed = λ d current commit named. grind arith;
         entered = λ k earlier low high named. kept.entered k (subst (λ l. InEarlier (k, Successful) l) same.earlier earlier) low high named;
+      }
+
+  pub committed-ended : (f : Fold) (x : NodeWorld N) (c d : Current) → f.current ≡ Some c → d.campaign ≡ c.campaign → d.named ≡ c.named → d.decision ≡ c.decision → KeptCommitted f x → KeptCommitted (record f { current = Some d }) x
+  committed-ended f x c d e campaign named decision kept =
+      record {
+        calm = λ y current commit. kept.calm c e (sym decision ∙ (ap (λ z. z.decision) (some-inj d y current) ∙ commit));
+        committed = λ y current commit flag.
+            let same = some-inj d y current in
+            subst (λ k. IsWaiting N laws k (changes_of k) x.moves ⊎ IsNew N k (changes_of k) x.moves) (sym campaign ∙ ap (λ z. z.campaign) same)
+            (kept.committed c e (sym decision ∙ (ap (λ z. z.decision) same ∙ commit)) (sym (ap (λ z. flag_of z n) named) ∙ (ap (λ z. flag_of z.named n) same ∙ flag)));
+        entered = kept.entered;
       }
 
   -- what is owed at the decision: each named node is Activated for the campaign and nothing is executable there

@@ -1,7 +1,5 @@
 pub mod Names
 pub mod Sends
-pub mod OldLaw
-pub mod NewLaw
 pub mod EarlyNode
 pub mod EarlyEvents
 pub mod RoundList
@@ -13,7 +11,7 @@ pub mod Worked
 pub mod Rules
 pub mod FitLaws
 pub mod Committed
-pub mod Early
+pub mod EveryEvent
 pub mod Others
 pub mod TransferLaws
 pub mod Simulation

@@ -1,6 +1,6 @@
 -- The parts of nodes: after one has changed, and where each flagged one passes a test.
 use Rattle.world.proofs.Names.{arith, ◌≡◌, ◌≢◌, ◌⊎◌, inl, inr, ℕ, zero, suc, List, [], ◌∷◌, Bool, true, false, refl}
-use Rattle.world.proofs.Names.{ap, Option, Some, None, replicate, slice_index_or, slice_set, and_parts, Outcome, Vote}
+use Rattle.world.proofs.Names.{ap, Option, Some, None, slice_index_or, slice_set, and_parts, Outcome, Vote}
 use Rattle.world.proofs.Names.{part_of, with_part, all_flagged, has_ended, voted_yes, ◌&&◌, ◌<◌, ◌≤◌, ◌++◌, nat_lt}
 use Rattle.world.proofs.Names.{sym, ◌∙◌, subst, ltb-true, RolledBack, NodeSet, Decision, Commit, CampaignResult}
 use Rattle.world.proofs.Names.{Successful, Fold, Current, flag_of, end_of, all_ended, is_result_of, all_below, begun}

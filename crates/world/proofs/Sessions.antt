@@ -1,11 +1,11 @@
 -- Laws of the real node: the calls on client 0's session.
 use Rattle.world.proofs.Names.{arith, ◌≡◌, ◌≢◌, ◌⊎◌, inl, inr, ℕ, List, [], ◌∷◌, Option, Some, None, Bool, true}
-use Rattle.world.proofs.Names.{false, refl, sym, ◌∙◌, ap, subst, nat_tests, ◌==◌, not, is_none, option_map}
-use Rattle.world.proofs.Names.{option_and_then, option_or, option_map_or, Bytes, Call, Outcome, New, Old, Refusal}
+use Rattle.world.proofs.Names.{false, refl, sym, ◌∙◌, ap, subst, ◌==◌, not, is_none, option_map}
+use Rattle.world.proofs.Names.{option_and_then, option_map_or, Bytes, Call, Outcome, New, Old, Refusal}
 use Rattle.world.proofs.Names.{Change, Cluster, Status, Idle, Ready, Processing, Activating, Verifying, Activated}
 use Rattle.world.proofs.Names.{RollingBack, RolledBack, CleaningUp, NodeState, Session, some_passes, first_refusal}
-use Rattle.world.proofs.Names.{status_table, session_refusals, is_wrong_tag, changes_in, arrive, clean_up}
-use Rattle.world.proofs.Names.{begin_processing, stop_processing, cancel_refusals, transfer_of, header_of, refusal}
+use Rattle.world.proofs.Names.{status_table, session_refusals, changes_in, arrive, clean_up}
+use Rattle.world.proofs.Names.{stop_processing, cancel_refusals, transfer_of, header_of, refusal}
 use Rattle.world.proofs.Names.{Reading, verdict_for, IsConsistent, id_in_processing, ProcessSwPackage, Activate}
 use Rattle.world.proofs.Names.{Finish, Rollback, Revert, Done, is_status}
 use Rattle.world.proofs.Instance.{tag_if, mine_in, planned_in, outcome_in, judged_in}

@@ -13,7 +13,7 @@ use Rattle.world.proofs.FitLaws.{KeepsNode, fit, fit-laws}
 use Rattle.world.proofs.Simulation.{SameNode, SameWorld, same-deliver, same-foreign, same-work, told_span, told_spans}
 use Rattle.node_laws.proofs.Kept.{keeps-fit, kept-fit, entry-fit, opened-fit}
 use Rattle.world.proofs.Rules.{InEarlier}
-use Rattle.world.proofs.Early.{world-law}
+use Rattle.world.proofs.EveryEvent.{world-law}
 use Rattle.world.proofs.Rules as rules
 use Rattle.node_laws.specs.Fit as fits
 

@@ -9,7 +9,7 @@ use Rattle.world.proofs.Names.{not, find, nat_lt, filter, if◌then◌else◌, A
 use Rattle.world.proofs.Names.{filter-append, find-append, block_limit, Call, Refusal, OperationNotPermitted}
 use Rattle.world.proofs.Names.{IncorrectBlock, IncorrectSize, Header, Phase, Transferring, Transferred}
 use Rattle.world.proofs.Names.{BeingProcessed, Processed, Part, Cluster, Ready, Transfer, some_passes, is_in}
-use Rattle.world.proofs.Names.{changes_of, all_units, led_by, begin_processing, is_of, ids_of, parts_read, grown}
+use Rattle.world.proofs.Names.{changes_of, all_units, led_by, begin_processing, is_of, ids_of, parts_read}
 use Rattle.world.proofs.Names.{in_phase, exited, process_unit, processed, parts_of_id, activate_unit, verify_unit}
 use Rattle.world.proofs.Names.{roll_back_unit, Reading, verdict_for, IsSound, IsFit, TransferStart, TransferData}
 use Rattle.world.proofs.Names.{TransferExit, ProcessSwPackage, Done, Started}
