@@ -13,7 +13,7 @@ use Rattle.node_laws.proofs.Names.{CleaningUp, of_client, all_units, parts_of, r
 use Rattle.node_laws.proofs.Names.{refused_or, reply_to, after_reply, judge, after_call, executed, by_order, by_last}
 use Rattle.node_laws.proofs.Names.{call_no_cmp, step, unit_of, process_unit, processed, parts_of_id, verdict_for}
 use Rattle.node_laws.proofs.Names.{worked, formatted, after_entry, state_after, IsNext, IsLegal, IsReading, KeepsFit}
-use Rattle.node_laws.proofs.Sessions.{base-of, free-of, free-is, by-session, Busy, busy-of}
+use Rattle.node_laws.proofs.Sessions.{base-of, Busy, busy-of}
 use Rattle.node_laws.proofs.Lists.{both-none}
 use Rattle.node_laws.proofs.Quiet.{processes}
 use Rattle.node_laws.proofs.KeptTransfers.{start-fit, data-fit, exit-fit, delete-fit}
@@ -74,16 +74,7 @@ opened_by None clusters running = clusters
 opened_by (Some x) clusters running = running
 
 pub opened-fit : (read : Reading) (s : NodeState) (clusters : List (Cluster Bytes)) → IsInstalled clusters → IsFit read s → IsFit read (record s { running = opened_by s.session clusters s.running })
-opened-fit read s clusters installed fit =
-    by-session s (λ o. IsFit read (record s { session = o; running = opened_by o clusters s.running }))
-    (λ e.
-    let b = base-of s fit.consistent in
-    let f = free-of s e fit.consistent in
-    record {
-      consistent = free-is (record s { running = clusters }) (record { held = b.held; running = installed.rise; clients = b.clients; lines = b.lines; places = b.places }) (record { idle = f.idle; changes = f.changes; each = f.each; names = installed.few });
-      read_parts = fit.read_parts;
-    })
-    (λ x e. subst (λ o. IsFit read (record s { session = o })) e fit)
+opened-fit read s clusters installed fit = grind arith
 
 -- What a node does leaves its state fit.
 -- a formatted node with clusters in order, of at most 16 names

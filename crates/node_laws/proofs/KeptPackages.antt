@@ -18,12 +18,12 @@ use Rattle.node_laws.proofs.Lists.{each-append, each-first, each-imp, found-has,
 use Rattle.node_laws.proofs.Lists.{each-changed, all-changed, any-changed, found-changed, rows-clear, both-none}
 use Rattle.node_laws.proofs.Lists.{neither, not-false, some-transfer, some-header, is-transferred, is-processing}
 use Rattle.node_laws.proofs.NameLists.{Within, within-self, within-left, within-right, fewer-within, names_of}
-use Rattle.node_laws.proofs.NameLists.{changed_names, differ-first, differ-kept, each-applies, few-kept}
+use Rattle.node_laws.proofs.NameLists.{changed_names, names-of-parts, differ-first, differ-kept, each-applies, few-kept}
 use Rattle.node_laws.proofs.Sessions.{Base, Busy, Free, InProcessing, base-of, busy-of, free-of, busy-is}
 use Rattle.node_laws.proofs.KeptSessions.{or-true, at-status, both-in, left-in, changes-in, all_of, clusters-in}
 use Rattle.node_laws.proofs.KeptSessions.{parts-in, all-in, names-fewer}
 use Rattle.node_laws.proofs.KeptProcessing.{rephased, names-kept, late_transferred, being_processed, read-rephased}
-use Rattle.node_laws.proofs.KeptProcessing.{base-rephased, in-other, some-units, names-of-parts}
+use Rattle.node_laws.proofs.KeptProcessing.{base-rephased, in-other, some-units}
 
 -- a session that has nothing in processing, or is about to begin
 record Waits (s : NodeState) (x : Session) : Type 0 where

@@ -10,7 +10,7 @@ use Rattle.node_laws.proofs.Names.{in_phase, Reading, IsSound, IsWholeFromTransf
 use Rattle.node_laws.proofs.Names.{PartsApply, processed, parts_of_id, IsFit, IsRead}
 use Rattle.node_laws.proofs.Lists.{each-append, each-imp, found-has, found, found-is, changed, each-changed}
 use Rattle.node_laws.proofs.Lists.{all-changed, KeepsNames, is-processing}
-use Rattle.node_laws.proofs.NameLists.{changed_names}
+use Rattle.node_laws.proofs.NameLists.{names-of-parts}
 use Rattle.node_laws.proofs.Sessions.{Held, Base, Busy, InProcessing, base-of, busy-is}
 use Rattle.node_laws.proofs.KeptTransfers.{held-changed}
 
@@ -81,13 +81,9 @@ each-changes_of P id [] f = tt
 each-changes_of P id (part ∷ parts) f = (f part, each-changes_of P id parts f)
 
 -- the parts of changes
-parts-of-changes : (id : ℕ) (parts : List (Part Bytes)) → map (λ change. change.part) (changes_of id parts) ≡ parts
+pub parts-of-changes : (id : ℕ) (parts : List (Part Bytes)) → map (λ change. change.part) (changes_of id parts) ≡ parts
 parts-of-changes id [] = refl
 parts-of-changes id (part ∷ parts) = ap (λ ps. part ∷ ps) (parts-of-changes id parts)
-
-pub names-of-parts : (changes : List (Change Bytes)) → map cluster_of (map (λ change. change.part) changes) ≡ changed_names changes
-names-of-parts [] = refl
-names-of-parts (c ∷ cs) = ap (λ ns. cluster_of c.part ∷ ns) (names-of-parts cs)
 
 -- a processed transfer isn't the one in processing
 not-planned : (id n : ℕ) (ts : List Transfer) → InProcessing (Some id) ts → is_processed ts n ≡ true → (n == id) ≡ false

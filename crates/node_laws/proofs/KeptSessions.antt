@@ -6,11 +6,11 @@ use Rattle.node_laws.proofs.Names.{Status, Ready, Processing, Activating, Verify
 use Rattle.node_laws.proofs.Names.{RolledBack, CleaningUp, NodeState, Session, has_status, first_refusal, Goal, To}
 use Rattle.node_laws.proofs.Names.{CleanUp, status_table, session_refusals, arrive, led_by, names_among, Reading}
 use Rattle.node_laws.proofs.Names.{SessionIsDue, should_run, LeavesOneToVerify, may_plan_nothing, parts_in, IsFit, ap}
-use Rattle.node_laws.proofs.Names.{◌∙◌, ◌∷◌, not, filter, map, slice_set, length-set, ltb-true, map-append}
-use Rattle.node_laws.proofs.Names.{Change, Part, BeingProcessed, Processed, Idle, Transfer, is_in, cluster_of}
+use Rattle.node_laws.proofs.Names.{◌∙◌, not, filter, map, slice_set, length-set, ltb-true, map-append}
+use Rattle.node_laws.proofs.Names.{Part, BeingProcessed, Processed, Idle, Transfer, is_in, cluster_of}
 use Rattle.node_laws.proofs.Names.{parts_of_id, activate_unit, verify_unit, roll_back_unit, clean_up_unit, end_mark}
 use Rattle.node_laws.proofs.NameLists.{names_of, Within, within-self, within-left, within-right, within-trans}
-use Rattle.node_laws.proofs.NameLists.{fewer-within, changed_names, planned-rise, planned-within}
+use Rattle.node_laws.proofs.NameLists.{fewer-within, changed_names, names-of-parts, planned-rise, planned-within}
 use Rattle.node_laws.proofs.Lists.{rows-clear, each-append, each-imp, each-filter, each-passes, length-filter}
 use Rattle.node_laws.proofs.Lists.{rise-filter, neither, not-true, or-false}
 use Rattle.node_laws.proofs.Sessions.{Busy, IsUnfinished, base-of, busy-of, free-is}
@@ -147,12 +147,8 @@ right-in cs ds = subst (Within (names_of ds)) (sym (map-append (λ (c : Cluster 
 pub changes-in : (s : NodeState) (x : Session) → Within (changed_names x.changes) (map cluster_of (parts_in s x))
 changes-in s x = subst (Within (changed_names x.changes)) (sym (parts-names s x)) (within-left (changed_names x.changes) (changed_names x.changes) _ (within-self (changed_names x.changes)))
   where
-    names : (changes : List (Change Bytes)) → map cluster_of (map (λ change. change.part) changes) ≡ changed_names changes
-    names [] = refl
-    names (c ∷ cs) = ap (λ ns. cluster_of c.part ∷ ns) (names cs)
-
     parts-names : (s : NodeState) (x : Session) → map cluster_of (parts_in s x) ≡ changed_names x.changes ++ map cluster_of (option_map_or (parts_of_id s x) x.processing [])
-    parts-names s x = map-append cluster_of (map (λ change. change.part) x.changes) (option_map_or (parts_of_id s x) x.processing []) ∙ ap (λ ns. ns ++ map cluster_of (option_map_or (parts_of_id s x) x.processing [])) (names x.changes)
+    parts-names s x = map-append cluster_of (map (λ change. change.part) x.changes) (option_map_or (parts_of_id s x) x.processing []) ∙ ap (λ ns. ns ++ map cluster_of (option_map_or (parts_of_id s x) x.processing [])) (names-of-parts x.changes)
 
 -- the names stay few where what runs is what was saved, or what is planned
 names-of-running : (s : NodeState) (x : Session) (running : List (Cluster Bytes)) → Within (names_of running) (names_of x.saved ++ changed_names x.changes)

@@ -1,14 +1,14 @@
 -- Lists of names: which are different, and which rise.
 use Rattle.node_laws.proofs.Names.{◌≡◌, refl, sym, ap, ◌∙◌, ℕ, ◌+◌, ◌≤◌, Bool, true, false, List, [], ◌∷◌, ◌++◌}
-use Rattle.node_laws.proofs.Names.{length, arith, ◌||◌, not, cond, filter, map, AllByRecursion, bytes_eq, nat_cmp}
-use Rattle.node_laws.proofs.Names.{is_lt, slice_cmp, Ordering, Less, nat_list_cmp_total, bytes_eq-Decides, and_parts}
+use Rattle.node_laws.proofs.Names.{length, arith, ◌||◌, not, cond, filter, map, AllByRecursion, bytes_eq}
+use Rattle.node_laws.proofs.Names.{nat_list_cmp_total, bytes_eq-Decides, and_parts}
 use Rattle.node_laws.proofs.Names.{name_lt, has_name, different_names, names_rise, subst, map-append, Action, Remove}
 use Rattle.node_laws.proofs.Names.{Bytes, Change, Cluster, Part, cluster_of, with_cluster, brought, changed_as}
 use Rattle.node_laws.proofs.Names.{changed_by, planned, append_assoc, ◌&&◌, nat_le, None, list_any, both_true}
 use Rattle.node_laws.proofs.Names.{leb-false, append-nil, Install, cluster_limit, all_differ, first_refusal}
 use Rattle.node_laws.proofs.Names.{has_cluster, part_refusals, parts_refusal, applies, suits, is_install, names_among}
 use Rattle.node_laws.proofs.Lists.{each-append, each-imp, each-both, each-map, each-unmap, each-filter, each-passes}
-use Rattle.node_laws.proofs.Lists.{rows-clear, both-none, neither, not-false}
+use Rattle.node_laws.proofs.Lists.{both-none, neither}
 
 pub name-eq : (a b : List ℕ) → bytes_eq a b ≡ true → a ≡ b
 name-eq a b e = (bytes_eq-Decides a b).0 e
@@ -23,7 +23,7 @@ name-swap a b = grind (arith, eq-name, name-eq)
 abbrev pub Within : List (List ℕ) → List (List ℕ) → Type 0
 Within xs ys = AllByRecursion (λ x. has_name ys x ≡ true) xs
 
-or-right : (a b : Bool) → b ≡ true → (a || b) ≡ true
+pub or-right : (a b : Bool) → b ≡ true → (a || b) ≡ true
 or-right true b h = refl
 or-right false b h = h
 
@@ -108,11 +108,7 @@ one-more xs n = grind arith
 
 -- the order of names
 pub lt-trans : (a b c : List ℕ) → name_lt a b ≡ true → name_lt b c ≡ true → name_lt a c ≡ true
-lt-trans a b c h k = ap is_lt (nat_list_cmp_total.trans a b c (less (slice_cmp nat_cmp a b) h) (less (slice_cmp nat_cmp b c) k))
-  where
-    less : (o : Ordering) → is_lt o ≡ true → o ≡ Less
-    less Less e = refl
-    less _ e = absurd (cc)
+lt-trans a b c h k = grind (arith, nat_list_cmp_total)
 
 -- each name of a list stands behind another
 abbrev pub Behind : List ℕ → List (List ℕ) → Type 0
@@ -150,6 +146,10 @@ names_of cs = map (λ c. c.name) cs
 
 abbrev pub changed_names : List (Change Bytes) → List (List ℕ)
 changed_names changes = map (λ change. cluster_of change.part) changes
+
+pub names-of-parts : (changes : List (Change Bytes)) → map cluster_of (map (λ change. change.part) changes) ≡ changed_names changes
+names-of-parts [] = refl
+names-of-parts (c ∷ cs) = ap (λ ns. cluster_of c.part ∷ ns) (names-of-parts cs)
 
 with-rise : (c : Cluster Bytes) (cs : List (Cluster Bytes)) → names_rise (names_of cs) ≡ true → names_rise (names_of (with_cluster c cs)) ≡ true
 with-rise c cs r =
@@ -225,9 +225,7 @@ Passes running changes before part =
     × ((is_install part.manifest.action && nat_le cluster_limit (length (names_among running changes before))) ≡ false)
 
 passes : (running : List (Cluster Bytes)) (changes : List (Change Bytes)) (before : List (Part Bytes)) (part : Part Bytes) → first_refusal (part_refusals running changes before part) ≡ None → Passes running changes before part
-passes running changes before part e =
-    let clear = rows-clear (part_refusals running changes before part) e in
-    (clear.0, not-false _ clear.1.0, clear.1.1.1.0)
+passes running changes before part e = grind arith
 
 pub each-applies : (running : List (Cluster Bytes)) (changes : List (Change Bytes)) (before parts : List (Part Bytes)) → parts_refusal running changes before parts ≡ None → AllByRecursion (λ part. applies part running ≡ true) parts
 each-applies running changes before [] e = tt
