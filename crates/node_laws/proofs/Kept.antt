@@ -3,16 +3,16 @@ use Rattle.node_laws.proofs.Names.{◌≡◌, refl, ℕ, zero, suc, ◌+◌, ◌
 use Rattle.node_laws.proofs.Names.{length-append, length-drop, add-zero, arith, ◌==◌, min, Option, Some, both_true}
 use Rattle.node_laws.proofs.Names.{length-set, and_parts, eq-eqb, line_limit, CallNo, Happened, Line, Reply, Kept}
 use Rattle.node_laws.proofs.Names.{NodeState, newest, with_entry, with_kept, Reading, places_from, IsFit, subst, None}
-use Rattle.node_laws.proofs.Names.{Bytes, Cluster, Session, IsInstalled, sym, ap, ◌<◌, Bool, false, nat_lt}
-use Rattle.node_laws.proofs.Names.{option_map, option_and_then, unwrap_or, if◌then◌else◌, Ordering, Greater}
-use Rattle.node_laws.proofs.Names.{client_limit, Call, Sync, TransferStart, TransferData, TransferExit}
-use Rattle.node_laws.proofs.Names.{DeleteTransfer, ProcessSwPackage, Activate, Finish, Rollback}
-use Rattle.node_laws.proofs.Names.{RevertProcessedSwPackages, Cancel, Entry, Numbered, UnitDone, UnitLine, Answered}
-use Rattle.node_laws.proofs.Names.{Refusal, Refused, Status, Processing, Activating, Verifying, RollingBack}
-use Rattle.node_laws.proofs.Names.{CleaningUp, of_client, all_units, parts_of, refusal, accepted, acceptance}
-use Rattle.node_laws.proofs.Names.{refused_or, reply_to, after_reply, judge, after_call, executed, by_order, by_last}
-use Rattle.node_laws.proofs.Names.{call_no_cmp, step, unit_of, process_unit, processed, parts_of_id, verdict_for}
-use Rattle.node_laws.proofs.Names.{worked, formatted, after_entry, state_after, IsNext, IsLegal, IsReading, KeepsFit}
+use Rattle.node_laws.proofs.Names.{Bytes, Cluster, Session, IsInstalled, sym, ap, ◌<◌, Bool, false, nat_lt, option_map}
+use Rattle.node_laws.proofs.Names.{option_and_then, unwrap_or, if◌then◌else◌, Ordering, Greater, client_limit, Call}
+use Rattle.node_laws.proofs.Names.{Sync, TransferStart, TransferData, TransferExit, DeleteTransfer, ProcessSwPackage}
+use Rattle.node_laws.proofs.Names.{Activate, Finish, Rollback, RevertProcessedSwPackages, Cancel, Entry, Numbered}
+use Rattle.node_laws.proofs.Names.{UnitDone, UnitLine, Answered, Refusal, Refused, Status, Processing, Activating}
+use Rattle.node_laws.proofs.Names.{Verifying, RollingBack, CleaningUp, of_client, all_units, parts_of, refusal}
+use Rattle.node_laws.proofs.Names.{accepted, acceptance, refused_or, reply_to, after_reply, judge, after_call, executed}
+use Rattle.node_laws.proofs.Names.{by_order, by_last, call_no_cmp, step, unit_of, process_unit, processed, parts_of_id}
+use Rattle.node_laws.proofs.Names.{verdict_for, worked, formatted, after_entry, state_after, IsNext, IsLegal, IsReading}
+use Rattle.node_laws.proofs.Names.{KeepsFit}
 use Rattle.node_laws.proofs.Sessions.{base-of, Busy, busy-of}
 use Rattle.node_laws.proofs.Lists.{both-none}
 use Rattle.node_laws.proofs.Quiet.{processes}

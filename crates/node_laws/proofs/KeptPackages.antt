@@ -1,19 +1,18 @@
 -- The call that takes a package into processing, and the call that stops it, leave a state fit.
-use Rattle.node_laws.proofs.Names.{◌≡◌, ◌⊎◌, inl, inr, refl, sym, subst, ap, ◌∙◌, ℕ, ◌<◌, ◌≤◌, Bool, true, false}
-use Rattle.node_laws.proofs.Names.{List, [], ◌∷◌, ◌++◌, length, arith, ◌==◌, ◌&&◌, ◌||◌, not, nat_lt, is_some}
-use Rattle.node_laws.proofs.Names.{is_none, if◌then◌else◌, map, unwrap_or, option_map, IsSomeAnd, Option, Some, None}
-use Rattle.node_laws.proofs.Names.{option_or, option_map_or, AllByRecursion, eqb-true, eq-eqb, lt-ltb, map-append}
-use Rattle.node_laws.proofs.Names.{append-nil, client_limit, cluster_limit, all_differ, names_rise, Bytes}
-use Rattle.node_laws.proofs.Names.{ProcessSwPackage, Cancel, Change, Part, Refusal, OperationNotPermitted}
-use Rattle.node_laws.proofs.Names.{InvalidTransferId, Outcome, Old, Phase, Transferred, BeingProcessed, Processed}
-use Rattle.node_laws.proofs.Names.{Status, Idle, Ready, Processing, CleaningUp, NodeState, Session, Transfer, is_in}
-use Rattle.node_laws.proofs.Names.{has_status, some_passes, phase_code, first_refusal, cluster_of, all_units, To}
-use Rattle.node_laws.proofs.Names.{Resume, status_table, session_refusals, process_refusal, cancel_refusals}
-use Rattle.node_laws.proofs.Names.{parts_refusal, is_wrong_tag, changes_in, applies, names_among, new_session}
-use Rattle.node_laws.proofs.Names.{begin_processing, stop_processing, arrive, led_by, is_of, transfer_of, header_of}
-use Rattle.node_laws.proofs.Names.{parts_of, Reading, SessionIsDue, should_run, LeavesOneToVerify}
-use Rattle.node_laws.proofs.Names.{IsWholeFromTransferred, IsPlannedWhole, is_processed, parts_in, may_plan_nothing}
-use Rattle.node_laws.proofs.Names.{numbers_rise, IsFit}
+use Rattle.node_laws.proofs.Names.{◌≡◌, ◌⊎◌, inl, inr, refl, sym, subst, ap, ◌∙◌, ℕ, ◌<◌, ◌≤◌, Bool, true, false, List}
+use Rattle.node_laws.proofs.Names.{[], ◌∷◌, ◌++◌, length, arith, ◌==◌, ◌&&◌, ◌||◌, not, nat_lt, is_some, is_none}
+use Rattle.node_laws.proofs.Names.{if◌then◌else◌, map, unwrap_or, option_map, IsSomeAnd, Option, Some, None, option_or}
+use Rattle.node_laws.proofs.Names.{option_map_or, AllByRecursion, eqb-true, eq-eqb, lt-ltb, map-append, append-nil}
+use Rattle.node_laws.proofs.Names.{client_limit, cluster_limit, all_differ, names_rise, Bytes, ProcessSwPackage, Cancel}
+use Rattle.node_laws.proofs.Names.{Change, Part, Refusal, OperationNotPermitted, InvalidTransferId, Outcome, Old, Phase}
+use Rattle.node_laws.proofs.Names.{Transferred, BeingProcessed, Processed, Status, Idle, Ready, Processing, CleaningUp}
+use Rattle.node_laws.proofs.Names.{NodeState, Session, Transfer, is_in, has_status, some_passes, phase_code}
+use Rattle.node_laws.proofs.Names.{first_refusal, cluster_of, all_units, To, Resume, status_table, session_refusals}
+use Rattle.node_laws.proofs.Names.{process_refusal, cancel_refusals, parts_refusal, is_wrong_tag, changes_in, applies}
+use Rattle.node_laws.proofs.Names.{names_among, new_session, begin_processing, stop_processing, arrive, led_by, is_of}
+use Rattle.node_laws.proofs.Names.{transfer_of, header_of, parts_of, Reading, SessionIsDue, should_run}
+use Rattle.node_laws.proofs.Names.{LeavesOneToVerify, IsWholeFromTransferred, IsPlannedWhole, is_processed, parts_in}
+use Rattle.node_laws.proofs.Names.{may_plan_nothing, numbers_rise, IsFit}
 use Rattle.node_laws.proofs.Lists.{each-append, each-first, each-imp, found-has, ids, found, found-is, changed}
 use Rattle.node_laws.proofs.Lists.{each-changed, all-changed, any-changed, found-changed, rows-clear, both-none}
 use Rattle.node_laws.proofs.Lists.{neither, not-false, some-transfer, some-header, is-transferred, is-processing}

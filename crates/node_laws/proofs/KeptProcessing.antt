@@ -5,9 +5,9 @@ use Rattle.node_laws.proofs.Names.{Option, Some, None, list_any, AllByRecursion,
 use Rattle.node_laws.proofs.Names.{both_true, map-append, append-nil, sum_by-cons, filter-append, cluster_limit}
 use Rattle.node_laws.proofs.Names.{all_differ, Bytes, Change, Part, Phase, Transferred, BeingProcessed, Processed}
 use Rattle.node_laws.proofs.Names.{Status, Ready, Processing, NodeState, Session, Transfer, is_in, some_passes}
-use Rattle.node_laws.proofs.Names.{cluster_of, changes_of, units_of, all_units, names_among, is_of, parts_of}
-use Rattle.node_laws.proofs.Names.{in_phase, Reading, IsSound, IsWholeFromTransferred, IsPlannedWhole, is_processed}
-use Rattle.node_laws.proofs.Names.{PartsApply, processed, parts_of_id, IsFit, IsRead}
+use Rattle.node_laws.proofs.Names.{cluster_of, changes_of, units_of, all_units, names_among, is_of, parts_of, in_phase}
+use Rattle.node_laws.proofs.Names.{Reading, IsSound, IsWholeFromTransferred, IsPlannedWhole, is_processed, PartsApply}
+use Rattle.node_laws.proofs.Names.{processed, parts_of_id, IsFit, IsRead}
 use Rattle.node_laws.proofs.Lists.{each-append, each-imp, found-has, found, found-is, changed, each-changed}
 use Rattle.node_laws.proofs.Lists.{all-changed, KeepsNames, is-processing}
 use Rattle.node_laws.proofs.NameLists.{names-of-parts}

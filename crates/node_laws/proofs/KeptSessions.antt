@@ -2,13 +2,13 @@
 use Rattle.node_laws.proofs.Names.{◌≡◌, refl, sym, subst, ℕ, ◌≤◌, Bool, true, false, List, [], ◌++◌, length, arith}
 use Rattle.node_laws.proofs.Names.{◌||◌, nat_lt, is_some, is_none, option_map, IfSome, Option, Some, None}
 use Rattle.node_laws.proofs.Names.{option_map_or, cluster_limit, names_rise, Bytes, Call, Cluster, Outcome, New, Old}
-use Rattle.node_laws.proofs.Names.{Status, Ready, Processing, Activating, Verifying, Activated, RollingBack}
-use Rattle.node_laws.proofs.Names.{RolledBack, CleaningUp, NodeState, Session, has_status, first_refusal, Goal, To}
-use Rattle.node_laws.proofs.Names.{CleanUp, status_table, session_refusals, arrive, led_by, names_among, Reading}
-use Rattle.node_laws.proofs.Names.{SessionIsDue, should_run, LeavesOneToVerify, may_plan_nothing, parts_in, IsFit, ap}
-use Rattle.node_laws.proofs.Names.{◌∙◌, not, filter, map, slice_set, length-set, ltb-true, map-append}
-use Rattle.node_laws.proofs.Names.{Part, BeingProcessed, Processed, Idle, Transfer, is_in, cluster_of}
-use Rattle.node_laws.proofs.Names.{parts_of_id, activate_unit, verify_unit, roll_back_unit, clean_up_unit, end_mark}
+use Rattle.node_laws.proofs.Names.{Status, Ready, Processing, Activating, Verifying, Activated, RollingBack, RolledBack}
+use Rattle.node_laws.proofs.Names.{CleaningUp, NodeState, Session, has_status, first_refusal, Goal, To, CleanUp}
+use Rattle.node_laws.proofs.Names.{status_table, session_refusals, arrive, led_by, names_among, Reading, SessionIsDue}
+use Rattle.node_laws.proofs.Names.{should_run, LeavesOneToVerify, may_plan_nothing, parts_in, IsFit, ap, ◌∙◌, not}
+use Rattle.node_laws.proofs.Names.{filter, map, slice_set, length-set, ltb-true, map-append, Part, BeingProcessed}
+use Rattle.node_laws.proofs.Names.{Processed, Idle, Transfer, is_in, cluster_of, parts_of_id, activate_unit}
+use Rattle.node_laws.proofs.Names.{verify_unit, roll_back_unit, clean_up_unit, end_mark}
 use Rattle.node_laws.proofs.NameLists.{names_of, Within, within-self, within-left, within-right, within-trans}
 use Rattle.node_laws.proofs.NameLists.{fewer-within, changed_names, names-of-parts, planned-rise, planned-within}
 use Rattle.node_laws.proofs.Lists.{rows-clear, each-append, each-imp, each-filter, each-passes, length-filter}

@@ -6,9 +6,9 @@ use Rattle.node_laws.proofs.Names.{map-append, length-map, client_limit, package
 use Rattle.node_laws.proofs.Names.{last_id, all_differ, Header, Phase, Transferring, Transferred, BeingProcessed}
 use Rattle.node_laws.proofs.Names.{Processed, NodeState, Transfer, is_in, some_passes, phase_code, cluster_of}
 use Rattle.node_laws.proofs.Names.{first_refusal, Verdict, transfer_of, header_of, parts_read, verdict_refusal, fresh}
-use Rattle.node_laws.proofs.Names.{grown, in_phase, started, with_block, exited, deleted, start_refusals}
-use Rattle.node_laws.proofs.Names.{data_refusals, exit_refusals, delete_refusals, Reading, IsSound, numbers_rise}
-use Rattle.node_laws.proofs.Names.{IsFit, IsRead, IsReading}
+use Rattle.node_laws.proofs.Names.{grown, in_phase, started, with_block, exited, deleted, start_refusals, data_refusals}
+use Rattle.node_laws.proofs.Names.{exit_refusals, delete_refusals, Reading, IsSound, numbers_rise, IsFit, IsRead}
+use Rattle.node_laws.proofs.Names.{IsReading}
 use Rattle.node_laws.proofs.Lists.{each-append, each-imp, each-map, each-filter, length-filter, rise-append}
 use Rattle.node_laws.proofs.Lists.{rise-filter, ids, found, changed, all-changed, KeepsNames, ids-changed, rows-clear}
 use Rattle.node_laws.proofs.Lists.{both-none, neither, not-false, some-header, is-transferring}

@@ -1,9 +1,9 @@
 -- Facts of each element of a list, searches, and rising numbers.
-use Rattle.node_laws.proofs.Names.{◌≡◌, refl, ℕ, ◌<◌, ◌≤◌, Bool, true, false, List, [], ◌∷◌, ◌++◌, length, arith}
-use Rattle.node_laws.proofs.Names.{cond, find, filter, map, nat_lt, Some, list_any, AllByRecursion, both_true}
-use Rattle.node_laws.proofs.Names.{and_parts, ltb-true, numbers_rise, not, ◌||◌, is_none, Option, None, option_or}
-use Rattle.node_laws.proofs.Names.{Header, Refusal, Transferring, Transferred, BeingProcessed, Transfer, is_in}
-use Rattle.node_laws.proofs.Names.{first_refusal, header_of, ap, ◌==◌, if◌then◌else◌, option_map, eqb-true, is_of}
+use Rattle.node_laws.proofs.Names.{◌≡◌, refl, ℕ, ◌<◌, ◌≤◌, Bool, true, false, List, [], ◌∷◌, ◌++◌, length, arith, cond}
+use Rattle.node_laws.proofs.Names.{find, filter, map, nat_lt, Some, list_any, AllByRecursion, both_true, and_parts}
+use Rattle.node_laws.proofs.Names.{ltb-true, numbers_rise, not, ◌||◌, is_none, Option, None, option_or, Header, Refusal}
+use Rattle.node_laws.proofs.Names.{Transferring, Transferred, BeingProcessed, Transfer, is_in, first_refusal, header_of}
+use Rattle.node_laws.proofs.Names.{ap, ◌==◌, if◌then◌else◌, option_map, eqb-true, is_of}
 
 pub each-append : {X : Type 0} (P : X → Type 0) (xs ys : List X) → AllByRecursion P xs → AllByRecursion P ys → AllByRecursion P (xs ++ ys)
 each-append P [] ys h k = k

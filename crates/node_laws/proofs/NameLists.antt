@@ -1,11 +1,10 @@
 -- Lists of names: which are different, and which rise.
-use Rattle.node_laws.proofs.Names.{◌≡◌, refl, sym, ap, ◌∙◌, ℕ, ◌+◌, ◌≤◌, Bool, true, false, List, [], ◌∷◌, ◌++◌}
-use Rattle.node_laws.proofs.Names.{length, arith, ◌||◌, not, cond, filter, map, AllByRecursion, bytes_eq}
-use Rattle.node_laws.proofs.Names.{nat_list_cmp_total, bytes_eq-Decides, and_parts}
-use Rattle.node_laws.proofs.Names.{name_lt, has_name, different_names, names_rise, subst, map-append, Action, Remove}
-use Rattle.node_laws.proofs.Names.{Bytes, Change, Cluster, Part, cluster_of, with_cluster, brought, changed_as}
-use Rattle.node_laws.proofs.Names.{changed_by, planned, append_assoc, ◌&&◌, nat_le, None, list_any, both_true}
-use Rattle.node_laws.proofs.Names.{leb-false, append-nil, Install, cluster_limit, all_differ, first_refusal}
+use Rattle.node_laws.proofs.Names.{◌≡◌, refl, sym, ap, ◌∙◌, ℕ, ◌+◌, ◌≤◌, Bool, true, false, List, [], ◌∷◌, ◌++◌, length}
+use Rattle.node_laws.proofs.Names.{arith, ◌||◌, not, cond, filter, map, AllByRecursion, bytes_eq, nat_list_cmp_total}
+use Rattle.node_laws.proofs.Names.{bytes_eq-Decides, and_parts, name_lt, has_name, different_names, names_rise, subst}
+use Rattle.node_laws.proofs.Names.{map-append, Action, Remove, Bytes, Change, Cluster, Part, cluster_of, with_cluster}
+use Rattle.node_laws.proofs.Names.{brought, changed_as, changed_by, planned, append_assoc, ◌&&◌, nat_le, None, list_any}
+use Rattle.node_laws.proofs.Names.{both_true, leb-false, append-nil, Install, cluster_limit, all_differ, first_refusal}
 use Rattle.node_laws.proofs.Names.{has_cluster, part_refusals, parts_refusal, applies, suits, is_install, names_among}
 use Rattle.node_laws.proofs.Lists.{each-append, each-imp, each-both, each-map, each-unmap, each-filter, each-passes}
 use Rattle.node_laws.proofs.Lists.{both-none, neither}

@@ -1,15 +1,15 @@
 -- A change of transfers that touches none in processing and none processed.
-use Rattle.node_laws.proofs.Names.{◌≡◌, refl, sym, ap, ◌∙◌, ℕ, ◌<◌, Bool, true, false, List, [], ◌∷◌, ◌++◌, arith}
-use Rattle.node_laws.proofs.Names.{◌==◌, ◌&&◌, not, if◌then◌else◌, filter, map, option_map, IfSome, IsSomeAnd, Option}
-use Rattle.node_laws.proofs.Names.{Some, None, AllByRecursion, and_parts, eqb-true, find-append, cluster_limit}
-use Rattle.node_laws.proofs.Names.{Header, Phase, Transferring, Transferred, BeingProcessed, Processed, NodeState}
-use Rattle.node_laws.proofs.Names.{Session, Transfer, is_in, some_passes, names_among, is_of, IsConsistent}
-use Rattle.node_laws.proofs.Names.{IsPlannedWhole, is_processed, parts_in}
+use Rattle.node_laws.proofs.Names.{◌≡◌, refl, sym, ap, ◌∙◌, ℕ, ◌<◌, Bool, true, false, List, [], ◌∷◌, ◌++◌, arith, ◌==◌}
+use Rattle.node_laws.proofs.Names.{◌&&◌, not, if◌then◌else◌, filter, map, option_map, IfSome, IsSomeAnd, Option, Some}
+use Rattle.node_laws.proofs.Names.{None, AllByRecursion, and_parts, eqb-true, find-append, cluster_limit, Header, Phase}
+use Rattle.node_laws.proofs.Names.{Transferring, Transferred, BeingProcessed, Processed, NodeState, Session, Transfer}
+use Rattle.node_laws.proofs.Names.{is_in, some_passes, names_among, is_of, IsConsistent, IsPlannedWhole, is_processed}
+use Rattle.node_laws.proofs.Names.{parts_in}
 use Rattle.node_laws.proofs.Lists.{each-append, each-imp, each-filter, found-has, find-filter, any-filter, any-more}
 use Rattle.node_laws.proofs.Lists.{found, found-is, only, changed, each-changed, all-changed, any-changed, KeepsNames}
 use Rattle.node_laws.proofs.Lists.{found-changed}
-use Rattle.node_laws.proofs.Sessions.{Held, Base, Busy, InProcessing, IsUnfinished, base-of, busy-of, busy-is}
-use Rattle.node_laws.proofs.Sessions.{free-of, free-is, by-session}
+use Rattle.node_laws.proofs.Sessions.{Held, Base, Busy, InProcessing, IsUnfinished, base-of, busy-of, busy-is, free-of}
+use Rattle.node_laws.proofs.Sessions.{free-is, by-session}
 
 -- a phase before processing
 pub data IsEarly : Phase → Type 0 where

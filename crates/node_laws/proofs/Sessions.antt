@@ -1,7 +1,7 @@
 -- A consistent state, by whether it has a session.
-use Rattle.node_laws.proofs.Names.{arith, ◌≡◌, refl, subst, ℕ, ◌-◌, ◌<◌, ◌≤◌, true, false, List, [], ◌++◌, length}
-use Rattle.node_laws.proofs.Names.{◌==◌, min, option_and_then, Option, Some, None, IfSome, IsSomeAnd, is_some, find}
-use Rattle.node_laws.proofs.Names.{map, option_map_or, AllByRecursion, client_limit, cluster_limit, transfer_limit}
+use Rattle.node_laws.proofs.Names.{arith, ◌≡◌, refl, subst, ℕ, ◌-◌, ◌<◌, ◌≤◌, true, false, List, [], ◌++◌, length, ◌==◌}
+use Rattle.node_laws.proofs.Names.{min, option_and_then, Option, Some, None, IfSome, IsSomeAnd, is_some, find, map}
+use Rattle.node_laws.proofs.Names.{option_map_or, AllByRecursion, client_limit, cluster_limit, transfer_limit}
 use Rattle.node_laws.proofs.Names.{package_limit, last_id, line_limit, names_rise, Bytes, Status, Idle, Processing}
 use Rattle.node_laws.proofs.Names.{CleaningUp, BeingProcessed, Processed, NodeState, Session, Transfer, is_in}
 use Rattle.node_laws.proofs.Names.{has_status, some_passes, all_units, names_among, is_of, IsConsistent, SessionIsDue}

@@ -1,8 +1,8 @@
 -- One more entry of a history, and one more event of the master's list.
 use Rattle.world.proofs.Names.{arith, ◌≡◌, refl, sym, ap, subst, ◌∙◌, inl, inr, ℕ, List, [], ◌∷◌, ◌++◌, option_map}
-use Rattle.world.proofs.Names.{Option, Some, None, Entry, NodeState, Reading, after_entry, state_after}
-use Rattle.world.proofs.Names.{CampaignResult, MasterEvent, Enter, Current, Fold, after_event, campaign_from}
-use Rattle.world.proofs.Names.{campaign, nothing_yet, entered, Spans, span_step, spans_from, IsEntered}
+use Rattle.world.proofs.Names.{Option, Some, None, Entry, NodeState, Reading, after_entry, state_after, CampaignResult}
+use Rattle.world.proofs.Names.{MasterEvent, Enter, Current, Fold, after_event, campaign_from, campaign, nothing_yet}
+use Rattle.world.proofs.Names.{entered, Spans, span_step, spans_from, IsEntered}
 use Rattle.world.proofs.Rules.{InEarlier}
 
 pub after-append : (read : Reading) (s : NodeState) (es : List Entry) (e : Entry) → state_after read s (es ++ e ∷ []) ≡ after_entry read (state_after read s es) e

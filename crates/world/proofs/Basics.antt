@@ -1,14 +1,14 @@
 -- Laws of the real node: what is kept, what a refusal leaves, Sync, and the calls on a session.
-use Rattle.world.proofs.Names.{nat_tests, ◌≡◌, ◌⊎◌, inl, inr, ℕ, List, [], ◌∷◌, Option, Some, None, Bool, true, false}
+use Rattle.world.proofs.Names.{nat_tests, ◌≡◌, ◌⊎◌, inl, inr, ℕ, List, ◌∷◌, Option, Some, None, Bool, true, false}
 use Rattle.world.proofs.Names.{refl, sym, ◌∙◌, ap, arith, ◌==◌, not, option_map, option_and_then, if◌then◌else◌}
-use Rattle.world.proofs.Names.{option_or, option_map_or, eqb-true, get_or-set_same, CallNo, Bytes, SessionMark}
-use Rattle.world.proofs.Names.{Refusal, Cluster, Status, Idle, Kept, NodeState, Session, of_client, first_refusal}
-use Rattle.world.proofs.Names.{Verdict, ids_of, judge, reply_to, refusal, accepted, refused_or, Reading, verdict_for}
-use Rattle.world.proofs.Names.{formatted, IsConsistent, SessionIsDue, Call, Shown, Reply, Sync, TransferStart}
-use Rattle.world.proofs.Names.{TransferData, TransferExit, DeleteTransfer, ProcessSwPackage, Activate, Finish}
-use Rattle.world.proofs.Names.{Rollback, Revert, Done, Started, Synced, Refused, is_status}
+use Rattle.world.proofs.Names.{option_or, option_map_or, eqb-true, get_or-set_same, CallNo, Bytes, SessionMark, Refusal}
+use Rattle.world.proofs.Names.{Cluster, Status, Idle, Kept, NodeState, Session, of_client, first_refusal, Verdict}
+use Rattle.world.proofs.Names.{ids_of, judge, reply_to, refusal, accepted, refused_or, Reading, verdict_for}
+use Rattle.world.proofs.Names.{IsConsistent, SessionIsDue, Call, Shown, Reply, Sync, TransferStart, TransferData}
+use Rattle.world.proofs.Names.{TransferExit, DeleteTransfer, ProcessSwPackage, Activate, Finish, Rollback, Revert, Done}
+use Rattle.world.proofs.Names.{Started, Synced, Refused, is_status}
 use Rattle.world.proofs.Rules.{shown_of as seen_of, shown_session, KeepsSession, KeepsTransfers}
-use Rattle.world.proofs.Instance.{zero_no, last_in, kept_in, tag_if, mine_in, ended_in, judged_in, kept_after, real}
+use Rattle.world.proofs.Instance.{zero_no, last_in, kept_in, tag_if, ended_in, judged_in, kept_after, real}
 use Rattle.pm_types.specs.declared.calls.Call.TheVariants as call
 use Rattle.pm_types.specs.declared.replies.Reply.TheVariants as reply
 
@@ -67,26 +67,11 @@ module _ (read : Reading) (clusters : List (Cluster Bytes)) where
   pub keep_transfers : (s : NodeState) (at : CallNo) (c : Call) (r : Reply) → KeepsTransfers (real read clusters) s (kept_after s at c r)
   keep_transfers s at c r = record { transfers = refl; received = λ id. refl }
 
-  pub keep_ended : (s : NodeState) (at : CallNo) (c : Call) (r : Reply) → ended_in (kept_after s at c r) ≡ ended_in s
-  keep_ended s at c r = refl
-
-  pub formatted_mine : mine_in (formatted clusters) ≡ None
-  formatted_mine = refl
-
-  pub formatted_transfers : ids_of (formatted clusters) 0 ≡ []
-  formatted_transfers = refl
-
-  pub formatted_last : last_in (formatted clusters) ≡ record { epoch = 0; number = 0 }
-  formatted_last = refl
-
   pub judge_ended : (s : NodeState) (c : Call) → ended_in (judged_in read s c).0 ≡ ended_in s
   judge_ended s c = grind arith
 
   pub refused : (s : NodeState) (c : Call) (why : Refusal) → (judged_in read s c).1 ≡ Refused why → (judged_in read s c).0 ≡ s
   refused s c why e = refused-leaves s 0 (c) (verdict_for read s 0 (c)) why e
-
-  pub sync_state : (s : NodeState) → (judged_in read s Sync).0 ≡ s
-  sync_state s = refl
 
   pub sync_reply : (s : NodeState) → IsConsistent s → (judged_in read s Sync).1 ≡ Synced (record { session = shown_session (real read clusters) s; ended = ended_in s; transfers = ids_of s 0 })
   sync_reply s v = ap (λ (a : Option SessionMark). Synced (record { session = a; ended = ended_in s; transfers = ids_of s 0 })) (session-shown s.session s.status v.session)

@@ -1,16 +1,14 @@
 -- From the decision Commit on: a session that is Activated for the campaign ends as New, once.
 use Rattle.world.proofs.Names.{arith, ◌≡◌, ◌⊎◌, inl, inr, if◌then◌else◌, ◌&&◌, ◌||◌, ℕ, List, [], ◌∷◌, Option, Some}
 use Rattle.world.proofs.Names.{Bool, true, false, refl, sym, ◌∙◌, subst, New, Status, Activated, CleaningUp, Commit}
-use Rattle.world.proofs.Names.{Call, Sync, DeleteTransfer, Finish, is_status, Message, is_sync, end_call_at}
-use Rattle.world.proofs.Names.{delete_at, ◌≢◌, ◌++◌, ◌≤◌, None, is_some, ap, nat_tests, flat_map, Idle, Decision}
-use Rattle.world.proofs.Names.{CampaignResult, Successful, Fold, Current, flag_of, all_ended, is_result_of, IsBelow}
-use Rattle.world.proofs.Names.{Told, InSent, Packages, last_status, last_shown, next_number, MaySend, MaySendBy}
-use Rattle.world.proofs.Names.{MaySendLate, has_tag}
-use Rattle.world.proofs.Rules.{NodeRules, NodeLaws, Move, Delivered, Foreign, Unit_done, after, Spans}
-use Rattle.world.proofs.Rules.{spans, begins_span, IsNew, reached, delivered, NodeWorld, state_of, is_fresh_done}
-use Rattle.world.proofs.Rules.{InEarlier}
+use Rattle.world.proofs.Names.{Call, Sync, DeleteTransfer, Finish, is_status, Message, is_sync, end_call_at, delete_at}
+use Rattle.world.proofs.Names.{◌≢◌, ◌++◌, ◌≤◌, None, is_some, ap, nat_tests, flat_map, Decision, CampaignResult}
+use Rattle.world.proofs.Names.{Successful, Fold, Current, flag_of, all_ended, is_result_of, IsBelow, Told, InSent}
+use Rattle.world.proofs.Names.{Packages, last_status, last_shown, next_number, MaySend, MaySendBy, MaySendLate, has_tag}
+use Rattle.world.proofs.Rules.{NodeRules, NodeLaws, Move, Delivered, Foreign, Unit_done, after, Spans, spans}
+use Rattle.world.proofs.Rules.{begins_span, IsNew, reached, delivered, NodeWorld, state_of, is_fresh_done, InEarlier}
 use Rattle.world.proofs.Invariant.{Executable, KeptOld, KeptFold, refused-or}
-use Rattle.world.proofs.Events.{above-last, begins-mine, and-left}
+use Rattle.world.proofs.Events.{above-last, begins-mine}
 use Rattle.world.proofs.Records.{flagged-ended, SameFold, some-inj, in-append}
 
 -- a call that is sent after Commit
@@ -111,12 +109,7 @@ module _ (N : NodeRules) (laws : NodeLaws N) (packages : Packages) (n : ℕ) whe
   exec-back s m m' = grind (arith, nat_tests)
 
   calm-begins : (k : ℕ) (s : N.State) (m : Message) → (Executable N s m → IsCalm m.call) → begins_span N k s m ≡ false
-  calm-begins k s m calm =
-      bool-cases (begins_span N k s m) (λ e.
-      let h = and-left N laws (record { epoch = 0; earlier = []; current = None }) n (has_tag k m.call) (is_status (N.status s) Idle && is_fresh_done (reached N s m.at m.call)) e in
-      let h2 = and-left N laws (record { epoch = 0; earlier = []; current = None }) n (is_status (N.status s) Idle) (is_fresh_done (reached N s m.at m.call)) h.1 in
-      let q = has-tag-process k m.call (calm (fresh-exec s m h2.1)) in
-      cc (q, h.0))
+  calm-begins k s m calm = grind arith
 
   pub committed-deliver : (f : Fold) (x : NodeWorld N) (m : Message) → InSent m x.sent → KeptFold f → KeptOld N f n (record { moves = Delivered m ∷ x.moves; sent = x.sent; told = x.told }) → KeptCommitted f x → KeptCommitted f (record { moves = Delivered m ∷ x.moves; sent = x.sent; told = x.told })
   committed-deliver f x m sent fold old kept =

@@ -1,17 +1,18 @@
 -- Before the decision: what each event at a node keeps.
-use Rattle.world.proofs.Names.{◌≡◌, ◌≢◌, ◌⊎◌, inl, inr, ◌&&◌, ◌||◌, not, ℕ, List, [], ◌∷◌, Option, Some, None, Bool}
-use Rattle.world.proofs.Names.{true, false, is_some, nat_eq, refl, sym, ◌∙◌, ap, subst, arith, eqb-true, eq-eqb}
-use Rattle.world.proofs.Names.{Status, Activated, NodeSet, Vote, Fold, Current, flag_of, vote_of, all_yes, all_below}
-use Rattle.world.proofs.Names.{begun, Call, Reply, Sync, Again, Fresh, IsBelow, is_status, Message, Told, Answered}
-use Rattle.world.proofs.Names.{Showed, InSent, InTold, is_sync, is_told, Over, Packages, is_end_sync, activate_done}
-use Rattle.world.proofs.Names.{showed_after_activate, may_follow, MaySend, MaySendBy, MaySendEarly, next_number}
-use Rattle.world.proofs.Names.{EndEvidence}
-use Rattle.world.proofs.Records.{flagged-yes, some-inj, none-some, and-both}
-use Rattle.world.proofs.Rules.{NodeRules, NodeLaws, reached, delivered, Delivered, Foreign, Unit_done, NodeWorld}
+use Rattle.world.proofs.Names.{and_parts, ◌≡◌, ◌≢◌, ◌⊎◌, inl, inr, ◌&&◌, ◌||◌, not, ℕ, List, [], ◌∷◌, Option, Some}
+use Rattle.world.proofs.Names.{None, Bool, true, false, is_some, nat_eq, refl, sym, ◌∙◌, ap, subst, arith, eqb-true}
+use Rattle.world.proofs.Names.{eq-eqb, Status, Activated, NodeSet, Vote, Fold, Current, flag_of, vote_of, all_yes}
+use Rattle.world.proofs.Names.{all_below, begun, Call, Reply, Sync, IsBelow, is_status, Message, Told}
+use Rattle.world.proofs.Names.{Answered, Showed, InSent, InTold, is_sync, is_told, Over, Packages, is_end_sync}
+use Rattle.world.proofs.Names.{activate_done, showed_after_activate, may_follow, MaySend, MaySendBy, MaySendEarly}
+use Rattle.world.proofs.Names.{next_number, EndEvidence}
+use Rattle.world.proofs.Records.{flagged-yes, some-inj, none-some}
+use Rattle.world.proofs.Rules.{NodeRules, NodeLaws, Delivered, Foreign, Unit_done, NodeWorld}
 use Rattle.world.proofs.Rules.{state_of, spans}
 use Rattle.world.proofs.Invariant.{Executable, InPresent, IsFresh, KeptOld, Falling}
 use Rattle.world.proofs.EarlyFacts.{ClientEntry, with_entry, round_entries, InEntries, stage_after, IsAt, Activates}
 use Rattle.world.proofs.EarlyFacts.{EarlyAt, KeptEarly, KeptLive}
+use Rattle.node_laws.proofs.NameLists.{or-right}
 use Rattle.world.proofs.Events.{below-trans, span-ended, is-cleaning, open-mine}
 use Rattle.world.proofs.Sends.{next-above, next-epoch}
 use Rattle.world.proofs.Committed.{IsReadyToCommit}
@@ -20,10 +21,6 @@ use Rattle.world.proofs.EarlyNode.{early-foreign, early-unit, early-answered, ea
 
 pub in-current : (f : Fold) (n : ℕ) (k : ℕ) (c : Current) → f.current ≡ Some c → InPresent f n (λ y. k ≡ y.campaign) → k ≡ c.campaign
 in-current f n k c current h = h.4 ∙ ap (λ y. y.campaign) (some-inj h.0 c (sym h.1 ∙ current))
-
-or-right : (a b : Bool) → b ≡ true → (a || b) ≡ true
-or-right true b e = refl
-or-right false b e = e
 
 sync-is : (call : Call) → is_sync call ≡ true → call ≡ Sync
 sync-is x e = grind arith
@@ -34,10 +31,6 @@ told-before a true d e g p q r h = refl
 told-before a false d e g p q r h = grind arith
 
 module _ (N : NodeRules) (laws : NodeLaws N) (packages : Packages) (numbers : List ℕ) where
-  -- the number of a delivered message that was not Stale is the last one
-  pub last-facts : (s : N.State) (m : Message) (r : Reply) → (reached N s m.at m.call ≡ Again r) ⊎ (reached N s m.at m.call ≡ Fresh r) → m.at ≡ N.last (delivered N s m.at m.call)
-  last-facts s m r h = grind arith
-
   module _ (n : ℕ) where
     -- the last number is below the next
     pub next-exec : (f : Fold) (x : NodeWorld N) → KeptOld N f n x → KeptLive N f n x → IsBelow (N.last (state_of N x)) (next_number f.epoch x.sent)
@@ -100,7 +93,7 @@ module _ (N : NodeRules) (laws : NodeLaws N) (packages : Packages) (numbers : Li
         record { last_sent = live.last_sent; live = λ y h not_sync from. absurd (go x.sent evidence old.falling (λ m r t. (old.told_sent m r t).1) y h not_sync from); entry_sent = live.entry_sent }
       where
         is-sync : (m : Message) → is_end_sync c.campaign f.epoch m ≡ true → m.call ≡ Sync
-        is-sync m e = sync-is m.call (and-both (is_sync m.call) (m.decided && (nat_eq m.campaign c.campaign && nat_eq m.at.epoch f.epoch)) e).0
+        is-sync m e = sync-is m.call (and_parts (is_sync m.call) (m.decided && (nat_eq m.campaign c.campaign && nat_eq m.at.epoch f.epoch)) e).0
 
         go : (sent : List Message) → EndEvidence f.epoch c x.told sent → Falling sent → ((m : Message) (r : Reply) → InTold (Answered m r) x.told → IsBelow (N.last (state_of N x)) m.at → ⊥) → (y : Message) → InSent y sent → y.call ≢ Sync → (IsBelow (N.last (state_of N x)) y.at) ⊎ (y.at ≡ N.last (state_of N x)) → ⊥
         go [] e falling known y h not_sync from = h

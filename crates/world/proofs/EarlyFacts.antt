@@ -1,14 +1,14 @@
 -- Before the decision: what client 0's own entries of a node are, what the node is at each stage of them, and what every event keeps.
-use Rattle.world.proofs.Names.{◌≡◌, ◌≢◌, ◌⊎◌, ℕ, zero, suc, List, [], ◌∷◌, ◌++◌, Option, Some, None, Bool, true}
-use Rattle.world.proofs.Names.{false, not, ◌&&◌, nat_eq, Ready, Processing, Activating, Verifying, Activated}
-use Rattle.world.proofs.Names.{RollingBack, RolledBack, Fold, Current, vote_of, Reply, Reached, Sync, Fresh, IsBelow}
-use Rattle.world.proofs.Names.{Message, Told, InSent, told_reply, Stage, At_sync, At_start, At_data, At_process}
-use Rattle.world.proofs.Names.{At_activate, Over, Refused_once, call_at, onward, Packages, activate_done}
-use Rattle.world.proofs.Names.{showed_after_activate, arith, inl, inr, length, take, drop, refl, sym, ◌∙◌, ap, subst}
-use Rattle.world.proofs.Names.{append_assoc, Contains, flat_map, take-append-drop, append-nil, Contains-push}
-use Rattle.world.proofs.Names.{Contains-append_left, flat_map-append, Refusal, Call, TransferStart, TransferData}
-use Rattle.world.proofs.Names.{TransferExit, ProcessSwPackage, Activate, Done, Started, Refused, is_working}
-use Rattle.world.proofs.Names.{next_package, next_processed}
+use Rattle.world.proofs.Names.{◌≡◌, ◌≢◌, ◌⊎◌, ℕ, zero, suc, List, [], ◌∷◌, ◌++◌, Option, Some, None, Bool, true, false}
+use Rattle.world.proofs.Names.{not, ◌&&◌, nat_eq, Ready, Processing, Activating, Verifying, Activated, RollingBack}
+use Rattle.world.proofs.Names.{RolledBack, Fold, Current, vote_of, Reply, Reached, Sync, Fresh, IsBelow, Message, Told}
+use Rattle.world.proofs.Names.{InSent, told_reply, Stage, At_sync, At_start, At_data, At_process, At_activate, Over}
+use Rattle.world.proofs.Names.{Refused_once, call_at, onward, Packages, activate_done, showed_after_activate, arith}
+use Rattle.world.proofs.Names.{inl, inr, length, take, drop, refl, sym, ◌∙◌, ap, subst, append_assoc, Contains}
+use Rattle.world.proofs.Names.{flat_map, take-append-drop, append-nil, Contains-push, Contains-append_left}
+use Rattle.world.proofs.Names.{flat_map-append, Refusal, Call, TransferStart, TransferData, TransferExit}
+use Rattle.world.proofs.Names.{ProcessSwPackage, Activate, Done, Started, Refused, is_working, next_package}
+use Rattle.world.proofs.Names.{next_processed}
 use Rattle.world.proofs.Rules.{NodeRules, reached, Move, Delivered, Foreign, Unit_done, NodeWorld, after, state_of}
 use Rattle.world.proofs.Rules.{Span, spans, NodeLaws, KeepsSession, KeepsTransfers}
 use Rattle.world.proofs.Invariant.{InPresent}
@@ -204,29 +204,8 @@ module _ (N : NodeRules) (laws : NodeLaws N) where
   at-none_unit s passed k ps stage none = grind (arith, at-same)
 
   pub at-unit : (s : N.State) (passed : Bool) (k : ℕ) (ps : List (List ℕ)) (stage : Stage) → IsAt N s k ps stage → IsAt N (N.unit s passed) k ps stage
-  at-unit s passed k ps At_sync h = at-none_unit s passed k ps At_sync h h
-  at-unit s passed k ps (At_process ids (suc taken)) h =
-      let u = has-unit s passed k (flat_map N.changes_of h.done) h.has in
-      record { done = h.done; left = h.left; all = h.all; has = u.0; hold = hold-same s (N.unit s passed) u.1 ids h.left h.hold }
-  at-unit s passed k ps At_activate h = (has-unit s passed k (flat_map N.changes_of ps) h).0
-  at-unit s passed k ps Over h =
-      elim h.status [
-        | inl a ↦ (let u = laws.unit_activating s passed k h.mine a in record { mine = u.0; planned = u.2 ∙ h.planned; status = inr (inl u.1) })
-        | inr b ↦ elim b [
-          | inl a ↦
-              (let u = laws.unit_verifying s passed k h.mine a in
-              record { mine = u.0; planned = u.2 ∙ h.planned; status = elim u.1 [ inl x ↦ inr (inl x) | inr y ↦ elim y [ inl x ↦ inr (inr (inl x)) | inr x ↦ inr (inr (inr (inl x))) ] ] })
-          | inr c ↦ elim c [
-            | inl a ↦ subst (λ t. Activates N t k ps) (sym (laws.unit_still s passed (ap is_working a))) h
-            | inr d ↦ elim d [
-              | inl a ↦ (let u = laws.unit_rolling s passed k h.mine a in record { mine = u.0; planned = u.2 ∙ h.planned; status = inr (inr (inr (inr u.1))) })
-              | inr a ↦ subst (λ t. Activates N t k ps) (sym (laws.unit_still s passed (ap is_working a))) h
-            ]
-          ]
-        ]
-      ]
-  at-unit s passed k ps Refused_once h = absurd h
-  at-unit s passed k ps x h = at-none_unit s passed k ps x h.none h
+  at-unit s passed k ps stage h =
+      grind (arith, at-none_unit, has-unit, hold-same, laws.unit_activating, laws.unit_verifying, laws.unit_still, laws.unit_rolling)
 
   -- the stage's call: refused, or the node is at the next stage
   abbrev IsLed : N.State → Call → ℕ → List (List ℕ) → Stage → Type 0

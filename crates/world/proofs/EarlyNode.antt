@@ -1,15 +1,16 @@
 -- What one node's part of the time before the decision keeps under each event.
-use Rattle.world.proofs.Names.{nat_tests, arith, ◌≡◌, ◌≢◌, ◌⊎◌, inl, inr, if◌then◌else◌, ◌&&◌, ◌||◌, not, ◌++◌, ℕ}
-use Rattle.world.proofs.Names.{List, [], ◌∷◌, Option, Some, None, Bool, true, false, is_some, nat_eq, refl, sym, ◌∙◌}
-use Rattle.world.proofs.Names.{ap, subst, eqb-true, eq-eqb, CallNo, Status, Activated, Call, Reply, Sync, Activate}
-use Rattle.world.proofs.Names.{Done, IsBelow, no_eq, Message, Told, Answered, Showed, InSent, InTold, told_reply}
-use Rattle.world.proofs.Names.{is_told, is_activate, is_done, Stage, At_sync, At_activate, Over, Refused_once}
-use Rattle.world.proofs.Names.{call_at, onward, stage_of, one_if, replies_of, activate_done, showed_after_activate}
+use Rattle.world.proofs.Names.{and_parts, nat_tests, arith, ◌≡◌, ◌≢◌, inl, inr, if◌then◌else◌, ◌&&◌, not}
+use Rattle.world.proofs.Names.{◌++◌, ℕ, List, [], ◌∷◌, Option, Some, None, Bool, true, false, is_some, nat_eq, refl}
+use Rattle.world.proofs.Names.{sym, ◌∙◌, ap, subst, eqb-true, eq-eqb, CallNo, Status, Activated, Call, Reply, Sync}
+use Rattle.world.proofs.Names.{Activate, Done, IsBelow, no_eq, Message, Told, Answered, Showed, InSent, InTold}
+use Rattle.world.proofs.Names.{told_reply, is_told, is_activate, is_done, Stage, At_sync, At_activate, Over}
+use Rattle.world.proofs.Names.{Refused_once, call_at, onward, stage_of, one_if, replies_of, activate_done}
+use Rattle.world.proofs.Names.{showed_after_activate}
 use Rattle.world.proofs.Rules.{NodeRules, NodeLaws, reached, delivered, Span}
 use Rattle.world.proofs.Invariant.{Executable}
 use Rattle.world.proofs.EarlyFacts.{ClientEntry, judged, with_entry, InEntries, stage_after, Follows, IsAt, AllDone}
 use Rattle.world.proofs.EarlyFacts.{OneWaits, AllTold, OlderTold, EarlyAt, at-foreign, at-unit, at-keep, at-judge}
-use Rattle.world.proofs.Events.{below-irrefl}
+use Rattle.world.proofs.Events.{below-irrefl, or-true}
 
 pub same-no : (a b : CallNo) → no_eq a b ≡ true → a ≡ b
 same-no a b e = grind arith
@@ -160,21 +161,13 @@ module _ (N : NodeRules) (laws : NodeLaws N) where
           told_entry = λ e i r' t. entry e i r' (no_eq m.at e.message.at) refl t;
           is_on = h.is_on;
           over = λ d.
-              elim (or-true' (is_activate m.call && is_done r) (activate_done told) d) [
-                | inl a ↦ (let b = and-left' (is_activate m.call) (is_done r) a in new (call-activate m.call b.0) (reply-done r b.1))
+              elim (or-true (is_activate m.call && is_done r) (activate_done told) d) [
+                | inl a ↦ (let b = and_parts (is_activate m.call) (is_done r) a in new (call-activate m.call b.0) (reply-done r b.1))
                 | inr a ↦ h.over a
               ];
           activated = h.activated;
         }
       where
-        or-true' : (a b : Bool) → (a || b) ≡ true → (a ≡ true) ⊎ (b ≡ true)
-        or-true' true b e = inl refl
-        or-true' false b e = inr e
-
-        and-left' : (x y : Bool) → (x && y) ≡ true → (x ≡ true) × (y ≡ true)
-        and-left' true y z = (refl, z)
-        and-left' false y z = absurd (cc z)
-
         -- an entry with the last number has this reply
         reply-is : (e : ClientEntry) → InEntries e es → m.at ≡ e.message.at → e.reply ≡ r
         reply-is e i same = grind arith

@@ -1,22 +1,26 @@
 -- What deliveries, foreign calls and units keep of the invariant.
 use Rattle.pm_types.specs.declared.replies.Synced.{Synced as Shown}
 use Rattle.world.specs.Sends.{is_masters}
-use Rattle.world.proofs.Names.{◌≡◌, ◌≢◌, ◌⊎◌, inl, inr, if◌then◌else◌, ◌&&◌, ◌||◌, ℕ, ◌<◌, List, [], ◌∷◌, Option}
-use Rattle.world.proofs.Names.{Some, None, Bool, true, false, is_some, nat_eq, nat_lt, refl, sym, ◌∙◌, ap, subst}
-use Rattle.world.proofs.Names.{arith, nat_tests, CallNo, Status, Idle, Processing, Activating, Verifying, RollingBack}
+use Rattle.world.proofs.Names.{◌≡◌, ◌≢◌, ◌⊎◌, inl, inr, if◌then◌else◌, ◌&&◌, ◌||◌, ℕ, ◌<◌, List, [], ◌∷◌, Option, Some}
+use Rattle.world.proofs.Names.{None, Bool, true, false, is_some, nat_eq, nat_lt, refl, sym, ◌∙◌, ap, subst, arith}
+use Rattle.world.proofs.Names.{nat_tests, CallNo, Status, Idle, Processing, Activating, Verifying, RollingBack}
 use Rattle.world.proofs.Names.{RolledBack, CleaningUp, Decision, Commit, Abort, Fold, Current, Call, Reply}
 use Rattle.world.proofs.Names.{ProcessSwPackage, Finish, Synced, IsBelow, no_lt, no_eq, is_status, Message, Told}
 use Rattle.world.proofs.Names.{Answered, Showed, InSent, InTold, is_working, session_status, is_end_sync, shown_if}
 use Rattle.world.proofs.Names.{or_else, status_if, status_of_shown, last_shown, last_status, has_tag, eq-eqb}
 use Rattle.world.proofs.Names.{nothing_yet, Stale, Again, Fresh, is_done}
-use Rattle.world.proofs.Rules.{NodeRules, NodeLaws, delivered, reached, Move, Delivered, Foreign, Unit_done}
-use Rattle.world.proofs.Rules.{NodeWorld, step, state_of, Span, Spans, spans, is_fresh_done, begins_span, EachEnded}
-use Rattle.world.proofs.Rules.{after}
+use Rattle.world.proofs.Rules.{NodeRules, NodeLaws, delivered, reached, Move, Delivered, Foreign, Unit_done, NodeWorld}
+use Rattle.world.proofs.Rules.{step, state_of, Span, Spans, spans, is_fresh_done, begins_span, EachEnded, after}
+use Rattle.node_laws.proofs.NameLists.{or-right}
 use Rattle.world.proofs.Invariant.{IsRolledBack, EndsOld, KeptHolds, Executable, NoneEarly, InPresent, NotCommit}
 use Rattle.world.proofs.Invariant.{KeptOld, KeptFold, rolled-keeps, ends_old-keeps, rolled-foreign, ends_old-foreign}
-use Rattle.world.proofs.Invariant.{rolled-unit, ends_old-unit, kept-foreign, kept-unit, kept-delivered}
-use Rattle.world.proofs.Invariant.{delivered-cases, none-judge, some-judge, some-delivered, rolled-judge}
-use Rattle.world.proofs.Invariant.{ends_old-judge, cleaned, none-delivered}
+use Rattle.world.proofs.Invariant.{rolled-unit, ends_old-unit, kept-foreign, kept-unit, kept-delivered, delivered-cases}
+use Rattle.world.proofs.Invariant.{none-judge, some-judge, some-delivered, rolled-judge, ends_old-judge, cleaned}
+use Rattle.world.proofs.Invariant.{none-delivered}
+
+pub or-true : (a b : Bool) → (a || b) ≡ true → (a ≡ true) ⊎ (b ≡ true)
+or-true true b e = inl refl
+or-true false b e = inr e
 
 -- order of numbers
 pub below-trans : (a b c : CallNo) → IsBelow a b → IsBelow b c → IsBelow a c
@@ -195,16 +199,8 @@ module _ (N : NodeRules) (laws : NodeLaws N) (f : Fold) (n : ℕ) where
                 ];
           }
 
-  pub and-left : (a b : Bool) → (a && b) ≡ true → (a ≡ true) × (b ≡ true)
-  and-left true b e = (refl, e)
-  and-left false b e = absurd (cc e)
-
   pub begins-mine : (k : ℕ) (s : N.State) (at : CallNo) (call : Call) → (has_tag k call && (is_status (N.status s) Idle && is_fresh_done (reached N s at call))) ≡ true → N.mine (delivered N s at call) ≡ Some k
   begins-mine k s at x e = grind arith
-
-  pub or-true : (a b : Bool) → (a || b) ≡ true → (a ≡ true) ⊎ (b ≡ true)
-  or-true true b e = inl refl
-  or-true false b e = inr e
 
   pub event-deliver : (x : NodeWorld N) (m : Message) → InSent m x.sent → KeptFold f → KeptOld N f n x → KeptOld N f n (record { moves = Delivered m ∷ x.moves; sent = x.sent; told = x.told })
   event-deliver x m sent fold kept = kept-step x (Delivered m) fold kept steps
@@ -347,10 +343,6 @@ module _ (N : NodeRules) (laws : NodeLaws N) where
           ]
       go _ _ e' = absurd (cc (none, e'))
   none-begins s at x k none e = absurd (cc (none-delivered N laws s at x (λ i t z. cc) none, e))
-
-  or-right : (a b : Bool) → b ≡ true → (a || b) ≡ true
-  or-right true b e = refl
-  or-right false b e = e
 
   stays-open : (y : Spans N) (b : Bool) (z : List (Span N)) → y.is_open ≡ true → (b ≡ true → ⊥) → (if (y.is_open && b) then record { is_open = false; ended = z } else y).is_open ≡ true
   stays-open y b z open_ shut = grind arith

@@ -1,32 +1,30 @@
 -- What every event of a world keeps, and so the law of campaigns over every list of events, from the laws of a node alone.
-use Rattle.world.proofs.Names.{◌≡◌, ◌≢◌, ◌⊎◌, inl, inr, if◌then◌else◌, not, ◌+◌, ℕ, zero, suc, ◌≤◌, List, []}
-use Rattle.world.proofs.Names.{◌∷◌, Option, Some, None, Bool, true, false, is_some, is_none, nat_eq, refl, sym, ◌∙◌}
-use Rattle.world.proofs.Names.{ap, subst, arith, eqb-true, eqb_tells, flat_map, NodeId, Outcome, Activated, NodeSet}
-use Rattle.world.proofs.Names.{Vote, Decision, Commit, CampaignResult, Successful, MasterEvent, Start, Begin, VoteOf}
-use Rattle.world.proofs.Names.{Decide, EndedAt, Enter, Fold, Current, flag_of, vote_of, nothing_yet, all_ended}
-use Rattle.world.proofs.Names.{is_result_of, all_below, unless, in_current, refusal_of}
-use Rattle.world.proofs.Names.{changed, changed_in, after_event, entered, begun, Call, Reply, Reached, Stale, Again}
-use Rattle.world.proofs.Names.{Fresh, Status, Message, Answered, Showed, InSent, IsBelow, nth_sent, answer_of, Packages}
-use Rattle.world.proofs.Names.{MaySend, campaign_of, decided_of, next_number, EndEvidence, InCurrent, NamesOf}
-use Rattle.world.proofs.Names.{showed_after_activate}
+use Rattle.world.proofs.Names.{and_parts, ◌≡◌, ◌≢◌, ◌⊎◌, inl, inr, if◌then◌else◌, not, ◌+◌, ℕ, zero, suc, ◌≤◌, List, []}
+use Rattle.world.proofs.Names.{◌∷◌, Option, Some, None, Bool, true, false, is_some, is_none, nat_eq, refl, sym, ◌∙◌, ap}
+use Rattle.world.proofs.Names.{subst, arith, eqb-true, eqb_tells, flat_map, NodeId, Outcome, Activated, NodeSet, Vote}
+use Rattle.world.proofs.Names.{Decision, Commit, CampaignResult, Successful, MasterEvent, Start, Begin, VoteOf, Decide}
+use Rattle.world.proofs.Names.{EndedAt, Enter, Fold, Current, flag_of, vote_of, nothing_yet, all_ended, is_result_of}
+use Rattle.world.proofs.Names.{all_below, unless, in_current, refusal_of, changed, changed_in, after_event, entered}
+use Rattle.world.proofs.Names.{begun, Call, Reply, Reached, Stale, Again, Fresh, Status, Message, Answered, Showed}
+use Rattle.world.proofs.Names.{InSent, IsBelow, nth_sent, answer_of, Packages, MaySend, campaign_of, decided_of}
+use Rattle.world.proofs.Names.{next_number, EndEvidence, InCurrent, NamesOf, showed_after_activate}
 use Rattle.world.proofs.Rules.{NodeRules, NodeLaws, reached, delivered, Delivered, Foreign, Unit_done, NodeWorld, World}
 use Rattle.world.proofs.Rules.{state_of, Event, Deliver, Foreign_calls, Unit_comes, Send, Record, Restart, Evidence}
 use Rattle.world.proofs.Rules.{Allowed, with_node, emptied, deliver_to, recorded, happens, formatted_world, Makes}
 use Rattle.world.proofs.Rules.{opened_world, spans, IsOld, IsLeft, WorldLaw, InEarlier}
 use Rattle.world.proofs.Invariant.{InPresent, KeptOld, KeptFold}
-use Rattle.world.proofs.Records.{part-other, part-with, flagged-ended, SameAt, SameFold, some-inj, none-some, and-both}
-use Rattle.world.proofs.Records.{below-in, forget, present-forth, event-same, event-begin, event-decide, event-ended}
-use Rattle.world.proofs.Records.{event-enter}
+use Rattle.world.proofs.Records.{part-other, part-with, flagged-ended, SameAt, SameFold, some-inj, none-some, below-in}
+use Rattle.world.proofs.Records.{forget, present-forth, event-same, event-begin, event-decide, event-ended, event-enter}
 use Rattle.world.proofs.Events.{below-irrefl, event-deliver, event-foreign, event-unit, event-answered, event-showed}
 use Rattle.world.proofs.Sends.{event-send}
-use Rattle.world.proofs.Committed.{KeptCommitted, IsReadyToCommit, committed-deliver, committed-foreign}
-use Rattle.world.proofs.Committed.{committed-unit, committed-send, committed-told, committed-same, committed-decide}
-use Rattle.world.proofs.Committed.{committed-ended, committed-enter}
+use Rattle.world.proofs.Committed.{KeptCommitted, IsReadyToCommit, committed-deliver, committed-foreign, committed-unit}
+use Rattle.world.proofs.Committed.{committed-send, committed-told, committed-same, committed-decide, committed-ended}
+use Rattle.world.proofs.Committed.{committed-enter}
 use Rattle.world.proofs.EarlyFacts.{KeptEarly, KeptLive}
-use Rattle.world.proofs.EarlyEvents.{early-answered-event, early-begin, early-deliver, early-fold}
-use Rattle.world.proofs.EarlyEvents.{early-foreign-event, early-no, early-send, early-showed-event, early-unit-event}
-use Rattle.world.proofs.EarlyEvents.{live-deliver, live-ended, live-fold, live-foreign, live-send, live-told}
-use Rattle.world.proofs.EarlyEvents.{live-unit, next-exec, ready-node}
+use Rattle.world.proofs.EarlyEvents.{early-answered-event, early-begin, early-deliver, early-fold, early-foreign-event}
+use Rattle.world.proofs.EarlyEvents.{early-no, early-send, early-showed-event, early-unit-event, live-deliver}
+use Rattle.world.proofs.EarlyEvents.{live-ended, live-fold, live-foreign, live-send, live-told, live-unit, next-exec}
+use Rattle.world.proofs.EarlyEvents.{ready-node}
 
 nth-in : (ms : List Message) (k : ℕ) (m : Message) → nth_sent ms k ≡ Some m → InSent m ms
 nth-in [] k m e = absurd (cc e)
@@ -255,7 +253,7 @@ module _ (N : NodeRules) (laws : NodeLaws N) (packages : Packages) (numbers : Li
 
   -- at the decision Commit each named node is ready
   ready : (w : World N) (c : Current) → w.fold.current ≡ Some c → in_current (Some c) (Decide Commit) ≡ None → WorldKept w → (n : ℕ) → IsReadyToCommit N laws packages n c (w.node n)
-  ready w c current h kept n = grind (arith, unless-true, and-both, not, ready-node, is_none)
+  ready w c current h kept n = grind (arith, unless-true, and_parts, not, ready-node, is_none)
 
   decide : (w : World N) (d : Decision) (o : Option Current) → w.fold.current ≡ o → in_current o (Decide d) ≡ None → WorldKept w → WorldKept (record { fold = record w.fold { current = changed_in o (Decide d) }; node = w.node })
   decide w d None e h kept = absurd (cc h)

@@ -1,11 +1,10 @@
 -- The node of the tables over its fit states: the node of the world.
-use Rattle.world.proofs.Names.{List, Bool, true, false, Bytes, Part, Cluster, NodeState, is_working, ids_of}
-use Rattle.world.proofs.Names.{parts_read, Reading, formatted, id_in_processing, IsFit, Call, Reply, Synced, Refused}
-use Rattle.world.proofs.Names.{CallNo, arith, ◌≡◌, ◌≢◌, ◌⊎◌, inl, inr, ℕ, [], ◌∷◌, ◌++◌, Some, None, refl, sym, ap}
-use Rattle.world.proofs.Names.{subst, Contains, Refusal, Outcome, New, Old, Idle, Ready, Processing, Activating}
-use Rattle.world.proofs.Names.{Verifying, Activated, RollingBack, RolledBack, CleaningUp, TransferStart, TransferData}
-use Rattle.world.proofs.Names.{TransferExit, DeleteTransfer, ProcessSwPackage, Activate, Finish, Rollback, Revert}
-use Rattle.world.proofs.Names.{Cancel, Done}
+use Rattle.world.proofs.Names.{List, Bool, true, false, Bytes, Part, Cluster, NodeState, is_working, ids_of, parts_read}
+use Rattle.world.proofs.Names.{Reading, formatted, id_in_processing, IsFit, Call, Reply, Synced, Refused, CallNo, arith}
+use Rattle.world.proofs.Names.{◌≡◌, ◌≢◌, ◌⊎◌, inl, inr, ℕ, [], ◌∷◌, ◌++◌, Some, None, refl, sym, ap, subst, Contains}
+use Rattle.world.proofs.Names.{Refusal, Outcome, New, Old, Idle, Ready, Processing, Activating, Verifying, Activated}
+use Rattle.world.proofs.Names.{RollingBack, RolledBack, CleaningUp, TransferStart, TransferData, TransferExit}
+use Rattle.world.proofs.Names.{DeleteTransfer, ProcessSwPackage, Activate, Finish, Rollback, Revert, Cancel, Done}
 use Rattle.world.proofs.Rules.{NodeRules, NodeLaws, KeepsSession, KeepsTransfers}
 use Rattle.world.proofs.Instance.{Outside, last_in, kept_in, mine_in, owner_in, planned_in, outcome_in, ended_in}
 use Rattle.world.proofs.Instance.{received_in, judged_in, kept_after, outside_in, unit_in, BringsIn, LeavesIn, Opens}

@@ -1,10 +1,10 @@
 -- The node of the tables as the world sees it.
 use Rattle.world.proofs.Names.{◌≡◌, ℕ, suc, ◌==◌, ◌<◌, List, [], map, option_and_then, unwrap_or, Option, Some, None}
 use Rattle.world.proofs.Names.{Bool, true, false, option_map_or, CallNo, Bytes, EndMark, Outcome, Part, Cluster}
-use Rattle.world.proofs.Names.{Numbered, NodeState, of_client, changes_in, ids_of, transfer_of, parts_read, judge}
-use Rattle.world.proofs.Names.{step, name_of, reply_code, with_kept, with_entry, Reading, verdict_for, worked}
-use Rattle.world.proofs.Names.{formatted, id_in_processing, IsInstalled, RunsNew, Call, Reply, Done, arith, Ordering}
-use Rattle.world.proofs.Names.{Less, Equal, Greater, executed, call_no_cmp, Reached, no_lt, no_eq}
+use Rattle.world.proofs.Names.{Numbered, NodeState, of_client, changes_in, ids_of, transfer_of, parts_read, judge, step}
+use Rattle.world.proofs.Names.{name_of, reply_code, with_kept, with_entry, Reading, verdict_for, worked, formatted}
+use Rattle.world.proofs.Names.{id_in_processing, IsInstalled, RunsNew, Call, Reply, Done, arith, Ordering, Less, Equal}
+use Rattle.world.proofs.Names.{Greater, executed, call_no_cmp, Reached, no_lt, no_eq}
 use Rattle.node_laws.proofs.Kept.{opened_by}
 use Rattle.world.proofs.Rules.{NodeRules, delivered, reached as world_reached}
 

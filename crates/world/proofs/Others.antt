@@ -1,26 +1,26 @@
 -- Laws of the real node: calls of other clients, and units where client 0 has no session.
-use Rattle.world.proofs.Names.{nat_tests, eqb_tells, ◌≡◌, inl, inr, ℕ, suc, List, Option, Some, None, false, refl}
-use Rattle.world.proofs.Names.{◌∙◌, ap, arith, ◌==◌, option_and_then, slice_set, option_map_or, eqb-true}
-use Rattle.world.proofs.Names.{get_or-set_other, Bytes, Call, Cluster, Kept, NodeState, Session, of_client, Verdict}
-use Rattle.world.proofs.Names.{judge, reply_to, after_call, accepted, Reading, verdict_for, Done as NodeDone, ◌+◌, []}
-use Rattle.world.proofs.Names.{◌∷◌, ◌++◌, length, Bool, true, sym, subst, ◌||◌, not, is_none, find, nat_lt, map}
-use Rattle.world.proofs.Names.{filter, if◌then◌else◌, AllByRecursion, append-nil, filter-append, find-append, Refusal}
-use Rattle.world.proofs.Names.{InvalidTransferId, OperationNotPermitted, Phase, Transferred, BeingProcessed}
-use Rattle.world.proofs.Names.{Processed, UnitAfter, Status, Processing, Activating, Verifying, RollingBack}
-use Rattle.world.proofs.Names.{CleaningUp, Transfer, some_passes, is_in, all_units, led_by, begin_processing}
-use Rattle.world.proofs.Names.{stop_processing, is_of, transfer_of, header_of, parts_read, grown, in_phase, started}
-use Rattle.world.proofs.Names.{with_block, exited, deleted, first_refusal, after_reply, refusal, refused_or}
-use Rattle.world.proofs.Names.{with_entry, unit_of, process_unit, processed, parts_of_id, activate_unit, verify_unit}
-use Rattle.world.proofs.Names.{roll_back_unit, clean_up_unit, end_mark, IsConsistent, ChangesAreDue, IsPlannedWhole}
-use Rattle.world.proofs.Names.{id_in_processing, numbers_rise}
+use Rattle.world.proofs.Names.{nat_tests, eqb_tells, ◌≡◌, ℕ, suc, List, Option, Some, None, false, refl, ◌∙◌}
+use Rattle.world.proofs.Names.{ap, arith, ◌==◌, option_and_then, slice_set, option_map_or, eqb-true, get_or-set_other}
+use Rattle.world.proofs.Names.{Bytes, Call, Cluster, Kept, NodeState, Session, of_client, Verdict, judge, reply_to}
+use Rattle.world.proofs.Names.{after_call, accepted, Reading, verdict_for, Done as NodeDone, ◌+◌, [], ◌∷◌, ◌++◌, length}
+use Rattle.world.proofs.Names.{Bool, true, sym, subst, ◌||◌, not, is_none, find, nat_lt, map, filter, if◌then◌else◌}
+use Rattle.world.proofs.Names.{AllByRecursion, append-nil, filter-append, find-append, Refusal, InvalidTransferId}
+use Rattle.world.proofs.Names.{OperationNotPermitted, Transferred, BeingProcessed, Processed, UnitAfter, Status}
+use Rattle.world.proofs.Names.{Processing, Activating, Verifying, RollingBack, CleaningUp, Transfer, some_passes, is_in}
+use Rattle.world.proofs.Names.{all_units, led_by, begin_processing, stop_processing, is_of, transfer_of, header_of}
+use Rattle.world.proofs.Names.{parts_read, grown, in_phase, started, with_block, exited, deleted, first_refusal}
+use Rattle.world.proofs.Names.{after_reply, refusal, refused_or, with_entry, unit_of, process_unit, processed}
+use Rattle.world.proofs.Names.{parts_of_id, activate_unit, verify_unit, roll_back_unit, clean_up_unit, end_mark}
+use Rattle.world.proofs.Names.{IsConsistent, ChangesAreDue, IsPlannedWhole, id_in_processing, numbers_rise}
 use Rattle.world.proofs.Rules.{KeepsSession, KeepsTransfers}
 use Rattle.world.proofs.Instance.{ForeignCall, zero_no, last_in, kept_in, tag_if, mine_in, ended_in, foreign_in, real}
 use Rattle.world.proofs.Instance.{unit_in}
+use Rattle.node_laws.proofs.KeptProcessing.{names-kept}
 use Rattle.world.proofs.Basics.{judged-by, keeps-of, not-refused}
 use Rattle.world.proofs.Sessions.{mine-some}
 use Rattle.world.proofs.TransferLaws.{unit-cases, keeps-all, keeps-changed, data-rest}
 use Rattle.std.proofs.lemmas.Bool.{eq-eqb}
-use Rattle.node_laws.proofs.Lists.{KeepsNames, found-is, only, each-imp, each-both}
+use Rattle.node_laws.proofs.Lists.{found-is, only, each-imp, each-both}
 use Rattle.pm_types.specs.declared.calls.Call.TheVariants as call
 use Rattle.pm_types.specs.declared.replies.Reply.TheVariants as reply
 
@@ -63,10 +63,7 @@ foreign-keeps s x client z v e n = grind arith
 
 pub foreign_session : (read : Reading) (clusters : List (Cluster Bytes)) (s : NodeState) (f : ForeignCall) (tag : ℕ) → mine_in s ≡ Some tag → KeepsSession (real read clusters) s (foreign_in read s f)
 foreign_session read clusters s f tag mine =
-    grind (arith, eqb-other, mine-some, eqb-true, foreign-keeps, verdict_for, foreign-cases, real, keeps-of, after_call, reply_to)
-  where
-    eqb-other : (a b : ℕ) → a ≡ 0 → (a == suc b) ≡ false
-    eqb-other a b e = elim (eqb_tells a (suc b)) [ inl h ↦ absurd (let z : a ≡ suc b = h.1 in omega (arith, e, z)) | inr h ↦ h.0 ]
+    grind (arith, mine-some, eqb-true, foreign-keeps, foreign-cases, keeps-of, eqb_tells, verdict_for, real, after_call, reply_to)
 
 -- no call of another client makes a session of client 0
 abbrev mine-of : Option Session → Option ℕ
@@ -190,9 +187,6 @@ module _ (read : Reading) (clusters : List (Cluster Bytes)) where
           at _ r h = absurd (cc h)
 
   -- a call of another client
-  phase-keeps : (phase : Phase) → KeepsNames (λ t. record t { header = in_phase phase t.header })
-  phase-keeps phase = record { id = λ t. refl; client = λ t. refl }
-
   then-led : (s t : NodeState) (c : Call) → KeepsTransfers (real read clusters) s t → KeepsTransfers (real read clusters) s (led_by c t)
   then-led s t c k = grind arith
 
@@ -245,10 +239,10 @@ module _ (read : Reading) (clusters : List (Cluster Bytes)) where
   judged-others s a (call.DeleteTransfer id) w v = delete-others s a id w v
   judged-others s a (call.ProcessSwPackage id tag) w v =
       judged-by s (suc a) (call.ProcessSwPackage id tag) w (λ t. KeepsTransfers (real read clusters) s t) (keeps-all read clusters s s refl)
-      (then-led s (begin_processing s (suc a) id tag) (call.ProcessSwPackage id tag) (keeps-changed read clusters s (begin_processing s (suc a) id tag) id (λ t. record t { header = in_phase BeingProcessed t.header }) (phase-keeps BeingProcessed) (λ t. refl) refl))
+      (then-led s (begin_processing s (suc a) id tag) (call.ProcessSwPackage id tag) (keeps-changed read clusters s (begin_processing s (suc a) id tag) id (λ t. record t { header = in_phase BeingProcessed t.header }) (names-kept BeingProcessed) (λ t. refl) refl))
   judged-others s a (call.Cancel id) w v =
       judged-by s (suc a) (call.Cancel id) w (λ t. KeepsTransfers (real read clusters) s t) (keeps-all read clusters s s refl)
-      (then-led s (stop_processing s id) (call.Cancel id) (keeps-changed read clusters s (stop_processing s id) id (λ t. record t { header = in_phase Transferred t.header }) (phase-keeps Transferred) (λ t. refl) refl))
+      (then-led s (stop_processing s id) (call.Cancel id) (keeps-changed read clusters s (stop_processing s id) id (λ t. record t { header = in_phase Transferred t.header }) (names-kept Transferred) (λ t. refl) refl))
   judged-others s a x w v = judged-by s (suc a) x w (λ t. KeepsTransfers (real read clusters) s t) (keeps-all read clusters s s refl) (then-led s s x (keeps-all read clusters s s refl))
 
   pub foreign_transfers : (s : NodeState) (f : ForeignCall) → IsConsistent s → KeepsTransfers (real read clusters) s (foreign_in read s f)

@@ -1,10 +1,10 @@
 -- The parts of nodes: after one has changed, and where each flagged one passes a test.
-use Rattle.world.proofs.Names.{arith, ◌≡◌, ◌≢◌, ◌⊎◌, inl, inr, ℕ, zero, suc, List, [], ◌∷◌, Bool, true, false, refl}
-use Rattle.world.proofs.Names.{ap, Option, Some, None, slice_index_or, slice_set, and_parts, Outcome, Vote}
-use Rattle.world.proofs.Names.{part_of, with_part, all_flagged, has_ended, voted_yes, ◌&&◌, ◌<◌, ◌≤◌, ◌++◌, nat_lt}
-use Rattle.world.proofs.Names.{sym, ◌∙◌, subst, ltb-true, RolledBack, NodeSet, Decision, Commit, CampaignResult}
-use Rattle.world.proofs.Names.{Successful, Fold, Current, flag_of, end_of, all_ended, is_result_of, all_below, begun}
-use Rattle.world.proofs.Names.{Finish, Synced, Message, InSent, last_status, EndEvidence}
+use Rattle.world.proofs.Names.{arith, ◌≡◌, ◌≢◌, ◌⊎◌, inl, inr, ℕ, zero, suc, List, [], ◌∷◌, Bool, true, false, refl, ap}
+use Rattle.world.proofs.Names.{Option, Some, None, slice_index_or, slice_set, and_parts, Outcome, Vote, part_of}
+use Rattle.world.proofs.Names.{with_part, all_flagged, has_ended, voted_yes, ◌&&◌, ◌<◌, ◌≤◌, ◌++◌, nat_lt, sym, ◌∙◌}
+use Rattle.world.proofs.Names.{subst, ltb-true, RolledBack, NodeSet, Decision, Commit, CampaignResult, Successful, Fold}
+use Rattle.world.proofs.Names.{Current, flag_of, end_of, all_ended, is_result_of, all_below, begun, Finish, Synced}
+use Rattle.world.proofs.Names.{Message, InSent, last_status, EndEvidence}
 use Rattle.world.proofs.Rules.{NodeRules, NodeLaws, NodeWorld, state_of, spans, EachEnded, InEarlier}
 use Rattle.world.proofs.Invariant.{Executable, InPresent, NotCommit, IsFresh, KeptOld, Falling}
 use Rattle.world.proofs.Events.{below-trans, end-sync-decided}
@@ -67,18 +67,14 @@ some-inj a b e = cc e
 pub none-some : (o : Option Current) (c : Current) → o ≡ None → o ≡ Some c → ⊥
 none-some o c e h = cc (e, h)
 
-pub and-both : (a b : Bool) → (a && b) ≡ true → (a ≡ true) × (b ≡ true)
-and-both true b e = (refl, e)
-and-both false b e = absurd (cc e)
-
 pub in-append : (e : ℕ × CampaignResult) (xs : List (ℕ × CampaignResult)) (y : ℕ × CampaignResult) → InEarlier e (xs ++ y ∷ []) → InEarlier e xs ⊎ (e ≡ y)
 in-append e [] y h = elim h [ inl q ↦ inr q | inr q ↦ absurd q ]
 in-append e (x ∷ xs) y h = elim h [ inl q ↦ inl (inl q) | inr q ↦ (elim (in-append e xs y q) [ inl p ↦ inl (inr p) | inr p ↦ inr p ]) ]
 
 below-append : (k : ℕ) (xs : List (ℕ × CampaignResult)) (y : ℕ × CampaignResult) → all_below k (xs ++ y ∷ []) ≡ true → (all_below k xs ≡ true) × (y.0 < k)
-below-append k [] y h = (refl, ltb-true y.0 k (and-both (nat_lt y.0 k) true h).0)
+below-append k [] y h = (refl, ltb-true y.0 k (and_parts (nat_lt y.0 k) true h).0)
 below-append k (x ∷ xs) y h =
-    let q = and-both (nat_lt x.0 k) (all_below k (xs ++ y ∷ [])) h in
+    let q = and_parts (nat_lt x.0 k) (all_below k (xs ++ y ∷ [])) h in
     let r = below-append k xs y q.1 in
     (subst (λ b. (b && all_below k xs) ≡ true) (sym q.0) r.0, r.1)
 
@@ -88,7 +84,7 @@ not-commit o r h q e = grind arith
 pub below-in : (k : ℕ) (xs : List (ℕ × CampaignResult)) (j : ℕ) (r : CampaignResult) → all_below k xs ≡ true → InEarlier (j, r) xs → j < k
 below-in k [] j r a h = absurd h
 below-in k (x ∷ xs) j r a h =
-    let q = and-both (nat_lt x.0 k) (all_below k xs) a in
+    let q = and_parts (nat_lt x.0 k) (all_below k xs) a in
     elim h [ inl e ↦ subst (λ y. y < k) (sym (ap (λ y. y.0) e)) (ltb-true x.0 k q.0) | inr h' ↦ below-in k xs j r q.1 h' ]
 
 module _ (N : NodeRules) (laws : NodeLaws N) (n : ℕ) where

@@ -3,8 +3,8 @@ use Rattle.world.proofs.Names.{◌≡◌, ◌≢◌, ℕ, zero, suc, ◌+◌, �
 use Rattle.world.proofs.Names.{sym, ◌∙◌, ap, append_assoc, length-drop, arith, Call, Reply, Sync, TransferStart}
 use Rattle.world.proofs.Names.{TransferData, TransferExit, ProcessSwPackage, Activate, Done, Started, Synced, Fits}
 use Rattle.world.proofs.Names.{AllFit, blocks_from, head_or, tail_of, all_transfers, all_processed, round_calls}
-use Rattle.world.proofs.Names.{nth_call, Stage, At_sync, At_start, At_data, At_process, At_activate, Over}
-use Rattle.world.proofs.Names.{Refused_once, call_at, onward, next_package, next_processed, stage_of}
+use Rattle.world.proofs.Names.{nth_call, Stage, At_sync, At_start, At_data, At_process, At_activate, Over, Refused_once}
+use Rattle.world.proofs.Names.{call_at, onward, next_package, next_processed, stage_of}
 use Rattle.world.specs.RoundCalls.{ids_of}
 
 -- the processing of these ids, and Activate

@@ -1,6 +1,6 @@
 -- What a send keeps of the invariant.
-use Rattle.world.proofs.Names.{◌≡◌, ◌≢◌, inl, inr, if◌then◌else◌, ◌||◌, ◌+◌, ℕ, ◌≤◌, List, [], ◌∷◌, Option, Some}
-use Rattle.world.proofs.Names.{None, Bool, true, false, is_some, nat_eq, refl, sym, ◌∙◌, ap, subst, arith, eqb-true}
+use Rattle.world.proofs.Names.{◌≡◌, ◌≢◌, inl, inr, if◌then◌else◌, ◌||◌, ◌+◌, ℕ, ◌≤◌, List, [], ◌∷◌, Option, Some, None}
+use Rattle.world.proofs.Names.{Bool, true, false, is_some, nat_eq, refl, sym, ◌∙◌, ap, subst, arith, eqb-true}
 use Rattle.world.proofs.Names.{eqb_tells, RolledBack, Cause, Decision, Abort, Fold, Current, end_of, Call}
 use Rattle.world.proofs.Names.{ProcessSwPackage, Finish, IsBelow, Message, InSent, is_sync, Packages, last_status}
 use Rattle.world.proofs.Names.{last_shown, end_call_at, delete_at, next_number, MaySend, MaySendBy, MaySendLate}

@@ -1,13 +1,12 @@
 -- Laws of the real node: the calls on client 0's session.
-use Rattle.world.proofs.Names.{arith, ◌≡◌, ◌≢◌, ◌⊎◌, inl, inr, ℕ, List, [], ◌∷◌, Option, Some, None, Bool, true}
-use Rattle.world.proofs.Names.{false, refl, sym, ◌∙◌, ap, subst, ◌==◌, not, is_none, option_map}
-use Rattle.world.proofs.Names.{option_and_then, option_map_or, Bytes, Call, Outcome, New, Old, Refusal}
-use Rattle.world.proofs.Names.{Change, Cluster, Status, Idle, Ready, Processing, Activating, Verifying, Activated}
-use Rattle.world.proofs.Names.{RollingBack, RolledBack, CleaningUp, NodeState, Session, some_passes, first_refusal}
-use Rattle.world.proofs.Names.{status_table, session_refusals, changes_in, arrive, clean_up}
-use Rattle.world.proofs.Names.{stop_processing, cancel_refusals, transfer_of, header_of, refusal}
-use Rattle.world.proofs.Names.{Reading, verdict_for, IsConsistent, id_in_processing, ProcessSwPackage, Activate}
-use Rattle.world.proofs.Names.{Finish, Rollback, Revert, Done, is_status}
+use Rattle.world.proofs.Names.{arith, ◌≡◌, ◌≢◌, ◌⊎◌, inl, inr, ℕ, List, [], ◌∷◌, Option, Some, None, true, false}
+use Rattle.world.proofs.Names.{refl, sym, ◌∙◌, ap, subst, ◌==◌, not, is_none, option_map, option_and_then}
+use Rattle.world.proofs.Names.{option_map_or, Bytes, Call, Outcome, New, Old, Refusal, Change, Cluster, Status, Idle}
+use Rattle.world.proofs.Names.{Ready, Processing, Activating, Verifying, Activated, RollingBack, RolledBack, CleaningUp}
+use Rattle.world.proofs.Names.{NodeState, Session, some_passes, first_refusal, status_table, session_refusals}
+use Rattle.world.proofs.Names.{changes_in, arrive, clean_up, stop_processing, cancel_refusals, transfer_of, header_of}
+use Rattle.world.proofs.Names.{refusal, Reading, verdict_for, IsConsistent, id_in_processing, ProcessSwPackage}
+use Rattle.world.proofs.Names.{Activate, Finish, Rollback, Revert, Done, is_status}
 use Rattle.world.proofs.Instance.{tag_if, mine_in, planned_in, outcome_in, judged_in}
 use Rattle.world.proofs.Basics.{done-or-refused, done-accepted, done-none, or-none}
 use Rattle.pm_types.specs.declared.calls.Call.TheVariants as call
@@ -22,10 +21,6 @@ session-there s v n = grind arith
 
 pub session_status : (s : NodeState) (tag : ℕ) → IsConsistent s → mine_in s ≡ Some tag → s.status ≢ Idle
 session_status s tag v e q = grind arith
-
-not-false : (b : Bool) → not b ≡ false → b ≡ true
-not-false true e = refl
-not-false false e = absurd (cc e)
 
 -- not another's
 pub not-busy : (s : NodeState) (x : Session) → s.session ≡ Some x → some_passes (λ (y : Session). not (y.owner == 0)) s.session ≡ false → mine_in s ≡ Some x.tag

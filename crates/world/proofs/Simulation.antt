@@ -3,8 +3,8 @@ use Rattle.world.proofs.Names.{◌≡◌, refl, ap, ℕ, suc, Bool, true, false,
 use Rattle.world.proofs.Names.{CallNo, Call, Entry, Reached, Idle, CleaningUp, NodeState, UnitAfter as UnitLine}
 use Rattle.world.proofs.Names.{with_entry, step, unit, Reading, verdict_for, state_after, IsConsistent, is_status}
 use Rattle.world.proofs.Names.{Spans, has_tag, span_of, spans, reached, worked_on, shown_by, ◌∙◌, ◌<◌, [], map, Some}
-use Rattle.world.proofs.Names.{AllByRecursion, Current, Message, Showed, no_lt, no_eq, Span, NodeWorld, World}
-use Rattle.world.proofs.Names.{fold_of, state_of, called, delivered}
+use Rattle.world.proofs.Names.{AllByRecursion, Current, Message, Showed, no_lt, no_eq, Span, NodeWorld, World, fold_of}
+use Rattle.world.proofs.Names.{state_of, called, delivered}
 use Rattle.world.proofs.Appended.{after-append, spans-append}
 use Rattle.world.proofs.Instance.{unit_in, ForeignCall, Calls, judged_in, kept_after, saved_in, delivered-is}
 use Rattle.world.proofs.Rules.{is_fresh_done}

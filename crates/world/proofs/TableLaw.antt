@@ -1,15 +1,16 @@
 -- Whole worlds: every event of the tables is one of the rules.
-use Rattle.world.proofs.Names.{◌≡◌, refl, sym, ap, subst, ◌∙◌, ℕ, zero, suc, ◌+◌, ◌<◌, ◌≤◌, Bool, List, [], ◌∷◌}
-use Rattle.world.proofs.Names.{length, arith, Option, Some, None, AllByRecursion, Bytes, CallNo, Call, Cluster}
-use Rattle.world.proofs.Names.{Reading, MasterEvent, Start, Current, Fold, refusal_of, after_event}
-use Rattle.world.proofs.Names.{IsInstalled, Message, nth_sent, Packages, MaySend, next_number, campaign_of}
-use Rattle.world.proofs.Names.{decided_of, InCurrent, NodeWorld, World, fold_of, Event, Deliver, Foreign, Work, Send}
-use Rattle.world.proofs.Names.{Record, Restart, HasEvidence, IsAllowed, delivered, message, with_node, recorded}
-use Rattle.world.proofs.Names.{happens, opened, Makes, map, NodeState, CampaignResult, Successful, IsReading, IsFit}
-use Rattle.world.proofs.Names.{Span, IsNew, IsOld, CampaignLaw, IsLeft, parts_in}
+use Rattle.world.proofs.Names.{◌≡◌, refl, sym, ap, subst, ◌∙◌, ℕ, zero, suc, ◌+◌, ◌<◌, ◌≤◌, Bool, List, [], ◌∷◌, length}
+use Rattle.world.proofs.Names.{arith, Option, Some, None, AllByRecursion, Bytes, CallNo, Call, Cluster, Reading}
+use Rattle.world.proofs.Names.{MasterEvent, Start, Current, Fold, refusal_of, after_event, IsInstalled, Message}
+use Rattle.world.proofs.Names.{nth_sent, Packages, MaySend, next_number, campaign_of, decided_of, InCurrent, NodeWorld}
+use Rattle.world.proofs.Names.{World, fold_of, Event, Deliver, Foreign, Work, Send, Record, Restart, HasEvidence}
+use Rattle.world.proofs.Names.{IsAllowed, delivered, message, with_node, recorded, happens, opened, Makes, map}
+use Rattle.world.proofs.Names.{NodeState, CampaignResult, Successful, IsReading, IsFit, Span, IsNew, IsOld, CampaignLaw}
+use Rattle.world.proofs.Names.{IsLeft, parts_in}
 use Rattle.world.proofs.Appended.{fold-append, entered-earlier}
 use Rattle.world.proofs.Instance.{ForeignCall, Opens, Calls, Outside, saved_in, outside_in}
 use Rattle.world.proofs.FitLaws.{KeepsNode, fit, fit-laws}
+use Rattle.world.proofs.Sends.{next-epoch}
 use Rattle.world.proofs.Simulation.{SameNode, SameWorld, same-deliver, same-foreign, same-work, told_span, told_spans}
 use Rattle.node_laws.proofs.Kept.{keeps-fit, kept-fit, entry-fit, opened-fit}
 use Rattle.world.proofs.Rules.{InEarlier}
@@ -28,9 +29,6 @@ nth-has : (P : Message → Type 0) (ms : List Message) (i : ℕ) (m : Message) �
 nth-has P [] i m h e = absurd (cc)
 nth-has P (x ∷ ms) zero m h e = let same : x ≡ m = cc e in subst P same h.0
 nth-has P (x ∷ ms) (suc i) m h e = nth-has P ms i m h.1 e
-
-next-epoch : (epoch : ℕ) (ms : List Message) → (next_number epoch ms).epoch ≡ epoch
-next-epoch epoch x = grind arith
 
 module _ (read : Reading) (keeps : KeepsNode read []) (packages : Packages) (numbers : List ℕ) where
   -- an event of the rules that does what one of the tables does

@@ -1,23 +1,24 @@
 -- Laws of the real node: work units.
-use Rattle.world.proofs.Names.{◌≡◌, ◌⊎◌, ℕ, List, [], ◌∷◌, Option, Some, None, Bool, false, refl, ◌∙◌, ap, subst}
-use Rattle.world.proofs.Names.{arith, IfSome, option_map, option_and_then, map, unwrap_or, eqb-true, get_or-set_same}
-use Rattle.world.proofs.Names.{Bytes, Outcome, New, Old, UnitAfter, Change, Status, Idle, Processing, Activating}
-use Rattle.world.proofs.Names.{Verifying, Activated, RollingBack, RolledBack, CleaningUp, NodeState, Session}
-use Rattle.world.proofs.Names.{is_working, cluster_of, with_entry, unit_of, IsConsistent, should_run}
-use Rattle.world.proofs.Names.{id_in_processing, ◌≢◌, zero, suc, ◌+◌, ◌<◌, ◌++◌, length, get_or, true, ◌==◌, ◌||◌}
-use Rattle.world.proofs.Names.{not, find, nat_lt, filter, if◌then◌else◌, AllByRecursion, Contains, eq-eqb, map-append}
-use Rattle.world.proofs.Names.{filter-append, find-append, block_limit, Call, Refusal, OperationNotPermitted}
-use Rattle.world.proofs.Names.{IncorrectBlock, IncorrectSize, Header, Phase, Transferring, Transferred}
-use Rattle.world.proofs.Names.{BeingProcessed, Processed, Part, Cluster, Ready, Transfer, some_passes, is_in}
-use Rattle.world.proofs.Names.{changes_of, all_units, led_by, begin_processing, is_of, ids_of, parts_read}
-use Rattle.world.proofs.Names.{in_phase, exited, process_unit, processed, parts_of_id, activate_unit, verify_unit}
-use Rattle.world.proofs.Names.{roll_back_unit, Reading, verdict_for, IsSound, IsFit, TransferStart, TransferData}
-use Rattle.world.proofs.Names.{TransferExit, ProcessSwPackage, Done, Started}
+use Rattle.world.proofs.Names.{◌≡◌, ◌⊎◌, ℕ, List, [], ◌∷◌, Option, Some, None, Bool, false, refl, ◌∙◌, ap, subst, arith}
+use Rattle.world.proofs.Names.{IfSome, option_map, option_and_then, map, unwrap_or, eqb-true, get_or-set_same, Bytes}
+use Rattle.world.proofs.Names.{Outcome, New, Old, UnitAfter, Status, Idle, Processing, Activating, Verifying}
+use Rattle.world.proofs.Names.{Activated, RollingBack, RolledBack, CleaningUp, NodeState, Session}
+use Rattle.world.proofs.Names.{with_entry, unit_of, IsConsistent, should_run, id_in_processing, ◌≢◌, zero}
+use Rattle.world.proofs.Names.{suc, ◌+◌, ◌<◌, ◌++◌, length, get_or, true, ◌==◌, ◌||◌, not, find, nat_lt, filter}
+use Rattle.world.proofs.Names.{if◌then◌else◌, AllByRecursion, Contains, eq-eqb, map-append, filter-append, find-append}
+use Rattle.world.proofs.Names.{block_limit, Call, Refusal, OperationNotPermitted, IncorrectBlock, IncorrectSize, Header}
+use Rattle.world.proofs.Names.{Transferring, Transferred, BeingProcessed, Processed, Cluster, Ready}
+use Rattle.world.proofs.Names.{Transfer, some_passes, is_in, all_units, led_by, begin_processing, is_of}
+use Rattle.world.proofs.Names.{ids_of, parts_read, in_phase, exited, process_unit, processed, parts_of_id}
+use Rattle.world.proofs.Names.{activate_unit, verify_unit, roll_back_unit, Reading, verdict_for, IsSound, IsFit}
+use Rattle.world.proofs.Names.{TransferStart, TransferData, TransferExit, ProcessSwPackage, Done, Started}
 use Rattle.world.proofs.WordLaws.{run_parts, planned-run, runs-new}
 use Rattle.world.proofs.Instance.{last_in, kept_in, mine_in, planned_in, outcome_in, ended_in, unit_in, BringsIn}
 use Rattle.world.proofs.Instance.{LeavesIn, tag_if, received_in, judged_in, real}
 use Rattle.node_laws.proofs.Lists.{changed, KeepsNames, found-is, found-changed}
 use Rattle.world.proofs.Rules.{KeepsTransfers}
+use Rattle.node_laws.proofs.NameLists.{names-of-parts}
+use Rattle.node_laws.proofs.KeptProcessing.{names-kept, parts-of-changes}
 use Rattle.world.proofs.Basics.{judged-by, done-none, not-refused}
 use Rattle.pm_types.specs.declared.calls.Call.TheVariants as call
 
@@ -38,9 +39,6 @@ unit-is s passed x t e q = grind arith
 
 pub unit_last : (s : NodeState) (passed : Bool) → (last_in (unit_in s passed) ≡ last_in s) × (kept_in (unit_in s passed) ≡ kept_in s)
 unit_last s passed = grind arith
-
-pub unit_still : (s : NodeState) (passed : Bool) → is_working s.status ≡ false → unit_in s passed ≡ s
-unit_still s passed w = grind arith
 
 -- client 0's session under a unit
 abbrev pub GoesTo : NodeState → NodeState → ℕ → (Status → Type 0) → Type 0
@@ -67,13 +65,9 @@ unit_cleaning s passed tag o v mine st out =
 runs : (s : NodeState) (x : Session) → IsConsistent s → s.session ≡ Some x → s.running ≡ should_run x s.status x.outcome
 runs s x v e = subst (λ o. IfSome o (λ (y : Session). s.running ≡ should_run y s.status y.outcome)) e v.running
 
-names-of : (changes : List (Change Bytes)) → map cluster_of (map (λ (change : Change Bytes). change.part) changes) ≡ map (λ (change : Change Bytes). cluster_of change.part) changes
-names-of [] = refl
-names-of (c ∷ cs) = ap (λ (l : List (List ℕ)). cluster_of c.part ∷ l) (names-of cs)
-
 pub cleaning_new : (s : NodeState) (passed : Bool) (tag : ℕ) → IsConsistent s → mine_in s ≡ Some tag → s.status ≡ CleaningUp → outcome_in s ≡ Some New → BringsIn (planned_in s) s (unit_in s passed)
 cleaning_new s passed tag v mine st out =
-    grind (arith, unit-is, at-status, runs, planned_in, names-of, unit_in, runs-new, planned-run, run_parts)
+    grind (arith, unit-is, at-status, runs, planned_in, names-of-parts, unit_in, runs-new, planned-run, run_parts)
 
 pub cleaning_old : (s : NodeState) (passed : Bool) (tag : ℕ) → IsConsistent s → mine_in s ≡ Some tag → s.status ≡ CleaningUp → outcome_in s ≡ Some Old → LeavesIn s (unit_in s passed)
 cleaning_old s passed tag v mine st out = grind arith
@@ -107,9 +101,6 @@ module _ (read : Reading) (clusters : List (Cluster Bytes)) where
   pub keeps-changed : (s t : NodeState) (id : ℕ) (f : Transfer → Transfer) → KeepsNames f → ((y : Transfer) → (f y).bytes ≡ y.bytes) → t.transfers ≡ map (changed id f) s.transfers → KeepsTransfers (real read clusters) s t
   keeps-changed s t id f k b e = grind (arith, ids-changed, found-changed)
 
-  phase-names : (phase : Phase) → KeepsNames (λ t. record t { header = in_phase phase t.header })
-  phase-names phase = record { id = λ t. refl; client = λ t. refl }
-
   -- TransferExit and ProcessSwPackage
   pub exit_received : (s : NodeState) (id : ℕ) → KeepsTransfers (real read clusters) s (judged_in read s (TransferExit id)).0
   exit_received s id =
@@ -122,7 +113,7 @@ module _ (read : Reading) (clusters : List (Cluster Bytes)) where
   pub process_received : (s : NodeState) (id tag : ℕ) → KeepsTransfers (real read clusters) s (judged_in read s (ProcessSwPackage id tag)).0
   process_received s id tag =
       judged-by s 0 (call.ProcessSwPackage id tag) (verdict_for read s 0 (call.ProcessSwPackage id tag)) (λ t. KeepsTransfers (real read clusters) s t) (keeps-all s s refl)
-      (keeps-changed s (led_by (call.ProcessSwPackage id tag) (begin_processing s 0 id tag)) id (λ t. record t { header = in_phase BeingProcessed t.header }) (phase-names BeingProcessed) (λ t. refl) (led-transfers (call.ProcessSwPackage id tag) (begin_processing s 0 id tag)))
+      (keeps-changed s (led_by (call.ProcessSwPackage id tag) (begin_processing s 0 id tag)) id (λ t. record t { header = in_phase BeingProcessed t.header }) (names-kept BeingProcessed) (λ t. refl) (led-transfers (call.ProcessSwPackage id tag) (begin_processing s 0 id tag)))
 
   pub data_transfers : (s : NodeState) (id counter : ℕ) (bytes : List ℕ) → ids_of (judged_in read s (TransferData id counter bytes)).0 0 ≡ ids_of s 0
   data_transfers s id counter bytes = grind (arith, ids-changed)
@@ -159,7 +150,7 @@ module _ (read : Reading) (clusters : List (Cluster Bytes)) where
     where
       go : (b : Bool) → KeepsTransfers (real read clusters) s (if b then record s { session = Some (record x { units_done = x.units_done + 1 }) } else processed s x id (parts_of_id s x id))
       go true = keeps-all s (record s { session = Some (record x { units_done = x.units_done + 1 }) }) refl
-      go false = keeps-changed s (processed s x id (parts_of_id s x id)) id (λ t. record t { header = in_phase Processed t.header }) (phase-names Processed) (λ t. refl) refl
+      go false = keeps-changed s (processed s x id (parts_of_id s x id)) id (λ t. record t { header = in_phase Processed t.header }) (names-kept Processed) (λ t. refl) refl
 
   pub unit_received : (s : NodeState) (passed : Bool) → s.status ≢ CleaningUp → KeepsTransfers (real read clusters) s (unit_in s passed)
   unit_received s passed n = unit-cases s passed (λ t. KeepsTransfers (real read clusters) s t) (keeps-all s s refl) (λ x e t q. go s.status x t refl q)
@@ -187,13 +178,9 @@ module _ (read : Reading) (clusters : List (Cluster Bytes)) where
       go _ x t e q = absurd (cc q)
 
   -- a package in processing
-  parts-back : (id : ℕ) (parts : List (Part Bytes)) → map (λ (change : Change Bytes). change.part) (changes_of id parts) ≡ parts
-  parts-back id [] = refl
-  parts-back id (p ∷ ps) = ap (λ (l : List (Part Bytes)). p ∷ l) (parts-back id ps)
-
   parts-are : (s : NodeState) (x : Session) (id : ℕ) → IsFit read s → s.session ≡ Some x → (x.owner == 0) ≡ true → x.processing ≡ Some id → parts_of_id s x id ≡ parts_read (read (received_in s id))
   parts-are s x id fit e owner p = grind (arith, received_in, find-all, found-is, eq-eqb)
 
   pub unit_processing : (s : NodeState) (passed : Bool) (tag id : ℕ) → IsFit read s → mine_in s ≡ Some tag → s.status ≡ Processing → id_in_processing s ≡ Some id → (mine_in (unit_in s passed) ≡ Some tag) × (ended_in (unit_in s passed) ≡ ended_in s) × ((((unit_in s passed).status ≡ Processing) × (planned_in (unit_in s passed) ≡ planned_in s) × (id_in_processing (unit_in s passed) ≡ Some id)) ⊎ (((unit_in s passed).status ≡ Ready) × (planned_in (unit_in s passed) ≡ planned_in s ++ parts_read (read (received_in s id)))))
   unit_processing s passed tag id fit mine st p =
-      grind (arith, unit-is, mine_in, ended_in, planned_in, received_in, tag_if, map-append, parts-back, parts-are)
+      grind (arith, unit-is, mine_in, ended_in, planned_in, received_in, tag_if, map-append, parts-of-changes, parts-are)

@@ -1,13 +1,12 @@
 -- Two closed lists of events: one node installs a cluster and the campaign ends successful, or its check fails and it ends failed.
 use Rattle.world.specs.World.{HasEvidence}
 use Rattle.std.specs.Prelude.{Contains, ℕ, suc, ◌<◌}
-use Rattle.world.proofs.Names.{◌≡◌, List, [], ◌∷◌, ◌++◌, Some, None, true, false, Ok, if◌then◌else◌, nat_eq}
-use Rattle.world.proofs.Names.{replicate, refl, inl, arith, Bytes, NodeSet, Install, Call, Sync, TransferStart}
-use Rattle.world.proofs.Names.{TransferData, TransferExit, ProcessSwPackage, Activate, Finish, Cluster, Part, Outcome}
-use Rattle.world.proofs.Names.{New, Old, Reading, Commit, Abort, Successful, Failed, MasterEvent, Start, Begin}
-use Rattle.world.proofs.Names.{PhaseTo, VoteOf, Decide, EndedAt, Enter, Shown, NamesOf, Packages, IsReading}
-use Rattle.world.proofs.Names.{IsEntered, spans, World, NodeWorld, Event, Deliver, Work, Send, Record, opened}
-use Rattle.world.proofs.Names.{happens, state_of, Makes}
+use Rattle.world.proofs.Names.{◌≡◌, List, [], ◌∷◌, ◌++◌, Some, None, true, false, Ok, if◌then◌else◌, nat_eq, replicate}
+use Rattle.world.proofs.Names.{refl, inl, arith, Bytes, NodeSet, Install, Call, Sync, TransferStart, TransferData}
+use Rattle.world.proofs.Names.{TransferExit, ProcessSwPackage, Activate, Finish, Cluster, Part, Outcome, New, Old}
+use Rattle.world.proofs.Names.{Reading, Commit, Abort, Successful, Failed, MasterEvent, Start, Begin, PhaseTo, VoteOf}
+use Rattle.world.proofs.Names.{Decide, EndedAt, Enter, Shown, NamesOf, Packages, IsReading, IsEntered, spans, World}
+use Rattle.world.proofs.Names.{NodeWorld, Event, Deliver, Work, Send, Record, opened, happens, state_of, Makes}
 use Rattle.campaign_core.specs.declared.events.Phase.TheVariants as Phase
 use Rattle.campaign_core.specs.declared.events.Vote.TheVariants as Vote
 use Rattle.campaign_core.specs.declared.events.Cause.TheVariants as Cause
