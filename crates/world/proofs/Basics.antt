@@ -1,12 +1,12 @@
 -- Laws of the real node: what is kept, what a refusal leaves, Sync, and the calls on a session.
-use Rattle.world.proofs.Names.{nat_tests, ◌≡◌, ◌⊎◌, inl, inr, ℕ, List, ◌∷◌, Option, Some, None, Bool, true, false}
-use Rattle.world.proofs.Names.{refl, sym, ◌∙◌, ap, arith, ◌==◌, not, option_map, option_and_then, if◌then◌else◌}
-use Rattle.world.proofs.Names.{option_or, option_map_or, eqb-true, get_or-set_same, CallNo, Bytes, SessionMark, Refusal}
-use Rattle.world.proofs.Names.{Cluster, Status, Idle, Kept, NodeState, Session, of_client, first_refusal, Verdict}
-use Rattle.world.proofs.Names.{ids_of, judge, reply_to, refusal, accepted, refused_or, Reading, verdict_for}
-use Rattle.world.proofs.Names.{IsConsistent, SessionIsDue, Call, Shown, Reply, Sync, TransferStart, TransferData}
-use Rattle.world.proofs.Names.{TransferExit, DeleteTransfer, ProcessSwPackage, Activate, Finish, Rollback, Revert, Done}
-use Rattle.world.proofs.Names.{Started, Synced, Refused, is_status}
+use Rattle.world.proofs.Names.{nat_tests, ◌≡◌, ◌⊎◌, inl, inr, ℕ, List, ◌∷◌, Option, Some, None, Bool, true, false, refl}
+use Rattle.world.proofs.Names.{sym, ◌∙◌, ap, arith, ◌==◌, not, option_map, option_and_then, if◌then◌else◌, option_or}
+use Rattle.world.proofs.Names.{option_map_or, eqb-true, get_or-set_same, CallNo, Bytes, SessionMark, Refusal, Cluster}
+use Rattle.world.proofs.Names.{Status, Idle, Kept, NodeState, Session, of_client, first_refusal, Verdict, ids_of, judge}
+use Rattle.world.proofs.Names.{reply_to, refusal, accepted, refused_or, Reading, verdict_for, IsConsistent}
+use Rattle.world.proofs.Names.{SessionIsDue, Call, Shown, Reply, Sync, TransferStart, TransferData, TransferExit}
+use Rattle.world.proofs.Names.{DeleteTransfer, ProcessSwPackage, Activate, Finish, Rollback, Revert, Done, Started}
+use Rattle.world.proofs.Names.{Synced, Refused, is_status}
 use Rattle.world.proofs.Rules.{shown_of as seen_of, shown_session, KeepsSession, KeepsTransfers}
 use Rattle.world.proofs.Instance.{zero_no, last_in, kept_in, tag_if, ended_in, judged_in, kept_after, real}
 use Rattle.pm_types.specs.declared.calls.Call.TheVariants as call

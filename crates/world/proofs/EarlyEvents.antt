@@ -2,13 +2,12 @@
 use Rattle.world.proofs.Names.{and_parts, ◌≡◌, ◌≢◌, ◌⊎◌, inl, inr, ◌&&◌, ◌||◌, not, ℕ, List, [], ◌∷◌, Option, Some}
 use Rattle.world.proofs.Names.{None, Bool, true, false, is_some, nat_eq, refl, sym, ◌∙◌, ap, subst, arith, eqb-true}
 use Rattle.world.proofs.Names.{eq-eqb, Status, Activated, NodeSet, Vote, Fold, Current, flag_of, vote_of, all_yes}
-use Rattle.world.proofs.Names.{all_below, begun, Call, Reply, Sync, IsBelow, is_status, Message, Told}
-use Rattle.world.proofs.Names.{Answered, Showed, InSent, InTold, is_sync, is_told, Over, Packages, is_end_sync}
-use Rattle.world.proofs.Names.{activate_done, showed_after_activate, may_follow, MaySend, MaySendBy, MaySendEarly}
-use Rattle.world.proofs.Names.{next_number, EndEvidence}
+use Rattle.world.proofs.Names.{all_below, begun, Call, Reply, Sync, IsBelow, is_status, Message, Told, Answered, Showed}
+use Rattle.world.proofs.Names.{InSent, InTold, is_sync, is_told, Over, Packages, is_end_sync, activate_done}
+use Rattle.world.proofs.Names.{showed_after_activate, may_follow, MaySend, MaySendBy, MaySendEarly, next_number}
+use Rattle.world.proofs.Names.{EndEvidence}
 use Rattle.world.proofs.Records.{flagged-yes, some-inj, none-some}
-use Rattle.world.proofs.Rules.{NodeRules, NodeLaws, Delivered, Foreign, Unit_done, NodeWorld}
-use Rattle.world.proofs.Rules.{state_of, spans}
+use Rattle.world.proofs.Rules.{NodeRules, NodeLaws, Delivered, Foreign, Unit_done, NodeWorld, state_of, spans}
 use Rattle.world.proofs.Invariant.{Executable, InPresent, IsFresh, KeptOld, Falling}
 use Rattle.world.proofs.EarlyFacts.{ClientEntry, with_entry, round_entries, InEntries, stage_after, IsAt, Activates}
 use Rattle.world.proofs.EarlyFacts.{EarlyAt, KeptEarly, KeptLive}

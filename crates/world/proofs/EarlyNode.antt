@@ -1,11 +1,10 @@
 -- What one node's part of the time before the decision keeps under each event.
-use Rattle.world.proofs.Names.{and_parts, nat_tests, arith, ◌≡◌, ◌≢◌, inl, inr, if◌then◌else◌, ◌&&◌, not}
-use Rattle.world.proofs.Names.{◌++◌, ℕ, List, [], ◌∷◌, Option, Some, None, Bool, true, false, is_some, nat_eq, refl}
-use Rattle.world.proofs.Names.{sym, ◌∙◌, ap, subst, eqb-true, eq-eqb, CallNo, Status, Activated, Call, Reply, Sync}
-use Rattle.world.proofs.Names.{Activate, Done, IsBelow, no_eq, Message, Told, Answered, Showed, InSent, InTold}
-use Rattle.world.proofs.Names.{told_reply, is_told, is_activate, is_done, Stage, At_sync, At_activate, Over}
-use Rattle.world.proofs.Names.{Refused_once, call_at, onward, stage_of, one_if, replies_of, activate_done}
-use Rattle.world.proofs.Names.{showed_after_activate}
+use Rattle.world.proofs.Names.{and_parts, nat_tests, arith, ◌≡◌, ◌≢◌, inl, inr, if◌then◌else◌, ◌&&◌, not, ◌++◌, ℕ, List}
+use Rattle.world.proofs.Names.{[], ◌∷◌, Option, Some, None, Bool, true, false, is_some, nat_eq, refl, sym, ◌∙◌, ap}
+use Rattle.world.proofs.Names.{subst, eqb-true, eq-eqb, CallNo, Status, Activated, Call, Reply, Sync, Activate, Done}
+use Rattle.world.proofs.Names.{IsBelow, no_eq, Message, Told, Answered, Showed, InSent, InTold, told_reply, is_told}
+use Rattle.world.proofs.Names.{is_activate, is_done, Stage, At_sync, At_activate, Over, Refused_once, call_at, onward}
+use Rattle.world.proofs.Names.{stage_of, one_if, replies_of, activate_done, showed_after_activate}
 use Rattle.world.proofs.Rules.{NodeRules, NodeLaws, reached, delivered, Span}
 use Rattle.world.proofs.Invariant.{Executable}
 use Rattle.world.proofs.EarlyFacts.{ClientEntry, judged, with_entry, InEntries, stage_after, Follows, IsAt, AllDone}

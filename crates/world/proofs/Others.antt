@@ -1,28 +1,24 @@
 -- Laws of the real node: calls of other clients, and units where client 0 has no session.
-use Rattle.world.proofs.Names.{nat_tests, eqb_tells, ◌≡◌, ℕ, suc, List, Option, Some, None, false, refl, ◌∙◌}
-use Rattle.world.proofs.Names.{ap, arith, ◌==◌, option_and_then, slice_set, option_map_or, eqb-true, get_or-set_other}
-use Rattle.world.proofs.Names.{Bytes, Call, Cluster, Kept, NodeState, Session, of_client, Verdict, judge, reply_to}
-use Rattle.world.proofs.Names.{after_call, accepted, Reading, verdict_for, Done as NodeDone, ◌+◌, [], ◌∷◌, ◌++◌, length}
-use Rattle.world.proofs.Names.{Bool, true, sym, subst, ◌||◌, not, is_none, find, nat_lt, map, filter, if◌then◌else◌}
-use Rattle.world.proofs.Names.{AllByRecursion, append-nil, filter-append, find-append, Refusal, InvalidTransferId}
-use Rattle.world.proofs.Names.{OperationNotPermitted, Transferred, BeingProcessed, Processed, UnitAfter, Status}
-use Rattle.world.proofs.Names.{Processing, Activating, Verifying, RollingBack, CleaningUp, Transfer, some_passes, is_in}
-use Rattle.world.proofs.Names.{all_units, led_by, begin_processing, stop_processing, is_of, transfer_of, header_of}
-use Rattle.world.proofs.Names.{parts_read, grown, in_phase, started, with_block, exited, deleted, first_refusal}
-use Rattle.world.proofs.Names.{after_reply, refusal, refused_or, with_entry, unit_of, process_unit, processed}
-use Rattle.world.proofs.Names.{parts_of_id, activate_unit, verify_unit, roll_back_unit, clean_up_unit, end_mark}
+use Rattle.world.proofs.Names.{nat_tests, eqb_tells, ◌≡◌, ℕ, suc, List, Option, Some, None, false, refl, ◌∙◌, ap, arith}
+use Rattle.world.proofs.Names.{◌==◌, option_and_then, slice_set, option_map_or, eqb-true, get_or-set_other, Bytes, Call}
+use Rattle.world.proofs.Names.{Cluster, Kept, NodeState, Session, of_client, Verdict, judge, reply_to, after_call}
+use Rattle.world.proofs.Names.{accepted, Reading, verdict_for, Done as NodeDone, [], ◌∷◌, ◌++◌, length, Bool, true, sym}
+use Rattle.world.proofs.Names.{subst, ◌||◌, not, is_none, find, map, filter, if◌then◌else◌, AllByRecursion, append-nil}
+use Rattle.world.proofs.Names.{filter-append, find-append, InvalidTransferId, OperationNotPermitted, Transferred}
+use Rattle.world.proofs.Names.{BeingProcessed, Processed, Status, CleaningUp, Transfer, some_passes, is_in, led_by}
+use Rattle.world.proofs.Names.{begin_processing, stop_processing, is_of, transfer_of, header_of, parts_read, grown}
+use Rattle.world.proofs.Names.{in_phase, started, with_block, exited, deleted, refusal, unit_of, clean_up_unit}
 use Rattle.world.proofs.Names.{IsConsistent, ChangesAreDue, IsPlannedWhole, id_in_processing, numbers_rise}
 use Rattle.world.proofs.Rules.{KeepsSession, KeepsTransfers}
 use Rattle.world.proofs.Instance.{ForeignCall, zero_no, last_in, kept_in, tag_if, mine_in, ended_in, foreign_in, real}
 use Rattle.world.proofs.Instance.{unit_in}
 use Rattle.node_laws.proofs.KeptProcessing.{names-kept}
 use Rattle.world.proofs.Basics.{judged-by, keeps-of, not-refused}
-use Rattle.world.proofs.Sessions.{mine-some}
-use Rattle.world.proofs.TransferLaws.{unit-cases, keeps-all, keeps-changed, data-rest}
+use Rattle.world.proofs.Sessions.{mine-some, session-there}
+use Rattle.world.proofs.TransferLaws.{unit-is, unit_received, keeps-all, keeps-changed, data-rest}
 use Rattle.std.proofs.lemmas.Bool.{eq-eqb}
 use Rattle.node_laws.proofs.Lists.{found-is, only, each-imp, each-both}
 use Rattle.pm_types.specs.declared.calls.Call.TheVariants as call
-use Rattle.pm_types.specs.declared.replies.Reply.TheVariants as reply
 
 -- a numbered call leaves the state, or is judged and kept
 pub foreign-cases : (read : Reading) (s : NodeState) (f : ForeignCall) (P : NodeState → Type 0) → P s → P (after_call s (suc f.other) f.at f.call (verdict_for read s (suc f.other) f.call) (reply_to s (suc f.other) f.call (verdict_for read s (suc f.other) f.call))) → P (foreign_in read s f)
@@ -131,60 +127,19 @@ module _ (read : Reading) (clusters : List (Cluster Bytes)) where
       each t whole being own = grind arith
 
   -- a unit without a session of client 0
-  abbrev Nothing0 : NodeState → NodeState → Type 0
-  Nothing0 s t = (mine_in t ≡ None) × (ended_in t ≡ ended_in s) × KeepsTransfers (real read clusters) s t
+  not-mine : (s : NodeState) (x : Session) → mine_in s ≡ None → s.session ≡ Some x → (x.owner == 0) ≡ false
+  not-mine s x none e = grind arith
 
-  pub unit_none : (s : NodeState) (passed : Bool) → IsConsistent s → mine_in s ≡ None → Nothing0 s (unit_in s passed)
-  unit_none s passed v none = unit-cases s passed (λ t. Nothing0 s t) (none, refl, keeps-all read clusters s s refl) (λ x e t q. go x e s.status refl t q)
-    where
-      some-is : (a b : NodeState) → Some a ≡ Some b → a ≡ b
-      some-is a b q = cc q
+  left-alone : (s : NodeState) (passed : Bool) → IsConsistent s → mine_in s ≡ None → (st : Status) → s.status ≡ st → KeepsTransfers (real read clusters) s (unit_in s passed)
+  left-alone s passed v none CleaningUp r =
+      let x = session-there s v (λ q. cc (q, r)) in
+      let k = clean-others s x.0 v x.1 (not-mine s x.0 none x.1) r in
+      subst (λ t. KeepsTransfers (real read clusters) s t) (sym (unit-is s passed x.0 (clean_up_unit s x.0) x.1 (ap (λ y. unit_of s x.0 passed y) r)))
+      (record { transfers = k.transfers; received = k.received })
+  left-alone s passed v none _ r = unit_received read clusters s passed (λ q. cc (q, r))
 
-      not-mine : (x : Session) → s.session ≡ Some x → (x.owner == 0) ≡ false
-      not-mine x e = grind arith
-
-      over : (a t : NodeState) → Some a ≡ Some t → Nothing0 s a → Nothing0 s (with_entry (UnitAfter t.status) t)
-      over a t q k = let e = some-is a t q in subst (λ y. Nothing0 s (with_entry (UnitAfter y.status) y)) e (k.0, k.1, record { transfers = k.2.transfers; received = k.2.received })
-
-      by-session : (x y : Session) (t : NodeState) → s.session ≡ Some x → t.session ≡ Some y → y.owner ≡ x.owner → mine_in t ≡ None
-      by-session x y t e f o = ap (λ z. option_and_then (λ (w : Session). tag_if (w.owner == 0) w.tag) z) f ∙ (ap (λ (n : ℕ). tag_if (n == 0) y.tag) o ∙ ap (λ b. tag_if b y.tag) (not-mine x e))
-
-      process : (x : Session) (id : ℕ) → s.session ≡ Some x → Nothing0 s (process_unit s x id)
-      process x id e = by (nat_lt (x.units_done + 1) (all_units (parts_of_id s x id)))
-        where
-          by : (b : Bool) → Nothing0 s (if b then record s { session = Some (record x { units_done = x.units_done + 1 }) } else processed s x id (parts_of_id s x id))
-          by true = (by-session x (record x { units_done = x.units_done + 1 }) (record s { session = Some (record x { units_done = x.units_done + 1 }) }) e refl refl, refl, keeps-all read clusters s (record s { session = Some (record x { units_done = x.units_done + 1 }) }) refl)
-          by false = (
-            ap (λ b. tag_if b x.tag) (not-mine x e),
-            refl,
-            keeps-changed read clusters s (processed s x id (parts_of_id s x id)) id (λ t. record t { header = in_phase Processed t.header }) (record { id = λ t. refl; client = λ t. refl }) (λ t. refl) refl,
-          )
-
-      in-process : (x : Session) → s.session ≡ Some x → (o : Option ℕ) (t : NodeState) → option_and_then (λ id. Some (process_unit s x id)) o ≡ Some t → Nothing0 s (with_entry (UnitAfter t.status) t)
-      in-process x e None t q = absurd (cc q)
-      in-process x e (Some id) t q = over (process_unit s x id) t q (process x id e)
-
-      verified : (x : Session) → s.session ≡ Some x → (b : Bool) → Nothing0 s (verify_unit s x b)
-      verified x e true = (ap (λ b. tag_if b x.tag) (not-mine x e), refl, keeps-all read clusters s (verify_unit s x true) refl)
-      verified x e false = (none, refl, keeps-all read clusters s (verify_unit s x false) refl)
-
-      cleaned : (x : Session) → s.session ≡ Some x → s.status ≡ CleaningUp → Nothing0 s (clean_up_unit s x)
-      cleaned x e st = (
-        refl,
-        get_or-set_other s.ended x.owner 0 (end_mark x) None (λ q. let z : (x.owner == 0) ≡ true = ap (λ (n : ℕ). n == 0) (sym q) in let w = not-mine x e in cc (z, w)),
-        clean-others s x v e (not-mine x e) st,
-      )
-
-      go : (x : Session) → s.session ≡ Some x → (st : Status) → s.status ≡ st → (t : NodeState) → unit_of s x passed s.status ≡ Some t → Nothing0 s (with_entry (UnitAfter t.status) t)
-      go x e st p t q = at st p (sym (ap (λ y. unit_of s x passed y) p) ∙ q)
-        where
-          at : (y : Status) → s.status ≡ y → unit_of s x passed y ≡ Some t → Nothing0 s (with_entry (UnitAfter t.status) t)
-          at Processing r h = in-process x e x.processing t h
-          at Activating r h = over (activate_unit s x) t h (ap (λ b. tag_if b x.tag) (not-mine x e), refl, keeps-all read clusters s (activate_unit s x) refl)
-          at Verifying r h = over (verify_unit s x passed) t h (verified x e passed)
-          at RollingBack r h = over (roll_back_unit s x) t h (none, refl, keeps-all read clusters s (roll_back_unit s x) refl)
-          at CleaningUp r h = over (clean_up_unit s x) t h (cleaned x e r)
-          at _ r h = absurd (cc h)
+  pub unit_none : (s : NodeState) (passed : Bool) → IsConsistent s → mine_in s ≡ None → (mine_in (unit_in s passed) ≡ None) × (ended_in (unit_in s passed) ≡ ended_in s) × KeepsTransfers (real read clusters) s (unit_in s passed)
+  unit_none s passed v none = (grind arith, grind (arith, get_or-set_other), left-alone s passed v none s.status refl)
 
   -- a call of another client
   then-led : (s t : NodeState) (c : Call) → KeepsTransfers (real read clusters) s t → KeepsTransfers (real read clusters) s (led_by c t)
@@ -194,37 +149,28 @@ module _ (read : Reading) (clusters : List (Cluster Bytes)) where
   others : (s : NodeState) (a id : ℕ) → IsConsistent s → is_none (header_of (transfer_of s (suc a) id)) ≡ false → AllByRecursion (λ (y : Transfer). (y.header.id == id) ≡ true → (y.header.client == suc a) ≡ true) s.transfers
   others s a id v f = grind (arith, unique)
 
-  data-others : (s : NodeState) (a id counter : ℕ) (bytes : List ℕ) (w : Verdict) → IsConsistent s → KeepsTransfers (real read clusters) s (judge s (suc a) (call.TransferData id counter bytes) w).0
-  data-others s a id counter bytes w v = go (refusal s (suc a) (call.TransferData id counter bytes) w) refl
-    where
-      go : (o : Option Refusal) → refusal s (suc a) (call.TransferData id counter bytes) w ≡ o → KeepsTransfers (real read clusters) s (after_reply s (suc a) (call.TransferData id counter bytes) w (refused_or reply.Done o))
-      go (Some why) q = keeps-all read clusters s s refl
-      go None q =
-          keeps-left s (with_block s id bytes) (λ t. if t.header.id == id then record t { header = grown (length bytes) t.header; bytes = t.bytes ++ bytes } else t)
-          (each-imp (λ (y : Transfer). (y.header.id == id) ≡ true → (y.header.client == suc a) ≡ true) (λ y. Leaves0 (λ t. if t.header.id == id then record t { header = grown (length bytes) t.header; bytes = t.bytes ++ bytes } else t) y) each s.transfers
-          (others s a id v (head-false (is_none (header_of (transfer_of s (suc a) id)), InvalidTransferId) (data-rest (header_of (transfer_of s (suc a) id)) counter (length bytes)) q))) refl
-        where
-          head-false : (row : Bool × Refusal) (rows : List (Bool × Refusal)) → first_refusal (row ∷ rows) ≡ None → row.0 ≡ false
-          head-false row rows e = (not-refused row rows e).0
+  judged-if : (s : NodeState) (client : ℕ) (c : Call) (w : Verdict) (P : NodeState → Type 0) → P s → (refusal s client c w ≡ None → P (accepted s client c w)) → P (judge s client c w).0
+  judged-if s client c w P here there = grind arith
 
-          each : (t : Transfer) → ((t.header.id == id) ≡ true → (t.header.client == suc a) ≡ true) → Leaves0 (λ y. if y.header.id == id then record y { header = grown (length bytes) y.header; bytes = y.bytes ++ bytes } else y) t
-          each t h = grind (arith, grown)
+  data-others : (s : NodeState) (a id counter : ℕ) (bytes : List ℕ) (w : Verdict) → IsConsistent s → KeepsTransfers (real read clusters) s (judge s (suc a) (call.TransferData id counter bytes) w).0
+  data-others s a id counter bytes w v =
+      judged-if s (suc a) (call.TransferData id counter bytes) w (λ t. KeepsTransfers (real read clusters) s t) (keeps-all read clusters s s refl) (λ q.
+      keeps-left s (with_block s id bytes) (λ t. if t.header.id == id then record t { header = grown (length bytes) t.header; bytes = t.bytes ++ bytes } else t)
+      (each-imp (λ (y : Transfer). (y.header.id == id) ≡ true → (y.header.client == suc a) ≡ true) (λ y. Leaves0 (λ t. if t.header.id == id then record t { header = grown (length bytes) t.header; bytes = t.bytes ++ bytes } else t) y) each s.transfers
+      (others s a id v (not-refused (is_none (header_of (transfer_of s (suc a) id)), InvalidTransferId) (data-rest (header_of (transfer_of s (suc a) id)) counter (length bytes)) q).0)) refl)
+    where
+      each : (t : Transfer) → ((t.header.id == id) ≡ true → (t.header.client == suc a) ≡ true) → Leaves0 (λ y. if y.header.id == id then record y { header = grown (length bytes) y.header; bytes = y.bytes ++ bytes } else y) t
+      each t h = grind (arith, grown)
 
   delete-others : (s : NodeState) (a id : ℕ) (w : Verdict) → IsConsistent s → KeepsTransfers (real read clusters) s (judge s (suc a) (call.DeleteTransfer id) w).0
-  delete-others s a id w v = go (refusal s (suc a) (call.DeleteTransfer id) w) refl
+  delete-others s a id w v =
+      judged-if s (suc a) (call.DeleteTransfer id) w (λ t. KeepsTransfers (real read clusters) s t) (keeps-all read clusters s s refl) (λ q.
+      keeps-filter s (deleted s id) (λ t. not (t.header.id == id))
+      (each-imp (λ (y : Transfer). (y.header.id == id) ≡ true → (y.header.client == suc a) ≡ true) (λ (y : Transfer). (y.header.client == 0) ≡ true → not (y.header.id == id) ≡ true) each s.transfers
+      (others s a id v (not-refused (is_none (header_of (transfer_of s (suc a) id)), InvalidTransferId) ((some_passes (λ h. is_in BeingProcessed h || is_in Processed h) (header_of (transfer_of s (suc a) id)), OperationNotPermitted) ∷ []) q).0)) refl)
     where
-      go : (o : Option Refusal) → refusal s (suc a) (call.DeleteTransfer id) w ≡ o → KeepsTransfers (real read clusters) s (after_reply s (suc a) (call.DeleteTransfer id) w (refused_or reply.Done o))
-      go (Some why) q = keeps-all read clusters s s refl
-      go None q =
-          keeps-filter s (deleted s id) (λ t. not (t.header.id == id))
-          (each-imp (λ (y : Transfer). (y.header.id == id) ≡ true → (y.header.client == suc a) ≡ true) (λ (y : Transfer). (y.header.client == 0) ≡ true → not (y.header.id == id) ≡ true) each s.transfers
-          (others s a id v (head-false (is_none (header_of (transfer_of s (suc a) id)), InvalidTransferId) ((some_passes (λ h. is_in BeingProcessed h || is_in Processed h) (header_of (transfer_of s (suc a) id)), OperationNotPermitted) ∷ []) q))) refl
-        where
-          head-false : (row : Bool × Refusal) (rows : List (Bool × Refusal)) → first_refusal (row ∷ rows) ≡ None → row.0 ≡ false
-          head-false row rows e = (not-refused row rows e).0
-
-          each : (t : Transfer) → ((t.header.id == id) ≡ true → (t.header.client == suc a) ≡ true) → (t.header.client == 0) ≡ true → not (t.header.id == id) ≡ true
-          each t h own = grind (arith, not)
+      each : (t : Transfer) → ((t.header.id == id) ≡ true → (t.header.client == suc a) ≡ true) → (t.header.client == 0) ≡ true → not (t.header.id == id) ≡ true
+      each t h own = grind (arith, not)
 
   start-others : (s : NodeState) (a size : ℕ) → KeepsTransfers (real read clusters) s (started s (suc a) size)
   start-others s a size = grind (arith, filter-append, append-nil, find-append)

@@ -1,8 +1,8 @@
 -- Laws of the real node: the calls on client 0's session.
-use Rattle.world.proofs.Names.{arith, ◌≡◌, ◌≢◌, ◌⊎◌, inl, inr, ℕ, List, [], ◌∷◌, Option, Some, None, true, false}
-use Rattle.world.proofs.Names.{refl, sym, ◌∙◌, ap, subst, ◌==◌, not, is_none, option_map, option_and_then}
-use Rattle.world.proofs.Names.{option_map_or, Bytes, Call, Outcome, New, Old, Refusal, Change, Cluster, Status, Idle}
-use Rattle.world.proofs.Names.{Ready, Processing, Activating, Verifying, Activated, RollingBack, RolledBack, CleaningUp}
+use Rattle.world.proofs.Names.{arith, ◌≡◌, ◌≢◌, ◌⊎◌, inl, inr, ℕ, List, [], ◌∷◌, Option, Some, None, true, false, refl}
+use Rattle.world.proofs.Names.{sym, ◌∙◌, ap, subst, ◌==◌, not, is_none, option_map, option_and_then, option_map_or}
+use Rattle.world.proofs.Names.{Bytes, Call, Outcome, New, Old, Refusal, Change, Cluster, Status, Idle, Ready}
+use Rattle.world.proofs.Names.{Processing, Activating, Verifying, Activated, RollingBack, RolledBack, CleaningUp}
 use Rattle.world.proofs.Names.{NodeState, Session, some_passes, first_refusal, status_table, session_refusals}
 use Rattle.world.proofs.Names.{changes_in, arrive, clean_up, stop_processing, cancel_refusals, transfer_of, header_of}
 use Rattle.world.proofs.Names.{refusal, Reading, verdict_for, IsConsistent, id_in_processing, ProcessSwPackage}

@@ -1,17 +1,17 @@
 -- Laws of the real node: work units.
 use Rattle.world.proofs.Names.{◌≡◌, ◌⊎◌, ℕ, List, [], ◌∷◌, Option, Some, None, Bool, false, refl, ◌∙◌, ap, subst, arith}
 use Rattle.world.proofs.Names.{IfSome, option_map, option_and_then, map, unwrap_or, eqb-true, get_or-set_same, Bytes}
-use Rattle.world.proofs.Names.{Outcome, New, Old, UnitAfter, Status, Idle, Processing, Activating, Verifying}
-use Rattle.world.proofs.Names.{Activated, RollingBack, RolledBack, CleaningUp, NodeState, Session}
-use Rattle.world.proofs.Names.{with_entry, unit_of, IsConsistent, should_run, id_in_processing, ◌≢◌, zero}
-use Rattle.world.proofs.Names.{suc, ◌+◌, ◌<◌, ◌++◌, length, get_or, true, ◌==◌, ◌||◌, not, find, nat_lt, filter}
-use Rattle.world.proofs.Names.{if◌then◌else◌, AllByRecursion, Contains, eq-eqb, map-append, filter-append, find-append}
-use Rattle.world.proofs.Names.{block_limit, Call, Refusal, OperationNotPermitted, IncorrectBlock, IncorrectSize, Header}
-use Rattle.world.proofs.Names.{Transferring, Transferred, BeingProcessed, Processed, Cluster, Ready}
-use Rattle.world.proofs.Names.{Transfer, some_passes, is_in, all_units, led_by, begin_processing, is_of}
-use Rattle.world.proofs.Names.{ids_of, parts_read, in_phase, exited, process_unit, processed, parts_of_id}
-use Rattle.world.proofs.Names.{activate_unit, verify_unit, roll_back_unit, Reading, verdict_for, IsSound, IsFit}
-use Rattle.world.proofs.Names.{TransferStart, TransferData, TransferExit, ProcessSwPackage, Done, Started}
+use Rattle.world.proofs.Names.{Outcome, New, Old, UnitAfter, Status, Idle, Processing, Activating, Verifying, Activated}
+use Rattle.world.proofs.Names.{RollingBack, RolledBack, CleaningUp, NodeState, Session, with_entry, unit_of}
+use Rattle.world.proofs.Names.{IsConsistent, should_run, id_in_processing, ◌≢◌, zero, suc, ◌+◌, ◌<◌, ◌++◌, length}
+use Rattle.world.proofs.Names.{get_or, true, ◌==◌, ◌||◌, not, find, nat_lt, filter, if◌then◌else◌, AllByRecursion}
+use Rattle.world.proofs.Names.{Contains, eq-eqb, map-append, filter-append, find-append, block_limit, Call, Refusal}
+use Rattle.world.proofs.Names.{OperationNotPermitted, IncorrectBlock, IncorrectSize, Header, Transferring, Transferred}
+use Rattle.world.proofs.Names.{BeingProcessed, Processed, Cluster, Ready, Transfer, some_passes, is_in, all_units}
+use Rattle.world.proofs.Names.{led_by, begin_processing, is_of, ids_of, parts_read, in_phase, exited, process_unit}
+use Rattle.world.proofs.Names.{processed, parts_of_id, activate_unit, verify_unit, roll_back_unit, Reading, verdict_for}
+use Rattle.world.proofs.Names.{IsSound, IsFit, TransferStart, TransferData, TransferExit, ProcessSwPackage, Done}
+use Rattle.world.proofs.Names.{Started}
 use Rattle.world.proofs.WordLaws.{run_parts, planned-run, runs-new}
 use Rattle.world.proofs.Instance.{last_in, kept_in, mine_in, planned_in, outcome_in, ended_in, unit_in, BringsIn}
 use Rattle.world.proofs.Instance.{LeavesIn, tag_if, received_in, judged_in, real}

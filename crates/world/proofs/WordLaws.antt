@@ -1,10 +1,10 @@
 -- What planned changes make of each cluster.
 use Rattle.world.proofs.Names.{and_parts, arith, ◌≡◌, inl, inr, ℕ, List, [], ◌∷◌, Some, None, Bool, true, false, refl}
-use Rattle.world.proofs.Names.{sym, ◌∙◌, ap, subst, cond, not, find, filter, map, option_or, nat_cmp, is_lt}
-use Rattle.world.proofs.Names.{is_eq, ordering_reverse, slice_cmp, texts_ties, bytes_eq, Ordering, Less, Equal, Greater}
-use Rattle.world.proofs.Names.{nat_list_cmp_total, find-append, name_lt, has_name, all_differ, Bytes}
-use Rattle.world.proofs.Names.{Part, Cluster, Change, cluster_of, cluster_at, without, with_cluster, brought}
-use Rattle.world.proofs.Names.{changed_by, planned, InParts, left_by, RunsNew}
+use Rattle.world.proofs.Names.{sym, ◌∙◌, ap, subst, cond, not, find, filter, map, option_or, nat_cmp, is_lt, is_eq}
+use Rattle.world.proofs.Names.{ordering_reverse, slice_cmp, texts_ties, bytes_eq, Ordering, Less, Equal, Greater}
+use Rattle.world.proofs.Names.{nat_list_cmp_total, find-append, name_lt, has_name, all_differ, Bytes, Part, Cluster}
+use Rattle.world.proofs.Names.{Change, cluster_of, cluster_at, without, with_cluster, brought, changed_by, planned}
+use Rattle.world.proofs.Names.{InParts, left_by, RunsNew}
 use Rattle.node_laws.proofs.Lists.{neither, not-true}
 use Rattle.node_laws.proofs.NameLists.{eq-name, name-eq, name-swap}
 
