@@ -32,7 +32,7 @@ use Rattle.pm_types.specs.Validity.{should_run}
 use Rattle.transfer_blocks.specs.declared.found.Found.{Found}
 use Rattle.transfer_blocks.specs.Table.{found_of, stored_header, stored_of}
 use Rattle.node_laws.proofs.Lists.{each-imp, found-has}
-use Rattle.node_laws.proofs.Refusals.{both-none, is-transferred, not-false, rows-clear}
+use Rattle.node_laws.proofs.Lists.{both-none, is-transferred, not-false, rows-clear}
 use Rattle.node_laws.proofs.Sessions.{free-of}
 use Rattle.node_core.specs.Core.{Holding, IsJudged, IsReady, IsSound, node_of, refusal_by}
 use Rattle.node_core.specs.declared.prepared.Prepared.{Prepared}

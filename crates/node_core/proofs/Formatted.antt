@@ -22,7 +22,7 @@ use Rattle.node_laws.specs.Fit.{IsFit}
 use Rattle.node_laws.proofs.Kept.{keeps-fit}
 use Rattle.node_laws.proofs.Lists.{each-unmap}
 use Rattle.node_laws.proofs.NameLists.{eq-name, name-swap, names-behind, names-tail}
-use Rattle.node_laws.proofs.Planned.{names_of}
+use Rattle.node_laws.proofs.NameLists.{names_of}
 use Rattle.node_core.specs.Core.{IsSound, holding}
 use Rattle.node_core.specs.Format.{AreInstalled, in_order, placed, placed_from}
 use Rattle.node_core.specs.Packages.{package_reading}

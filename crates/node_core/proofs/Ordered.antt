@@ -19,7 +19,7 @@ use Rattle.pm_types.specs.declared.clusters.Cluster.{Cluster}
 use Rattle.pm_types.specs.Clusters.{with_cluster}
 use Rattle.node_laws.proofs.Lists.{each-append, each-filter, each-imp, each-unmap, length-filter}
 use Rattle.node_laws.proofs.NameLists.{lt-trans, name-eq, names-behind, names-tail}
-use Rattle.node_laws.proofs.Planned.{names_of, planned-rise}
+use Rattle.node_laws.proofs.NameLists.{names_of, planned-rise}
 use Rattle.node_core.specs.Format.{in_order, named_before}
 
 -- the order of names is strict and total

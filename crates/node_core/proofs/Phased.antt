@@ -23,7 +23,7 @@ use Rattle.pm_types.specs.Transfers.{header_of, in_phase, parts_read, transfer_o
 use Rattle.transfer_blocks.specs.declared.found.Found.{Found}
 use Rattle.transfer_blocks.specs.Table.{found_of, moved, stored_header, stored_of}
 use Rattle.node_laws.proofs.Lists.{each-imp, found-has}
-use Rattle.node_laws.proofs.Refusals.{both-none, is-processing, not-false, rows-clear}
+use Rattle.node_laws.proofs.Lists.{both-none, is-processing, not-false, rows-clear}
 use Rattle.node_core.specs.Core.{Holding, IsJudged, IsSound, node_of, refusal_by}
 use Rattle.node_core.specs.Packages.{package_reading}
 use Rattle.node_core.specs.Places.{IsCopied, IsCopiedIn, goes_to, units_done}
