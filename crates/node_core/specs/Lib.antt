@@ -3,3 +3,4 @@ pub mod Prepared
 pub mod Places
 pub mod Core
 pub mod Holds
+pub mod Units

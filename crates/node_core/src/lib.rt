@@ -7,8 +7,10 @@
 
 mod core;
 mod held;
+mod plan;
 mod prepared;
 mod transfers;
+mod units;
 
 pub use core::{Core, Hold};
 pub use prepared::Prepared;

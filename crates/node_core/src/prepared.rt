@@ -1,6 +1,7 @@
 //! What is made ready before a call or a unit, so that making it takes no memory.
 ghost use Rattle.std.specs.Prelude.{◌≡◌};
 ghost use Rattle.node_core.specs.Prepared.{verdict_in, verdict_kept};
+ghost use Rattle.node_core.specs.Units.{clusters_kept};
 
 use pm_types::{Change, Clusters, ExitVerdict, Extent, Refusal, Session};
 use std::mem;
@@ -29,6 +30,16 @@ impl Prepared {
         match mem::replace(self, Prepared::Nothing) {
             Prepared::Verdict(verdict) => verdict,
             _ => ExitVerdict::Bad(Refusal::InvalidManifest),
+        }
+    }
+
+    /// Takes the clusters that are ready.
+    pub(crate) fn take_clusters(&mut self) -> Option<Clusters>
+        ensures { result ≡ clusters_kept self.old }
+    {
+        match mem::replace(self, Prepared::Nothing) {
+            Prepared::Clusters(clusters) => Some(clusters),
+            _ => None,
         }
     }
 }
