@@ -62,11 +62,11 @@ module _ {C : Type 0} (P : Cluster C → Type 0) where
 abbrev pub IsAmong : {X : Type 0} → List X → List X → Type 1
 IsAmong {X} xs ys = (P : X → Type 0) → AllByRecursion P ys → AllByRecursion P xs
 
-all-each : {X : Type 0} (p : X → Bool) (xs : List X) → list_all p xs ≡ true → AllByRecursion (λ x. p x ≡ true) xs
+pub all-each : {X : Type 0} (p : X → Bool) (xs : List X) → list_all p xs ≡ true → AllByRecursion (λ x. p x ≡ true) xs
 all-each p [] e = tt
 all-each p (x ∷ xs) e = let parts = and_parts (p x) (list_all p xs) e in (parts.0, all-each p xs parts.1)
 
-each-all : {X : Type 0} (p : X → Bool) (xs : List X) → AllByRecursion (λ x. p x ≡ true) xs → list_all p xs ≡ true
+pub each-all : {X : Type 0} (p : X → Bool) (xs : List X) → AllByRecursion (λ x. p x ≡ true) xs → list_all p xs ≡ true
 each-all p [] h = refl
 each-all p (x ∷ xs) h = both_true h.0 (each-all p xs h.1)
 

@@ -63,7 +63,7 @@ no-unit v passed status q idle = of v.state.session
     of (Some x) = one (session_meaning v.areas x) v.state.status (ap is_working q ∙ idle)
 
 -- where no transfer is in processing, nothing need be copied
-none-copied : (areas : Areas) (s : State) → AllByRecursion (λ t. is_in BeingProcessed t.header ≡ false) s.transfers → IsCopied package_reading areas s
+pub none-copied : (areas : Areas) (s : State) → AllByRecursion (λ t. is_in BeingProcessed t.header ≡ false) s.transfers → IsCopied package_reading areas s
 none-copied areas s each = each-imp _ _ (λ t idle. of t t.header.phase idle) s.transfers each
   where
     of : (t : StoredTransfer) (phase : Phase) → is_in BeingProcessed (record t.header { phase = phase }) ≡ false → IsCopiedIn package_reading areas s t phase
@@ -87,13 +87,13 @@ module _ (v w : Holding) (status : Status) (x : SessionOf Extent) (e : v ≡ w) 
   same-work : w ≡ at_work v status x
   same-work = sym e ∙ at-work v status x (ap (λ (u : Holding). u.state.status) e ∙ q) there
 
-  sound-at : IsSound w → IsSound (at_work v status x)
+  pub sound-at : IsSound w → IsSound (at_work v status x)
   sound-at sound = subst IsSound same-work sound
 
-  unit-at : (passed : Bool) (new : Holding) → IsUnit (at_work v status x) passed new → IsUnit w passed new
+  pub unit-at : (passed : Bool) (new : Holding) → IsUnit (at_work v status x) passed new → IsUnit w passed new
   unit-at passed new u = subst (λ z. IsUnit z passed new) (sym same-work) u
 
-  ready-at : IsReservedWork w → IsUnitReady status (at_work v status x) x
+  pub ready-at : IsReservedWork w → IsUnitReady status (at_work v status x) x
   ready-at ready = subst IsReservedWork same-work ready
 
 module _ (v : Holding) (x : SessionOf Extent) (p : Prepared) where

@@ -4,3 +4,4 @@ pub mod Places
 pub mod Core
 pub mod Holds
 pub mod Units
+pub mod Sessions

@@ -1,15 +1,15 @@
 //! A node in memory.
-ghost use Rattle.std.specs.Prelude.{◌≡◌, ◌<◌, ◌≤◌, ◌+◌, true, OnOk, IsErrOf};
+ghost use Rattle.std.specs.Prelude.{◌≡◌, ◌≢◌, ◌<◌, ◌≤◌, ◌+◌, true, OnOk, IsErrOf};
 ghost use Rattle.ucm_base.specs.Limits.{entry_limit};
 ghost use Rattle.transfer_blocks.specs.Faults.{HasRisen};
 ghost use Rattle.node_laws.specs.Fit.{IsFit};
 ghost use Rattle.node_core.specs.Packages.{package_reading};
 ghost use Rattle.node_core.specs.Core.{IsReady, IsReserved, IsSound, holding, is_served, node_of, step_by};
-ghost use Rattle.node_core.specs.Units.{IsReservedWork, after_work, answer_to, is_worked};
+ghost use Rattle.node_core.specs.Units.{IsReservedWork, after_work, answer_to};
 
 use crate::held::Held;
 use crate::prepared::Prepared;
-use pm_types::{Call, Reached, State, Worked};
+use pm_types::{Call, Reached, State, Status, Worked};
 use std::alloc::{AllocError, Global};
 use std::marker::Model;
 use transfer_blocks::{Staging, StagingFault, Transfers};
@@ -146,7 +146,8 @@ impl<S: Staging> Core<S> {
     pub fn reserve_work(&mut self, alloc: Global) -> Result<(), Hold>
         ensures state { self.new.state ≡ self.old.state }
         ensures node { node_of self.new ≡ node_of self.old }
-        ensures reserved { OnOk result (IsReservedWork self.new) }
+        ensures reserved { OnOk result
+            (self.old.state.status ≢ Status.Processing → IsReservedWork self.new) }
         ensures cause { IsErrOf result Hold.StagingFailed
             → HasRisen self.old.faults self.new.faults }
         ensures faults { self.old.faults ≤ self.new.faults }
@@ -157,7 +158,6 @@ impl<S: Staging> Core<S> {
     /// Does the next unit of work after `reserve_work`, where clusters of these names fail when they are verified. It
     /// takes no memory.
     pub fn work(&mut self, fails: &[ClusterName]) -> Worked
-        requires served { is_worked self.old.state.status ≡ true }
         requires reserved { IsReservedWork self.old }
         requires entries { self.old.state.entries < entry_limit }
         ensures answer { result ≡ answer_to fails.now (node_of self.old) }

@@ -9,6 +9,9 @@ mod core;
 mod held;
 mod plan;
 mod prepared;
+mod process;
+mod session_rules;
+mod sessions;
 mod transfers;
 mod units;
 

@@ -1,9 +1,9 @@
 //! Units of work.
-ghost use Rattle.std.specs.Prelude.{◌≡◌, ◌<◌, ◌≤◌, ◌+◌, true, false, None, OnOk, IsErrOf, option_map};
+ghost use Rattle.std.specs.Prelude.{◌≡◌, ◌≢◌, ◌<◌, ◌≤◌, ◌+◌, true, false, None, OnOk, IsErrOf, option_map};
 ghost use Rattle.transfer_blocks.specs.Faults.{HasRisen};
 ghost use Rattle.ucm_base.specs.Limits.{entry_limit};
 ghost use Rattle.ucm_base.specs.Names.{has_name};
-ghost use Rattle.pm_types.specs.declared.status.Status.TheVariants.{Activating, CleaningUp, RollingBack, Verifying};
+ghost use Rattle.pm_types.specs.declared.status.Status.TheVariants.{Activating, CleaningUp, Processing, RollingBack, Verifying};
 ghost use Rattle.pm_types.specs.Histories.{passes, unit_passes};
 ghost use Rattle.pm_types.specs.Steps.{with_entry};
 ghost use Rattle.pm_types.specs.Stored.{IsInOrder};
@@ -11,7 +11,7 @@ ghost use Rattle.pm_types.specs.Work.{unit};
 ghost use Rattle.node_core.specs.Core.{IsKept, IsSound, node_of};
 ghost use Rattle.node_core.specs.Packages.{package_reading};
 ghost use Rattle.node_core.specs.Places.{IsCopied};
-ghost use Rattle.node_core.specs.Units.{IsReservedWork, IsUnit, after_work, answer_to, is_worked};
+ghost use Rattle.node_core.specs.Units.{IsReservedWork, IsUnit, after_work, answer_to};
 
 use crate::core::Hold;
 use crate::held::Held;
@@ -27,7 +27,8 @@ impl<S: Staging> Held<S> {
     pub(crate) fn reserve_work(&mut self, alloc: Global) -> Result<(), Hold>
         requires sound { IsSound self.old }
         ensures kept { IsKept self.old self.new }
-        ensures ready { OnOk result (IsReservedWork self.new) }
+        ensures ready { OnOk result
+            (self.old.state.status ≢ Processing → IsReservedWork self.new) }
         ensures cause { IsErrOf result Hold.StagingFailed
             → HasRisen self.old.faults self.new.faults }
     {
@@ -39,7 +40,8 @@ impl<S: Staging> Held<S> {
     fn reserve_clusters(&mut self, alloc: Global) -> Result<(), AllocError>
         requires sound { IsSound self.old }
         ensures kept { IsKept self.old self.new }
-        ensures ready { OnOk result (IsReservedWork self.new) }
+        ensures ready { OnOk result
+            (self.old.state.status ≢ Processing → IsReservedWork self.new) }
         ensures faults { self.new.faults ≡ self.old.faults }
     {
         let Some(session) = &self.session else {
@@ -56,7 +58,6 @@ impl<S: Staging> Held<S> {
 
     /// Does the next unit, for which all is ready, and writes its line.
     pub(crate) fn work(&mut self, fails: &[ClusterName]) -> Worked
-        requires served { is_worked self.old.state.status ≡ true }
         requires sound { IsSound self.old }
         requires reserved { IsReservedWork self.old }
         requires entries { self.old.state.entries < entry_limit }
@@ -82,7 +83,6 @@ impl<S: Staging> Held<S> {
 
     // Does the next unit, where there is one.
     fn unit(&mut self, passed: bool) -> bool
-        requires served { is_worked self.old.state.status ≡ true }
         requires sound { IsSound self.old }
         requires reserved { IsReservedWork self.old }
         ensures done { result ≡ true → IsUnit self.old passed self.new }
@@ -91,11 +91,11 @@ impl<S: Staging> Held<S> {
         ensures faults { self.new.faults ≡ self.old.faults }
     {
         match self.status {
-            Status::Processing => unreachable!(),
-            Status::Activating => self.activate(passed),
-            Status::Verifying => self.verify(passed),
-            Status::RollingBack => self.roll_back(passed),
-            Status::CleaningUp => self.clean_up(passed),
+            Status::Processing => self.process_unit(passed),
+            Status::Activating => self.activate_unit(passed),
+            Status::Verifying => self.verify_unit(passed),
+            Status::RollingBack => self.roll_back_unit(passed),
+            Status::CleaningUp => self.clean_up_unit(passed),
             Status::Idle | Status::Ready | Status::Activated | Status::RolledBack => return false,
         }
         true
@@ -140,7 +140,7 @@ impl<S: Staging> Held<S> {
     }
 
     // The planned clusters, which are ready, run, and none is verified.
-    fn activate(&mut self, passed: bool)
+    fn activate_unit(&mut self, passed: bool)
         requires status { self.old.state.status ≡ Activating }
         requires sound { IsSound self.old }
         requires reserved { IsReservedWork self.old }
@@ -158,7 +158,7 @@ impl<S: Staging> Held<S> {
     }
 
     // One change more is verified, or the node turns back.
-    fn verify(&mut self, passed: bool)
+    fn verify_unit(&mut self, passed: bool)
         requires status { self.old.state.status ≡ Verifying }
         requires sound { IsSound self.old }
         ensures unit { IsUnit self.old passed self.new }
@@ -179,7 +179,7 @@ impl<S: Staging> Held<S> {
     }
 
     // The saved clusters, which are ready, run again.
-    fn roll_back(&mut self, passed: bool)
+    fn roll_back_unit(&mut self, passed: bool)
         requires status { self.old.state.status ≡ RollingBack }
         requires sound { IsSound self.old }
         requires reserved { IsReservedWork self.old }
@@ -193,7 +193,7 @@ impl<S: Staging> Held<S> {
     }
 
     // The session is over: its owner's end mark is kept, and the transfers that were processed are gone.
-    fn clean_up(&mut self, passed: bool)
+    fn clean_up_unit(&mut self, passed: bool)
         requires status { self.old.state.status ≡ CleaningUp }
         requires sound { IsSound self.old }
         ensures unit { IsUnit self.old passed self.new }

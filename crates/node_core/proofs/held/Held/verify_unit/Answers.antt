@@ -4,7 +4,7 @@ use Rattle.std.proofs.lemmas.Bool.Decides.{nat_tests}
 use Rattle.pm_types.specs.declared.status.Status.TheVariants.{Activated}
 use Rattle.node_core.specs.Core.{Holding}
 use Rattle.node_core.proofs.Worked.{left-to-verify, verified}
-use Rattle.node_core.proofs.held.Held.verify.Goals as goal
+use Rattle.node_core.proofs.held.Held.verify_unit.Goals as goal
 
 pub overflow_add-session : goal.overflow_add-session
 overflow_add-session g c =

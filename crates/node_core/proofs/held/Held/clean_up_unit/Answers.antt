@@ -1,6 +1,6 @@
 use Rattle.std.proofs.Common.{sym, ap, ◌∙◌, Some}
 use Rattle.node_core.proofs.Worked.{cleaned_up}
-use Rattle.node_core.proofs.held.Held.clean_up.Goals as goal
+use Rattle.node_core.proofs.held.Held.clean_up_unit.Goals as goal
 
 pub returns-in-Some-clause-unit : goal.returns-in-Some-clause-unit
 returns-in-Some-clause-unit g c =

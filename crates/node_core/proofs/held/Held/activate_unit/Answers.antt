@@ -1,6 +1,6 @@
 use Rattle.std.proofs.Common.{sym, ap, ◌∙◌, Some}
 use Rattle.node_core.proofs.Worked.{activated}
-use Rattle.node_core.proofs.held.Held.activate.Goals as goal
+use Rattle.node_core.proofs.held.Held.activate_unit.Goals as goal
 
 pub returns-in-Some-take_clusters-clause-unit : goal.returns-in-Some-take_clusters-clause-unit
 returns-in-Some-take_clusters-clause-unit g c =
