@@ -15,3 +15,6 @@ mod transfers;
 pub use core::{Core, Hold};
 pub use format::{Installed, format_areas};
 pub use prepared::Prepared;
+
+#[cfg(test)]
+mod tests;
