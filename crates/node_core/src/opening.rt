@@ -86,10 +86,7 @@ impl<S: Staging> Held<S> {
 }
 
 /// The refusal of clusters that would run, where they leave a need unmet.
-fn unmet_refusal(
-    alloc: Global,
-    clusters: &[Cluster<Extent>],
-) -> Result<Option<Refusal>, AllocError>
+fn unmet_refusal(alloc: Global, clusters: &[Cluster<Extent>]) -> Result<Option<Refusal>, AllocError>
     ensures { IfOk result (λ why. why
         ≡ option_map missing_dependencies (unmet_among clusters.now)) }
 {
@@ -113,7 +110,11 @@ fn needing(
 {
     let mut all = Vec::new(alloc);
     for cluster in clusters {
-        all.push((cluster.name, cluster.version.clone()?, cluster.needs.copied(alloc)?))?;
+        all.push((
+            cluster.name,
+            cluster.version.clone()?,
+            cluster.needs.copied(alloc)?,
+        ))?;
     }
     Ok(all)
 }
