@@ -5,8 +5,8 @@
 //! step of the definition, and takes no memory.
 #![tactic(auto)]
 
-mod core;
 mod held;
+mod node;
 mod opening;
 mod plan;
 mod prepared;
@@ -14,5 +14,5 @@ mod session_rules;
 mod sessions;
 mod transfers;
 
-pub use core::{Core, Hold};
+pub use node::{Core, Hold};
 pub use prepared::Prepared;

@@ -8,8 +8,8 @@ ghost use Rattle.transfer_blocks.specs.Faults.{HasRisen};
 ghost use Rattle.node_core.specs.Core.{IsKept, IsReady, IsSound, node_of};
 ghost use Rattle.node_core.specs.Sessions.{missing_dependencies, needing_of, opened};
 
-use crate::core::Hold;
 use crate::held::Held;
+use crate::node::Hold;
 use crate::plan::planned;
 use crate::prepared::Prepared;
 use dependency_check::missing;

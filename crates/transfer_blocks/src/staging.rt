@@ -15,7 +15,8 @@ pub trait Staging {
     /// The count of faults.
     ghost fault_count: { Self → ℕ };
 
-    /// Puts the bytes at `at` in place of those that lie there; the area grows where the range ends behind it.
+    /// Puts the bytes at `at` in place of those that lie there. The area grows where the range ends
+    /// behind it. After a failure the bytes of the range may be any, and all others stand.
     fn put(&mut self, area: Area, at: u64, bytes: &[u8]) -> Result<(), StagingFault>
         requires area { IsArea area }
         requires at { at ≤ length (content_of area (areas self.old)) }

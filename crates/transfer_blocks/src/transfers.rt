@@ -99,7 +99,8 @@ impl Transfers {
     pub fn start(&mut self, client: ClientId, size: u64) -> Reply
         ensures reply { result ≡ refused_or (Reply.Started self.old.next_id)
             (first_refusal (start_refusals self.old.next_id (length self.old.transfers) size)) }
-        ensures table { self.new ≡ unless_refused result self.old (with_fresh client size self.old) }
+        ensures table { self.new
+            ≡ unless_refused result self.old (with_fresh client size self.old) }
         ensures form { IsTable self.new }
     {
         if let Some(refusal) = start_refusal(self.next_id, self.held.len() as u64, size) {
@@ -125,8 +126,8 @@ impl Transfers {
 
     /// TransferData: the transfer has a block of this length more.
     pub fn block(&mut self, client: ClientId, id: u32, counter: u64, length: u64) -> Reply
-        ensures reply { result ≡ refused_or Reply.Done
-            (first_refusal (data_refusals (stored_header self.old.transfers client id) counter length)) }
+        ensures reply { result ≡ refused_or Reply.Done (first_refusal
+            (data_refusals (stored_header self.old.transfers client id) counter length)) }
         ensures table { self.new ≡ unless_refused result self.old
             (with_stored id (received length) self.old) }
         ensures form { IsTable self.new }

@@ -1,6 +1,6 @@
 use Rattle.std.proofs.Common.{sym}
 use Rattle.node_core.proofs.Sound.{executed-fit}
-use Rattle.node_core.proofs.core.Core.exec.Goals as goal
+use Rattle.node_core.proofs.node.Core.exec.Goals as goal
 
 pub invariant_of-self : goal.invariant_of-self
 invariant_of-self g c = record {

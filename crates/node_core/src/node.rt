@@ -24,7 +24,7 @@ pub enum Hold {
 
 impl From<AllocError> for Hold {
     ghost use Rattle.std.specs.Prelude.{◌≡◌};
-    ghost use Rattle.node_core.specs.declared.core.Hold.TheVariants.{OutOfMemory};
+    ghost use Rattle.node_core.specs.declared.node.Hold.TheVariants.{OutOfMemory};
 
     ghost from_gives = { λ _ h. h ≡ OutOfMemory };
 
