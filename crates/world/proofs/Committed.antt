@@ -7,7 +7,7 @@ use Rattle.world.proofs.Names.{Successful, Fold, Current, flag_of, all_ended, is
 use Rattle.world.proofs.Names.{Packages, last_status, last_shown, next_number, MaySend, MaySendBy, MaySendLate}
 use Rattle.world.proofs.Rules.{NodeRules, NodeLaws, Move, Delivered, Foreign, Unit_done, after, Spans, spans}
 use Rattle.world.proofs.Rules.{begins_span, IsNew, delivered, NodeWorld, state_of, InEarlier}
-use Rattle.world.proofs.Invariant.{Executable, KeptOld, KeptFold, refused-or}
+use Rattle.world.proofs.Invariant.{Executable, KeptOld, KeptFold}
 use Rattle.world.proofs.Events.{above-last, begins-mine}
 use Rattle.world.proofs.Records.{flagged-ended, SameFold, some-inj, in-append}
 
@@ -34,13 +34,7 @@ module _ (N : NodeRules) (laws : NodeLaws N) (k : ℕ) (changes : List N.Change)
   waits-judge s call calm w = grind (arith, finished, laws.sync_state, laws.delete_session)
     where
       finished : Waits (N.judge s Finish).0
-      finished =
-          refused-or N laws s Finish (λ t. Waits t) w (laws.six_replies s Finish (inr (inl refl))) (λ d.
-          let m = laws.finish_mine s d in
-          elim m.2 [
-            | inl a ↦ (let o = laws.finish_new.only s k w.mine d a in record { mine = o.0; status = inr (o.1, o.3); planned = o.2 ∙ w.planned })
-            | inr b ↦ absurd (elim w.status [ inl x ↦ (cc (b, x)) | inr y ↦ (cc (b, y.0)) ])
-          ])
+      finished = grind (arith, laws.six_replies s Finish (inr (inl refl)), laws.refused s Finish, laws.finish_mine s, laws.finish_new.only s, laws.finish_old.only s)
 
   pub waiting-delivered : (moves : List (Move N)) (m : Message) → (Executable N (after N moves) m → IsCalm m.call) → IsWaiting moves → IsWaiting (Delivered m ∷ moves)
   waiting-delivered moves m calm w =
