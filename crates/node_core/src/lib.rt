@@ -22,5 +22,3 @@ pub use format::{Installed, format_areas};
 pub use node::{Core, Hold};
 pub use prepared::Prepared;
 
-#[cfg(test)]
-mod tests;
