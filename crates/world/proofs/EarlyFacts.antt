@@ -7,8 +7,7 @@ use Rattle.world.proofs.Names.{Refused_once, call_at, onward, Packages, activate
 use Rattle.world.proofs.Names.{inl, inr, length, take, drop, refl, sym, ◌∙◌, ap, subst, append_assoc, Contains}
 use Rattle.world.proofs.Names.{flat_map, take-append-drop, append-nil, Contains-push, Contains-append_left}
 use Rattle.world.proofs.Names.{flat_map-append, Refusal, Call, TransferStart, TransferData, TransferExit}
-use Rattle.world.proofs.Names.{ProcessSwPackage, Activate, Done, Started, Refused, is_working, next_package}
-use Rattle.world.proofs.Names.{next_processed}
+use Rattle.world.proofs.Names.{ProcessSwPackage, Activate, Done, Started, Refused, next_package, next_processed}
 use Rattle.world.proofs.Rules.{NodeRules, reached, Move, Delivered, Foreign, Unit_done, NodeWorld, after, state_of}
 use Rattle.world.proofs.Rules.{Span, spans, NodeLaws, KeepsSession, KeepsTransfers}
 use Rattle.world.proofs.Invariant.{InPresent}
@@ -187,18 +186,7 @@ module _ (N : NodeRules) (laws : NodeLaws N) where
 
   -- a unit
   has-unit : (s : N.State) (passed : Bool) (k : ℕ) (changes : List N.Change) → Has N s k changes → Has N (N.unit s passed) k changes × KeepsTransfers N s (N.unit s passed)
-  has-unit s passed k changes h =
-      elim h.planned [
-        | inl r ↦
-            (let same : N.unit s passed ≡ s = laws.unit_still s passed (ap is_working r.0) in
-            (subst (λ t. Has N t k changes) (sym same) h, laws.unit_received s passed k h.mine (λ e. cc (r.0, e))))
-        | inr p ↦
-            (let keeps = laws.unit_received s passed k h.mine (λ e. cc (p.0, e)) in
-            let u = laws.unit_processing s passed k p.1 h.mine p.0 p.2 in (
-              record { mine = u.0; planned = grind arith },
-              keeps,
-            ))
-      ]
+  has-unit s passed k changes h = grind (arith, laws.unit_still s passed, laws.unit_received s passed k, laws.unit_processing s passed k)
 
   at-none_unit : (s : N.State) (passed : Bool) (k : ℕ) (ps : List (List ℕ)) (stage : Stage) → N.mine s ≡ None → IsAt N s k ps stage → IsAt N (N.unit s passed) k ps stage
   at-none_unit s passed k ps stage none = grind (arith, at-same)

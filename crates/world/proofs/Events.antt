@@ -3,12 +3,11 @@ use Rattle.pm_types.specs.declared.replies.Synced.{Synced as Shown}
 use Rattle.world.specs.Sends.{is_masters}
 use Rattle.world.proofs.Names.{◌≡◌, ◌≢◌, ◌⊎◌, inl, inr, if◌then◌else◌, ◌&&◌, ◌||◌, ℕ, ◌<◌, List, [], ◌∷◌, Option, Some}
 use Rattle.world.proofs.Names.{None, Bool, true, false, is_some, nat_eq, nat_lt, refl, sym, ◌∙◌, ap, subst, arith}
-use Rattle.world.proofs.Names.{nat_tests, CallNo, Status, Idle, Processing, Activating, Verifying, RollingBack}
-use Rattle.world.proofs.Names.{RolledBack, CleaningUp, Decision, Commit, Abort, Fold, Current, Call, Reply}
-use Rattle.world.proofs.Names.{ProcessSwPackage, Finish, Synced, IsBelow, no_lt, no_eq, is_status, Message, Told}
-use Rattle.world.proofs.Names.{Answered, Showed, InSent, InTold, is_working, session_status, is_end_sync, shown_if}
-use Rattle.world.proofs.Names.{or_else, status_if, status_of_shown, last_shown, last_status, has_tag, eq-eqb}
-use Rattle.world.proofs.Names.{nothing_yet, Stale, Again, Fresh, is_done}
+use Rattle.world.proofs.Names.{nat_tests, CallNo, Status, Idle, Processing, RolledBack, CleaningUp, Decision, Commit}
+use Rattle.world.proofs.Names.{Abort, Fold, Current, Call, Reply, ProcessSwPackage, Finish, Synced, IsBelow, no_lt}
+use Rattle.world.proofs.Names.{no_eq, is_status, Message, Told, Answered, Showed, InSent, InTold, session_status}
+use Rattle.world.proofs.Names.{is_end_sync, shown_if, or_else, status_if, status_of_shown, last_shown, last_status}
+use Rattle.world.proofs.Names.{has_tag, nothing_yet}
 use Rattle.world.proofs.Rules.{NodeRules, NodeLaws, delivered, reached, Move, Delivered, Foreign, Unit_done, NodeWorld}
 use Rattle.world.proofs.Rules.{step, state_of, Span, Spans, spans, is_fresh_done, begins_span, EachEnded, after}
 use Rattle.node_laws.proofs.NameLists.{or-right}
@@ -146,16 +145,9 @@ module _ (N : NodeRules) (laws : NodeLaws N) (f : Fold) (n : ℕ) where
   pub unit-mine : (s : N.State) (passed : Bool) (tag : ℕ) → N.mine s ≡ Some tag → (N.mine (N.unit s passed) ≡ Some tag) ⊎ ((N.status s ≡ CleaningUp) × (N.mine (N.unit s passed) ≡ None))
   unit-mine s passed tag e = at_status (N.status s) refl
     where
-      same : (x : Status) → N.status s ≡ x → is_working x ≡ false → N.mine (N.unit s passed) ≡ Some tag
-      same x i w = ap N.mine (laws.unit_still s passed (ap is_working i ∙ w)) ∙ e
-
       at_status : (x : Status) → N.status s ≡ x → (N.mine (N.unit s passed) ≡ Some tag) ⊎ ((N.status s ≡ CleaningUp) × (N.mine (N.unit s passed) ≡ None))
       at_status Processing i = let id = laws.processing_id s tag e i in inl (laws.unit_processing s passed tag id.0 e i id.1).0
-      at_status Activating i = inl (laws.unit_activating s passed tag e i).0
-      at_status Verifying i = inl (laws.unit_verifying s passed tag e i).0
-      at_status RollingBack i = inl (laws.unit_rolling s passed tag e i).0
-      at_status CleaningUp i = inr (i, cleaned N laws s passed tag e i)
-      at_status x i = inl (same x i refl)
+      at_status x i = grind (arith, laws.unit_still s passed, laws.unit_activating s passed tag e, laws.unit_verifying s passed tag e, laws.unit_rolling s passed tag e, cleaned N laws s passed tag e)
 
   pub unit-back : (s : N.State) (passed : Bool) (tag : ℕ) → N.mine (N.unit s passed) ≡ Some tag → N.mine s ≡ Some tag
   unit-back s passed tag e = grind (arith, unit-mine)
@@ -248,23 +240,18 @@ module _ (N : NodeRules) (laws : NodeLaws N) (f : Fold) (n : ℕ) where
       session_judge : Executable N (state_of N x) m → (tag : ℕ) → N.mine (N.judge (state_of N x) m.call).0 ≡ Some tag → InPresent f n (λ c. tag ≡ c.campaign)
       session_judge exec tag e = at_mine (N.mine (state_of N x)) refl
         where
-          of_call : (call : Call) → m.call ≡ call → N.mine (state_of N x) ≡ None → N.mine (N.judge (state_of N x) call).0 ≡ Some tag → (id t : ℕ) × (call ≡ ProcessSwPackage id t) × (t ≡ tag)
-          of_call (ProcessSwPackage id t) q none' e' =
-              elim (laws.process_replies (state_of N x) id t) [
-                | inl d ↦ (id, t, refl, (let g : Some t ≡ Some tag = sym (laws.process_idle (state_of N x) id t none' d).1 ∙ e' in cc g))
-                | inr r ↦ absurd (cc (ap N.mine (laws.refused (state_of N x) (ProcessSwPackage id t) r.0 r.1), none', e'))
-              ]
-          of_call y q none' e' = absurd (cc (none-judge N laws (state_of N x) y (λ i t z. cc) none', e'))
+          of_call : (call : Call) → N.mine (state_of N x) ≡ None → N.mine (N.judge (state_of N x) call).0 ≡ Some tag → (id : ℕ) × (call ≡ ProcessSwPackage id tag)
+          of_call (ProcessSwPackage id t) none' e' = (id, grind (arith, laws.process_replies (state_of N x) id t, laws.refused (state_of N x) (ProcessSwPackage id t), laws.process_idle (state_of N x) id t))
+          of_call y none' e' = absurd (cc (none-judge N laws (state_of N x) y (λ i t z. cc) none', e'))
 
           at_mine : (o : Option ℕ) → N.mine (state_of N x) ≡ o → InPresent f n (λ c. tag ≡ c.campaign)
           at_mine (Some old) q =
               let same : old ≡ tag = (let g : Some old ≡ Some tag = sym (some-judge N laws (state_of N x) m.call old q) ∙ e in cc g) in
               kept.session tag (q ∙ ap Some same)
           at_mine None q =
-              let p = of_call m.call refl q e in
+              let p = of_call m.call q e in
               let here = kept.present m sent exec in
-              let t_is = (kept.tags m sent p.0 p.1 p.2).0 in
-              (here.0, here.1, here.2, here.3, sym p.3 ∙ (t_is ∙ here.4))
+              (here.0, here.1, here.2, here.3, (kept.tags m sent p.0 tag p.1).0 ∙ here.4)
 
       session : (tag : ℕ) → N.mine (delivered N (state_of N x) m.at m.call) ≡ Some tag → InPresent f n (λ c. tag ≡ c.campaign)
       session =
@@ -326,22 +313,8 @@ module _ (N : NodeRules) (laws : NodeLaws N) (f : Fold) (n : ℕ) where
 -- A session of client 0 is an open span of its tag.
 module _ (N : NodeRules) (laws : NodeLaws N) where
   none-begins : (s : N.State) (at : CallNo) (call : Call) (k : ℕ) → N.mine s ≡ None → N.mine (delivered N s at call) ≡ Some k → (has_tag k call && (is_status (N.status s) Idle && is_fresh_done (reached N s at call))) ≡ true
-  none-begins s at (ProcessSwPackage id tag) k none e = go (no_lt at (N.last s)) (no_eq at (N.last s)) e
-    where
-      all-true : (a b c : Bool) → a ≡ true → b ≡ true → c ≡ true → (a && (b && c)) ≡ true
-      all-true a b c p q r = subst (λ x. (x && (b && c)) ≡ true) (sym p) (subst (λ x. (x && c) ≡ true) (sym q) r)
-
-      go : (a b : Bool) → N.mine (if a then s else (if b then s else N.keep (N.judge s (ProcessSwPackage id tag)).0 at (ProcessSwPackage id tag) (N.judge s (ProcessSwPackage id tag)).1)) ≡ Some k → (nat_eq tag k && (is_status (N.status s) Idle && is_fresh_done (if a then Stale (N.last s) else (if b then Again (N.kept s) else Fresh (N.judge s (ProcessSwPackage id tag)).1)))) ≡ true
-      go false false e' =
-          let judged : N.mine (N.judge s (ProcessSwPackage id tag)).0 ≡ Some k = sym (laws.keep_session (N.judge s (ProcessSwPackage id tag)).0 at (ProcessSwPackage id tag) (N.judge s (ProcessSwPackage id tag)).1).mine ∙ e' in
-          elim (laws.process_replies s id tag) [
-            | inl d ↦
-                (let u = laws.process_idle s id tag none d in
-                let tag_is : tag ≡ k = (let q : Some tag ≡ Some k = sym u.1 ∙ judged in cc q) in
-                all-true (nat_eq tag k) (is_status (N.status s) Idle) (is_done (N.judge s (ProcessSwPackage id tag)).1) (eq-eqb tag k tag_is) (ap (λ x. is_status x Idle) u.0) (ap is_done d))
-            | inr r ↦ absurd (cc (ap N.mine (laws.refused s (ProcessSwPackage id tag) r.0 r.1), none, judged))
-          ]
-      go _ _ e' = absurd (cc (none, e'))
+  none-begins s at (ProcessSwPackage id tag) k none e =
+      grind (arith, laws.process_replies s id tag, laws.refused s (ProcessSwPackage id tag), laws.process_idle s id tag, laws.keep_session, nat_tests)
   none-begins s at x k none e = absurd (cc (none-delivered N laws s at x (λ i t z. cc) none, e))
 
   stays-open : (y : Spans N) (b : Bool) (z : List (Span N)) → y.is_open ≡ true → (b ≡ true → ⊥) → (if (y.is_open && b) then record { is_open = false; ended = z } else y).is_open ≡ true

@@ -3,8 +3,8 @@ use Rattle.world.proofs.Names.{◌≡◌, ◌≢◌, ◌⊎◌, ℕ, ◌≤◌, 
 use Rattle.world.proofs.Names.{CleaningUp, CampaignResult, Successful, Decision, Commit, Abort, Cause, Fold, Current}
 use Rattle.world.proofs.Names.{flag_of, end_of, all_below, Shown, Reply, ProcessSwPackage, Finish, Synced, IsBelow}
 use Rattle.world.proofs.Names.{Message, Answered, InSent, InTold, is_masters, session_status, last_status, arith, inl}
-use Rattle.world.proofs.Names.{inr, Bool, refl, sym, ◌∙◌, ap, CallNo, Status, Ready, Processing, Activating, Verifying}
-use Rattle.world.proofs.Names.{RollingBack, Call, Sync, Activate, Rollback, Revert, Cancel, no_lt, no_eq, is_working}
+use Rattle.world.proofs.Names.{inr, Bool, refl, sym, ◌∙◌, ap, CallNo, Status, Processing, Call, Sync, Activate}
+use Rattle.world.proofs.Names.{Rollback, Revert, Cancel, no_lt, no_eq, is_working}
 use Rattle.world.proofs.Rules.{NodeRules, NodeWorld, state_of, spans, EachEnded, InEarlier, shown_session, NodeLaws}
 use Rattle.world.proofs.Rules.{KeepsSession, delivered}
 
@@ -111,18 +111,9 @@ module _ (N : NodeRules) (laws : NodeLaws N) where
   pub ends_old-unit : (s : N.State) (passed : Bool) → EndsOld N s → EndsOld N (N.unit s passed)
   ends_old-unit s passed old = go (N.mine s) refl
     where
-      other : (to : Status) → to ≢ CleaningUp → N.status (N.unit s passed) ≡ to → EndsOld N (N.unit s passed)
-      other to no_clean e tag mine status = absurd (no_clean (sym e ∙ status))
-
       at_status : (tag : ℕ) → N.mine s ≡ Some tag → (x : Status) → N.status s ≡ x → EndsOld N (N.unit s passed)
-      at_status tag e Processing i =
-          let p = laws.unit_processing s passed tag (laws.processing_id s tag e i).0 e i (laws.processing_id s tag e i).1 in
-          elim p.2 [ inl h ↦ other Processing (λ q. cc) h.0 | inr h ↦ other Ready (λ q. cc) h.0 ]
-      at_status tag e Activating i = other Verifying (λ q. cc) (laws.unit_activating s passed tag e i).1
-      at_status tag e Verifying i = grind arith
-      at_status tag e RollingBack i = other RolledBack (λ q. cc) (laws.unit_rolling s passed tag e i).1
-      at_status tag e CleaningUp i = ends_old-none (N.unit s passed) (cleaned s passed tag e i)
-      at_status tag e x i = rw (still s passed x i refl) old
+      at_status tag e Processing i = grind (arith, laws.unit_processing s passed tag (laws.processing_id s tag e i).0 e i (laws.processing_id s tag e i).1)
+      at_status tag e x i = grind (arith, laws.unit_still s passed, laws.unit_activating s passed tag e, laws.unit_verifying s passed tag e, laws.unit_rolling s passed tag e, cleaned s passed tag e)
 
       go : (o : Option ℕ) → N.mine s ≡ o → EndsOld N (N.unit s passed)
       go None e = ends_old-none (N.unit s passed) (laws.unit_none s passed e).0
