@@ -12,7 +12,6 @@ mod pack;
 mod plain;
 mod replay;
 mod script;
-mod served;
 mod status;
 #[cfg(test)]
 mod tests;
