@@ -7,7 +7,7 @@ use Rattle.world.proofs.Names.{Successful, Fold, Current, flag_of, all_ended, is
 use Rattle.world.proofs.Names.{Packages, last_status, last_shown, next_number, MaySend, MaySendBy, MaySendLate}
 use Rattle.world.proofs.Rules.{NodeRules, NodeLaws, Move, Delivered, Foreign, Unit_done, after, Spans, spans}
 use Rattle.world.proofs.Rules.{begins_span, IsNew, delivered, NodeWorld, state_of, InEarlier}
-use Rattle.world.proofs.Invariant.{Executable, KeptOld, KeptFold}
+use Rattle.world.proofs.Invariant.{carried, Executable, KeptOld, KeptFold}
 use Rattle.world.proofs.Events.{above-last, begins-mine}
 use Rattle.world.proofs.Records.{flagged-ended, SameFold, some-inj, in-append}
 
@@ -34,7 +34,8 @@ module _ (N : NodeRules) (laws : NodeLaws N) (k : ℕ) (changes : List N.Change)
   waits-judge s call calm w = grind (arith, finished, laws.sync_state, laws.delete_session)
     where
       finished : Waits (N.judge s Finish).0
-      finished = grind (arith, laws.six_replies s Finish (inr (inl refl)), laws.refused s Finish, laws.finish_mine s, laws.finish_new.only s, laws.finish_old.only s)
+      finished =
+          grind (arith, carried N laws s Finish (inr (inl refl)), laws.finish_mine s, laws.finish_new.only s, laws.finish_old.only s)
 
   pub waiting-delivered : (moves : List (Move N)) (m : Message) → (Executable N (after N moves) m → IsCalm m.call) → IsWaiting moves → IsWaiting (Delivered m ∷ moves)
   waiting-delivered moves m calm w =

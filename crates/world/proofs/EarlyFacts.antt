@@ -186,7 +186,8 @@ module _ (N : NodeRules) (laws : NodeLaws N) where
 
   -- a unit
   has-unit : (s : N.State) (passed : Bool) (k : ℕ) (changes : List N.Change) → Has N s k changes → Has N (N.unit s passed) k changes × KeepsTransfers N s (N.unit s passed)
-  has-unit s passed k changes h = grind (arith, laws.unit_still s passed, laws.unit_received s passed k, laws.unit_processing s passed k)
+  has-unit s passed k changes h =
+      grind (arith, laws.unit_still s passed, laws.unit_received s passed k, laws.unit_processing s passed k)
 
   at-none_unit : (s : N.State) (passed : Bool) (k : ℕ) (ps : List (List ℕ)) (stage : Stage) → N.mine s ≡ None → IsAt N s k ps stage → IsAt N (N.unit s passed) k ps stage
   at-none_unit s passed k ps stage none = grind (arith, at-same)

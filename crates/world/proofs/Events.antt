@@ -11,11 +11,11 @@ use Rattle.world.proofs.Names.{has_tag, nothing_yet}
 use Rattle.world.proofs.Rules.{NodeRules, NodeLaws, delivered, reached, Move, Delivered, Foreign, Unit_done, NodeWorld}
 use Rattle.world.proofs.Rules.{step, state_of, Span, Spans, spans, is_fresh_done, begins_span, EachEnded, after}
 use Rattle.node_laws.proofs.NameLists.{or-right}
-use Rattle.world.proofs.Invariant.{IsRolledBack, EndsOld, KeptHolds, Executable, NoneEarly, InPresent, NotCommit}
-use Rattle.world.proofs.Invariant.{KeptOld, KeptFold, rolled-keeps, ends_old-keeps, rolled-foreign, ends_old-foreign}
-use Rattle.world.proofs.Invariant.{rolled-unit, ends_old-unit, kept-foreign, kept-unit, kept-delivered, delivered-cases}
-use Rattle.world.proofs.Invariant.{none-judge, some-judge, some-delivered, rolled-judge, ends_old-judge, cleaned}
-use Rattle.world.proofs.Invariant.{none-delivered}
+use Rattle.world.proofs.Invariant.{begins, IsRolledBack, EndsOld, KeptHolds, Executable, NoneEarly, InPresent}
+use Rattle.world.proofs.Invariant.{NotCommit, KeptOld, KeptFold, rolled-keeps, ends_old-keeps, rolled-foreign}
+use Rattle.world.proofs.Invariant.{ends_old-foreign, rolled-unit, ends_old-unit, kept-foreign, kept-unit}
+use Rattle.world.proofs.Invariant.{kept-delivered, delivered-cases, none-judge, some-judge, some-delivered}
+use Rattle.world.proofs.Invariant.{rolled-judge, ends_old-judge, cleaned, none-delivered}
 
 pub or-true : (a b : Bool) → (a || b) ≡ true → (a ≡ true) ⊎ (b ≡ true)
 or-true true b e = inl refl
@@ -147,7 +147,7 @@ module _ (N : NodeRules) (laws : NodeLaws N) (f : Fold) (n : ℕ) where
     where
       at_status : (x : Status) → N.status s ≡ x → (N.mine (N.unit s passed) ≡ Some tag) ⊎ ((N.status s ≡ CleaningUp) × (N.mine (N.unit s passed) ≡ None))
       at_status Processing i = let id = laws.processing_id s tag e i in inl (laws.unit_processing s passed tag id.0 e i id.1).0
-      at_status x i = grind (arith, laws.unit_still s passed, laws.unit_activating s passed tag e, laws.unit_verifying s passed tag e, laws.unit_rolling s passed tag e, cleaned N laws s passed tag e)
+      at_status x i = grind (arith, laws.unit_still, laws.unit_activating, laws.unit_verifying, laws.unit_rolling, cleaned)
 
   pub unit-back : (s : N.State) (passed : Bool) (tag : ℕ) → N.mine (N.unit s passed) ≡ Some tag → N.mine s ≡ Some tag
   unit-back s passed tag e = grind (arith, unit-mine)
@@ -241,7 +241,7 @@ module _ (N : NodeRules) (laws : NodeLaws N) (f : Fold) (n : ℕ) where
       session_judge exec tag e = at_mine (N.mine (state_of N x)) refl
         where
           of_call : (call : Call) → N.mine (state_of N x) ≡ None → N.mine (N.judge (state_of N x) call).0 ≡ Some tag → (id : ℕ) × (call ≡ ProcessSwPackage id tag)
-          of_call (ProcessSwPackage id t) none' e' = (id, grind (arith, laws.process_replies (state_of N x) id t, laws.refused (state_of N x) (ProcessSwPackage id t), laws.process_idle (state_of N x) id t))
+          of_call (ProcessSwPackage id t) none' e' = (id, grind (arith, begins N laws (state_of N x) id t, laws.process_idle (state_of N x) id t))
           of_call y none' e' = absurd (cc (none-judge N laws (state_of N x) y (λ i t z. cc) none', e'))
 
           at_mine : (o : Option ℕ) → N.mine (state_of N x) ≡ o → InPresent f n (λ c. tag ≡ c.campaign)
@@ -314,7 +314,7 @@ module _ (N : NodeRules) (laws : NodeLaws N) (f : Fold) (n : ℕ) where
 module _ (N : NodeRules) (laws : NodeLaws N) where
   none-begins : (s : N.State) (at : CallNo) (call : Call) (k : ℕ) → N.mine s ≡ None → N.mine (delivered N s at call) ≡ Some k → (has_tag k call && (is_status (N.status s) Idle && is_fresh_done (reached N s at call))) ≡ true
   none-begins s at (ProcessSwPackage id tag) k none e =
-      grind (arith, laws.process_replies s id tag, laws.refused s (ProcessSwPackage id tag), laws.process_idle s id tag, laws.keep_session, nat_tests)
+      grind (arith, begins N laws s id tag, laws.process_idle s id tag, laws.keep_session, nat_tests)
   none-begins s at x k none e = absurd (cc (none-delivered N laws s at x (λ i t z. cc) none, e))
 
   stays-open : (y : Spans N) (b : Bool) (z : List (Span N)) → y.is_open ≡ true → (b ≡ true → ⊥) → (if (y.is_open && b) then record { is_open = false; ended = z } else y).is_open ≡ true

@@ -1,10 +1,10 @@
 -- What every event keeps, for one node.
-use Rattle.world.proofs.Names.{◌≡◌, ◌≢◌, ◌⊎◌, ℕ, ◌≤◌, List, [], ◌∷◌, Option, Some, None, true, false, Old, RolledBack}
-use Rattle.world.proofs.Names.{CleaningUp, CampaignResult, Successful, Decision, Commit, Abort, Cause, Fold, Current}
-use Rattle.world.proofs.Names.{flag_of, end_of, all_below, Shown, Reply, ProcessSwPackage, Finish, Synced, IsBelow}
-use Rattle.world.proofs.Names.{Message, Answered, InSent, InTold, is_masters, session_status, last_status, arith, inl}
-use Rattle.world.proofs.Names.{inr, Bool, refl, sym, ◌∙◌, ap, CallNo, Status, Processing, Call, Sync, Activate}
-use Rattle.world.proofs.Names.{Rollback, Revert, Cancel, no_lt, no_eq, is_working}
+use Rattle.world.proofs.Names.{RollingBack, Done, ◌≡◌, ◌≢◌, ◌⊎◌, ℕ, ◌≤◌, List, [], ◌∷◌, Option, Some, None, true, false}
+use Rattle.world.proofs.Names.{Old, RolledBack, CleaningUp, CampaignResult, Successful, Decision, Commit, Abort, Cause}
+use Rattle.world.proofs.Names.{Fold, Current, flag_of, end_of, all_below, Shown, Reply, ProcessSwPackage, Finish}
+use Rattle.world.proofs.Names.{Synced, IsBelow, Message, Answered, InSent, InTold, is_masters, session_status}
+use Rattle.world.proofs.Names.{last_status, arith, inl, inr, Bool, refl, sym, ◌∙◌, ap, CallNo, Status, Processing, Call}
+use Rattle.world.proofs.Names.{Sync, Activate, Rollback, Revert, Cancel, no_lt, no_eq, is_working}
 use Rattle.world.proofs.Rules.{NodeRules, NodeWorld, state_of, spans, EachEnded, InEarlier, shown_session, NodeLaws}
 use Rattle.world.proofs.Rules.{KeepsSession, delivered}
 
@@ -112,52 +112,81 @@ module _ (N : NodeRules) (laws : NodeLaws N) where
   ends_old-unit s passed old = go (N.mine s) refl
     where
       at_status : (tag : ℕ) → N.mine s ≡ Some tag → (x : Status) → N.status s ≡ x → EndsOld N (N.unit s passed)
-      at_status tag e Processing i = grind (arith, laws.unit_processing s passed tag (laws.processing_id s tag e i).0 e i (laws.processing_id s tag e i).1)
-      at_status tag e x i = grind (arith, laws.unit_still s passed, laws.unit_activating s passed tag e, laws.unit_verifying s passed tag e, laws.unit_rolling s passed tag e, cleaned s passed tag e)
+      at_status tag e Processing i =
+          grind (arith, laws.unit_processing s passed tag (laws.processing_id s tag e i).0 e i (laws.processing_id s tag e i).1)
+      at_status tag e x i =
+          grind (arith, laws.unit_still, laws.unit_activating, laws.unit_verifying, laws.unit_rolling, cleaned)
 
       go : (o : Option ℕ) → N.mine s ≡ o → EndsOld N (N.unit s passed)
       go None e = ends_old-none (N.unit s passed) (laws.unit_none s passed e).0
       go (Some tag) e = at_status tag e (N.status s) refl
 
+  -- a call on a session is carried out, or leaves the state
+  pub carried : (s : N.State) (call : Call) → (call ≡ Activate) ⊎ ((call ≡ Finish) ⊎ ((call ≡ Rollback) ⊎ (call ≡ Revert))) → ((N.judge s call).1 ≡ Done) ⊎ ((N.judge s call).0 ≡ s)
+  carried s call six = grind (arith, laws.six_replies s call six, laws.refused s call)
+
+  pub begins : (s : N.State) (id tag : ℕ) → ((N.judge s (ProcessSwPackage id tag)).1 ≡ Done) ⊎ ((N.judge s (ProcessSwPackage id tag)).0 ≡ s)
+  begins s id tag = grind (arith, laws.process_replies s id tag, laws.refused s (ProcessSwPackage id tag))
+
+  -- a rollback leaves the session in RollingBack
+  rolls : (s : N.State) (tag : ℕ) → N.mine s ≡ Some tag → (N.judge s Rollback).1 ≡ Done → (N.mine (N.judge s Rollback).0 ≡ Some tag) × (N.status (N.judge s Rollback).0 ≡ RollingBack)
+  rolls s tag e d = grind (arith, laws.rollback_mine s, laws.rollback_verifying.only s, laws.rollback_activated.only s)
+
   -- without a session of client 0 only ProcessSwPackage makes one
   pub none-judge : (s : N.State) (call : Call) → ((id tag : ℕ) → call ≢ ProcessSwPackage id tag) → N.mine s ≡ None → N.mine (N.judge s call).0 ≡ None
   none-judge s (ProcessSwPackage id tag) not e = absurd (not id tag refl)
-  none-judge s Activate not e = grind (arith, laws.six_replies s Activate (inl refl), laws.refused s Activate, laws.activate_mine s)
-  none-judge s Finish not e = grind (arith, laws.six_replies s Finish (inr (inl refl)), laws.refused s Finish, laws.finish_mine s)
-  none-judge s Rollback not e = grind (arith, laws.six_replies s Rollback (inr (inr (inl refl))), laws.refused s Rollback, laws.rollback_mine s)
-  none-judge s Revert not e = grind (arith, laws.six_replies s Revert (inr (inr (inr refl))), laws.refused s Revert, laws.revert_mine s)
+  none-judge s Activate not e = grind (arith, carried s Activate (inl refl), laws.activate_mine s)
+  none-judge s Finish not e = grind (arith, carried s Finish (inr (inl refl)), laws.finish_mine s)
+  none-judge s Rollback not e = grind (arith, carried s Rollback (inr (inr (inl refl))), laws.rollback_mine s)
+  none-judge s Revert not e = grind (arith, carried s Revert (inr (inr (inr refl))), laws.revert_mine s)
   none-judge s (Cancel id) not e = grind (arith, laws.refused s (Cancel id), laws.cancel s id)
-  none-judge s x not e = grind (arith, laws.sync_state s, laws.start_session s, laws.data_session s, laws.exit_session s, laws.delete_session s)
+  none-judge s x not e =
+      grind (arith, laws.sync_state, laws.start_session, laws.data_session, laws.exit_session, laws.delete_session)
 
   -- no call takes client 0's session away or changes its tag
   pub some-judge : (s : N.State) (call : Call) (tag : ℕ) → N.mine s ≡ Some tag → N.mine (N.judge s call).0 ≡ Some tag
-  some-judge s (ProcessSwPackage id tag) old e = grind (arith, laws.process_replies s id tag, laws.refused s (ProcessSwPackage id tag), laws.process_idle s id tag, laws.process_ready s id tag)
-  some-judge s Activate tag e = grind (arith, laws.six_replies s Activate (inl refl), laws.refused s Activate, laws.activate_mine s, laws.activate.only s)
-  some-judge s Finish tag e = grind (arith, laws.six_replies s Finish (inr (inl refl)), laws.refused s Finish, laws.finish_mine s, laws.finish_new.only s, laws.finish_old.only s)
-  some-judge s Rollback tag e = grind (arith, laws.six_replies s Rollback (inr (inr (inl refl))), laws.refused s Rollback, laws.rollback_mine s, laws.rollback_verifying.only s, laws.rollback_activated.only s)
-  some-judge s Revert tag e = grind (arith, laws.six_replies s Revert (inr (inr (inr refl))), laws.refused s Revert, laws.revert_mine s, laws.revert.only s)
+  some-judge s (ProcessSwPackage id tag) old e =
+      grind (arith, begins s id tag, laws.process_idle s id tag, laws.process_ready s id tag)
+  some-judge s Activate tag e = grind (arith, carried s Activate (inl refl), laws.activate_mine s, laws.activate.only s)
+  some-judge s Finish tag e =
+      grind (arith, carried s Finish (inr (inl refl)), laws.finish_mine s, laws.finish_new.only s, laws.finish_old.only s)
+  some-judge s Rollback tag e = grind (arith, carried s Rollback (inr (inr (inl refl))), laws.rollback_mine s, rolls s)
+  some-judge s Revert tag e =
+      grind (arith, carried s Revert (inr (inr (inr refl))), laws.revert_mine s, laws.revert.only s)
   some-judge s (Cancel id) tag e = grind (arith, laws.refused s (Cancel id), laws.cancel s id)
-  some-judge s x tag e = grind (arith, laws.sync_state s, laws.start_session s, laws.data_session s, laws.exit_session s, laws.delete_session s)
+  some-judge s x tag e =
+      grind (arith, laws.sync_state, laws.start_session, laws.data_session, laws.exit_session, laws.delete_session)
 
   -- where only ProcessSwPackage could begin a session, a rolled back one stays so
   pub rolled-judge : (s : N.State) (call : Call) → ((id tag : ℕ) → call ≢ ProcessSwPackage id tag) → IsRolledBack N s → IsRolledBack N (N.judge s call).0
   rolled-judge s (ProcessSwPackage id tag) not r = absurd (not id tag refl)
-  rolled-judge s Activate not r = grind (arith, laws.six_replies s Activate (inl refl), laws.refused s Activate, laws.activate_mine s, laws.activate.only s)
-  rolled-judge s Finish not r = grind (arith, laws.six_replies s Finish (inr (inl refl)), laws.refused s Finish, laws.finish_mine s, laws.finish_new.only s, laws.finish_old.only s)
-  rolled-judge s Rollback not r = grind (arith, laws.six_replies s Rollback (inr (inr (inl refl))), laws.refused s Rollback, laws.rollback_mine s, laws.rollback_verifying.only s, laws.rollback_activated.only s)
-  rolled-judge s Revert not r = grind (arith, laws.six_replies s Revert (inr (inr (inr refl))), laws.refused s Revert, laws.revert_mine s, laws.revert.only s)
+  rolled-judge s Activate not r =
+      grind (arith, carried s Activate (inl refl), laws.activate_mine s, laws.activate.only s)
+  rolled-judge s Finish not r =
+      grind (arith, carried s Finish (inr (inl refl)), laws.finish_mine s, laws.finish_new.only s, laws.finish_old.only s)
+  rolled-judge s Rollback not r =
+      grind (arith, carried s Rollback (inr (inr (inl refl))), laws.rollback_mine s, rolls s)
+  rolled-judge s Revert not r =
+      grind (arith, carried s Revert (inr (inr (inr refl))), laws.revert_mine s, laws.revert.only s)
   rolled-judge s (Cancel id) not r = grind (arith, laws.refused s (Cancel id), laws.cancel s id)
-  rolled-judge s x not r = grind (arith, rolled-keeps, laws.sync_state s, laws.start_session s, laws.data_session s, laws.exit_session s, laws.delete_session s)
+  rolled-judge s x not r =
+      grind (arith, rolled-keeps, laws.sync_state, laws.start_session, laws.data_session, laws.exit_session, laws.delete_session)
 
   -- a session ends as New only by a Finish that doesn't meet RolledBack
   pub ends_old-judge : (s : N.State) (call : Call) → (call ≡ Finish → IsRolledBack N s) → EndsOld N s → EndsOld N (N.judge s call).0
-  ends_old-judge s (ProcessSwPackage id tag) fin o = grind (arith, laws.process_replies s id tag, laws.refused s (ProcessSwPackage id tag), laws.process_idle s id tag, laws.process_ready s id tag)
-  ends_old-judge s Activate fin o = grind (arith, laws.six_replies s Activate (inl refl), laws.refused s Activate, laws.activate_mine s, laws.activate.only s)
-  ends_old-judge s Finish fin o = grind (arith, laws.six_replies s Finish (inr (inl refl)), laws.refused s Finish, laws.finish_mine s, laws.finish_new.only s, laws.finish_old.only s)
-  ends_old-judge s Rollback fin o = grind (arith, laws.six_replies s Rollback (inr (inr (inl refl))), laws.refused s Rollback, laws.rollback_mine s, laws.rollback_verifying.only s, laws.rollback_activated.only s)
-  ends_old-judge s Revert fin o = grind (arith, laws.six_replies s Revert (inr (inr (inr refl))), laws.refused s Revert, laws.revert_mine s, laws.revert.only s)
+  ends_old-judge s (ProcessSwPackage id tag) fin o =
+      grind (arith, begins s id tag, laws.process_idle s id tag, laws.process_ready s id tag)
+  ends_old-judge s Activate fin o =
+      grind (arith, carried s Activate (inl refl), laws.activate_mine s, laws.activate.only s)
+  ends_old-judge s Finish fin o =
+      grind (arith, carried s Finish (inr (inl refl)), laws.finish_mine s, laws.finish_new.only s, laws.finish_old.only s)
+  ends_old-judge s Rollback fin o =
+      grind (arith, carried s Rollback (inr (inr (inl refl))), laws.rollback_mine s, rolls s)
+  ends_old-judge s Revert fin o =
+      grind (arith, carried s Revert (inr (inr (inr refl))), laws.revert_mine s, laws.revert.only s)
   ends_old-judge s (Cancel id) fin o = grind (arith, laws.refused s (Cancel id), laws.cancel s id)
-  ends_old-judge s x fin o = grind (arith, ends_old-keeps, laws.sync_state s, laws.start_session s, laws.data_session s, laws.exit_session s, laws.delete_session s)
+  ends_old-judge s x fin o =
+      grind (arith, ends_old-keeps, laws.sync_state, laws.start_session, laws.data_session, laws.exit_session, laws.delete_session)
 
   -- a delivery is nothing, or a call that is judged and kept
   pub delivered-cases : (s : N.State) (at : CallNo) (call : Call) (P : N.State → Type 0) → P s → (no_lt at (N.last s) ≡ false → no_eq at (N.last s) ≡ false → P (N.keep (N.judge s call).0 at call (N.judge s call).1)) → P (delivered N s at call)
