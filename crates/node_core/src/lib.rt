@@ -21,4 +21,3 @@ mod units;
 pub use format::{Installed, format_areas};
 pub use node::{Core, Hold};
 pub use prepared::Prepared;
-

@@ -13,8 +13,8 @@ ghost use Rattle.node_core.specs.Packages.{package_reading};
 ghost use Rattle.node_core.specs.Places.{IsCopied};
 ghost use Rattle.node_core.specs.Units.{IsReservedWork, IsUnit, after_work, answer_to};
 
-use crate::node::Hold;
 use crate::held::Held;
+use crate::node::Hold;
 use crate::plan::planned;
 use crate::prepared::Prepared;
 use pm_types::{EndMark, Happened, Outcome, Session, Status, Worked};
