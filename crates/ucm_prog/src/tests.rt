@@ -5,7 +5,7 @@ use disk_mem::MemDisk;
 use std::alloc::{AllocError, Global};
 use std::test::Fail;
 use ucm_ports::{Fails, MemSink, MemSource};
-use ucm_text::hex_of;
+use ucm_text::bytes_of_hex;
 
 /// What a run with these words, cut at spaces, and this input ends with and writes, where these calls of the source
 /// and the sink fail.
@@ -103,7 +103,8 @@ fn a_package_is_packed_inspected_and_transferred(rt: HostRuntime) -> Result<(), 
     let recipe: &[u8] = b"package p1 install core 1.0.0 hex:616263\n";
     let (status, package) = outcome(alloc, "pack package", recipe, &[], &[])?;
     assert_eq!(rt; status, ExitStatus::Successful);
-    assert!(rt; hex_of(alloc, package.as_slice())?.as_slice() == PACKAGE);
+    let expected = bytes_of_hex(alloc, PACKAGE)?.unwrap_or(Vec::new(alloc));
+    assert!(rt; package.as_slice() == expected.as_slice());
     let (status, written) = outcome(alloc, "inspect", package.as_slice(), &[], &[])?;
     assert_eq!(rt; status, ExitStatus::Successful);
     assert!(rt; written.as_slice() == b"package core 1.0.0 install payload 3\n".as_slice());
