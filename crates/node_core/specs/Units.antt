@@ -1,6 +1,7 @@
 -- Units of work.
-use Rattle.std.specs.Prelude.{◌≡◌, ℕ, ◌+◌, ◌*◌, min, nat_lt, not, Bool, false, ⊤, List, length, sum_by, take, unwrap_or, IfSome, Option, Some, None}
-use Rattle.std.specs.List.{AllByRecursion}
+use Rattle.std.specs.Prelude.{◌≡◌, ◌==◌, ◌||◌, ℕ, ◌+◌, ◌*◌, min, nat_lt, not, Bool, false, ⊤, List, length, sum_by, take, unwrap_or, IfSome, Option, Some, None, [], ◌∷◌, ◌-◌}
+use Rattle.std.specs.List.{AllByRecursion, list_any}
+use Rattle.std.specs.Option.{option_map_or}
 use Rattle.std.specs.Str.{bytes_eq}
 use Rattle.ucm_base.specs.Limits.{block_limit}
 use Rattle.ucm_base.specs.Names.{name_lt}
@@ -17,11 +18,13 @@ use Rattle.pm_types.specs.declared.status.Status.TheVariants.{Processing, Activa
 use Rattle.pm_types.specs.NodeState.{NodeState, SessionOf}
 use Rattle.pm_types.specs.Clusters.{planned, units_of}
 use Rattle.pm_types.specs.Histories.{unit_passes, worked}
-use Rattle.pm_types.specs.Stored.{IsInOrder, State, transfer_meaning}
+use Rattle.pm_types.specs.Stored.{IsInOrder, State, places_in, transfer_meaning}
 use Rattle.transfer_blocks.specs.declared.area.Area.{Area}
 use Rattle.transfer_blocks.specs.declared.area.Area.TheVariants.{Side, Transfer}
 use Rattle.transfer_blocks.specs.Areas.{content_of}
 use Rattle.transfer_blocks.specs.Table.{stored_of}
+use Rattle.package_reader.specs.Fields.{payload_place}
+use Rattle.node_core.specs.declared.copying.NextUnit.{NextUnit}
 use Rattle.pm_types.specs.Work.{unit}
 use Rattle.node_core.specs.declared.plan.Pick.{Pick}
 use Rattle.node_core.specs.declared.plan.Pick.TheVariants.{Before, Behind, Others}
@@ -108,3 +111,37 @@ abbrev pub picks : Pick → List ℕ → List ℕ → Bool
 picks Before name other = name_lt other name
 picks Behind name other = name_lt name other
 picks Others name other = not (bytes_eq other name)
+
+-- whether a running cluster, a saved one or a planned change has the place
+abbrev pub is_taken : State → ℕ → Bool
+is_taken s place = list_any (λ taken. taken.1 == place) (places_in s)
+
+-- whether a saved cluster or a planned change of a session has it
+abbrev pub takes : SessionOf Extent → ℕ → Bool
+takes x place = list_any (λ c. c.content.place == place) x.saved || list_any (λ c. c.part.payload.place == place) x.changes
+
+abbrev pub session_takes : Option (SessionOf Extent) → ℕ → Bool
+session_takes session place = option_map_or (λ x. takes x place) session false
+
+-- where a package's payload begins, by the length of its manifest's text
+abbrev pub payload_start : Bytes → ℕ
+payload_start content = payload_place content + 4
+
+-- the unit that comes next: of the package in processing, from the units done on
+pub record IsUnitOf (v : Holding) (n : NextUnit) : Type 0 where
+  pub x : SessionOf Extent
+  pub id : ℕ
+  pub transfer : StoredTransfer
+  pub part : Part ℕ
+  pub session : v.state.session ≡ Some x
+  pub processing : x.processing ≡ Some id
+  pub stored : stored_of v.state.transfers x.owner id ≡ Some transfer
+  pub contents : transfer.contents ≡ part ∷ []
+  pub slot : n.slot ≡ transfer.slot
+  pub at : n.at ≡ x.units_done * block_limit
+  pub len : n.len ≡ min (part.payload - x.units_done * block_limit) block_limit
+  pub change : n.change ≡ change_next v.state id part
+
+abbrev pub IsNextUnit : Holding → Option NextUnit → Type 0
+IsNextUnit v None = ⊥
+IsNextUnit v (Some n) = IsUnitOf v n

@@ -5,6 +5,8 @@
 //! one `exec` is one step of the definition, and takes no memory; a query is answered as the definition says.
 #![tactic(auto)]
 
+mod copying;
+mod destination;
 mod format;
 mod held;
 mod node;

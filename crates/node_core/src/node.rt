@@ -1,5 +1,5 @@
 //! A node in memory.
-ghost use Rattle.std.specs.Prelude.{◌≡◌, ◌≢◌, ◌<◌, ◌≤◌, ◌+◌, OnOk, IsErrOf};
+ghost use Rattle.std.specs.Prelude.{◌≡◌, ◌<◌, ◌≤◌, ◌+◌, OnOk, IsErrOf};
 ghost use Rattle.ucm_base.specs.Limits.{entry_limit};
 ghost use Rattle.transfer_blocks.specs.Faults.{HasRisen};
 ghost use Rattle.node_laws.specs.Fit.{IsFit};
@@ -143,12 +143,11 @@ impl<S: Staging> Core<S> {
         }
     }
 
-    /// Takes all memory that the next unit of work needs. The node stays as it is.
+    /// Takes all memory that the next unit of work needs, and copies what it brings of a package. The node stays as it is.
     pub fn reserve_work(&mut self, alloc: Global) -> Result<(), Hold>
         ensures state { self.new.state ≡ self.old.state }
         ensures node { node_of self.new ≡ node_of self.old }
-        ensures reserved { OnOk result
-            (self.old.state.status ≢ Status.Processing → IsReservedWork self.new) }
+        ensures reserved { OnOk result (IsReservedWork self.new) }
         ensures cause { IsErrOf result Hold.StagingFailed
             → HasRisen self.old.faults self.new.faults }
         ensures faults { self.old.faults ≤ self.new.faults }

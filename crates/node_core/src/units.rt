@@ -27,13 +27,17 @@ impl<S: Staging> Held<S> {
     pub(crate) fn reserve_work(&mut self, alloc: Global) -> Result<(), Hold>
         requires sound { IsSound self.old }
         ensures kept { IsKept self.old self.new }
-        ensures ready { OnOk result
-            (self.old.state.status ≢ Processing → IsReservedWork self.new) }
+        ensures ready { OnOk result (IsReservedWork self.new) }
         ensures cause { IsErrOf result Hold.StagingFailed
             → HasRisen self.old.faults self.new.faults }
     {
-        self.reserve_clusters(alloc)?;
-        Ok(())
+        match self.status {
+            Status::Processing => self.reserve_unit(alloc),
+            _ => {
+                self.reserve_clusters(alloc)?;
+                Ok(())
+            }
+        }
     }
 
     // Makes ready the clusters that run after the next unit, where it changes them.

@@ -1,0 +1,199 @@
+-- What a put on the side that a package goes to leaves of a sound node.
+use Rattle.std.proofs.Common.{◌≡◌, ◌≢◌, refl, sym, subst, ap, ◌∙◌, ℕ, ◌+◌, ◌-◌, ◌*◌, ◌<◌, ◌≤◌, Bool, true, false, List, [], ◌∷◌, ◌++◌, length, map, take, arith}
+use Rattle.std.specs.Prelude.{cond, ◌==◌, ◌||◌, not, option_map, IfSome, Option, Some, None}
+use Rattle.std.specs.List.{AllByRecursion, list_any}
+use Rattle.std.specs.Option.{option_map_or}
+use Rattle.std.specs.Str.{bytes_eq}
+use Rattle.std.specs.Ordering.{ordering_reverse}
+use Rattle.std.specs.Cmp.Lexicographic.{nat_list_cmp_total, slice_cmp}
+use Rattle.std.specs.Ordering.{is_lt, nat_cmp}
+use Rattle.std.specs.declared.cmp.Ordering.{Ordering}
+use Rattle.std.specs.declared.cmp.Ordering.TheVariants.{Less, Equal, Greater}
+use Rattle.std.proofs.lemmas.Bool.{eq-eqb, eqb-true}
+use Rattle.std.proofs.lemmas.Bool.Decides.{nat_tests}
+use Rattle.ucm_base.specs.declared.parts.Action.{Action}
+use Rattle.ucm_base.specs.declared.parts.Action.TheVariants.{Install, Update, Remove}
+use Rattle.ucm_base.specs.Limits.{block_limit}
+use Rattle.ucm_base.specs.Names.{has_name, name_lt, names_rise}
+use Rattle.pm_types.specs.declared.clusters.Change.{Change}
+use Rattle.pm_types.specs.declared.clusters.Cluster.{Cluster}
+use Rattle.pm_types.specs.declared.clusters.Extent.{Extent}
+use Rattle.pm_types.specs.declared.state.StoredTransfer.{StoredTransfer}
+use Rattle.pm_types.specs.NodeState.{SessionOf, Transfer}
+use Rattle.pm_types.specs.Clusters.{cluster_at, cluster_of, has_cluster}
+use Rattle.pm_types.specs.Sessions.{suits}
+use Rattle.pm_types.specs.Stored.{Areas, IsExtent, IsInOrder, change_place, cluster_place, on_side, change_meaning, cluster_meaning, meaning, session_meaning, transfer_meaning}
+use Rattle.transfer_blocks.specs.declared.area.Area.{Area}
+use Rattle.transfer_blocks.specs.declared.area.Area.TheVariants.{Side}
+use Rattle.transfer_blocks.specs.Areas.{AreasFit, IsArea, LeavesOutside, content_of}
+use Rattle.transfer_blocks.proofs.Areas.{elsewhere-stands}
+use Rattle.node_laws.proofs.Lists.{each-both, each-first, each-imp, each-unmap, found-has}
+use Rattle.node_laws.proofs.NameLists.{eq-name, name-eq, name-swap, names-behind, names-tail}
+use Rattle.node_laws.proofs.Lists.{neither, not-true}
+use Rattle.node_core.specs.Core.{Holding, IsSound, node_of}
+use Rattle.node_core.specs.Packages.{package_reading}
+use Rattle.node_core.specs.Prepared.{with_length}
+use Rattle.node_core.specs.Places.{goes_to, lowest_free, running_at}
+use Rattle.node_core.proofs.Free.{FitsAll, Pair, each-fits, is_taken}
+use Rattle.node_core.proofs.Handled.{InHand, at_process, busy}
+use Rattle.node_core.proofs.Lastly.{free, names-mean, new-change, pairs, ran-there, runs, state}
+
+behind : {X : Type 0} (P : X → Type 0) (xs ys : List X) → AllByRecursion P (xs ++ ys) → AllByRecursion P ys
+behind P [] ys h = h
+behind P (x ∷ xs) ys h = behind P xs ys h.1
+
+none-any : {X : Type 0} (p : X → Bool) (xs : List X) → list_any p xs ≡ false → AllByRecursion (λ x. p x ≡ false) xs
+none-any p [] e = tt
+none-any p (x ∷ xs) e = let parts = neither (p x) (list_any p xs) e in (parts.0, none-any p xs parts.1)
+
+-- no name stands before itself
+not-before : (a : List ℕ) → name_lt a a ≡ true → ⊥
+not-before a e = go (slice_cmp nat_cmp a a) (nat_list_cmp_total.antisymm a a) e
+  where
+    go : (o : Ordering) → o ≡ ordering_reverse o → is_lt o ≡ true → ⊥
+    go Less q e = let f : ⊥ = cc in f
+    go Equal q e = let f : ⊥ = cc in f
+    go Greater q e = let f : ⊥ = cc in f
+
+-- of clusters in order one has the name
+only-named : (cs : List (Cluster Extent)) (name : List ℕ) (c : Cluster Extent) → names_rise (map (λ (d : Cluster Extent). d.name) cs) ≡ true → cluster_at cs name ≡ Some c → AllByRecursion (λ d. bytes_eq d.name name ≡ true → d ≡ c) cs
+only-named [] name c r e = tt
+only-named (d ∷ cs) name c r e = go (bytes_eq d.name name) refl e (only-named cs name c (names-tail d.name (map (λ (b : Cluster Extent). b.name) cs) r))
+  where
+    later : AllByRecursion (λ (b : Cluster Extent). name_lt d.name b.name ≡ true) cs
+    later = each-unmap (λ n. name_lt d.name n ≡ true) (λ (b : Cluster Extent). b.name) cs (names-behind d.name (map (λ (b : Cluster Extent). b.name) cs) r)
+
+    go : (b : Bool) → bytes_eq d.name name ≡ b → cond b (Some d) (cluster_at cs name) ≡ Some c → (cluster_at cs name ≡ Some c → AllByRecursion (λ k. bytes_eq k.name name ≡ true → k ≡ c) cs) → AllByRecursion (λ k. bytes_eq k.name name ≡ true → k ≡ c) (d ∷ cs)
+    go true q k rec = (
+      λ _. let same : d ≡ c = cc k in same,
+      each-imp _ _ (λ b lt same. absurd (not-before d.name (subst (λ n. name_lt d.name n ≡ true) (name-eq b.name name same ∙ sym (name-eq d.name name q)) lt))) cs later,
+    )
+    go false q k rec = (λ same. absurd (let z = sym q ∙ same in let f : ⊥ = cc in f), rec k)
+
+-- an extent that isn't on the area
+abbrev pub Apart : Area → Extent → Type 0
+Apart area e = Side e.place e.side ≢ area
+
+-- the images of a list under functions that agree on its members
+maps : {X Y : Type 0} (f g : X → Y) (xs : List X) → AllByRecursion (λ x. f x ≡ g x) xs → map f xs ≡ map g xs
+maps f g [] each = refl
+maps f g (x ∷ xs) each = λ i. each.0 i ∷ maps f g xs each.1 i
+
+every : {X : Type 0} {P : X → Type 0} → ((x : X) → P x) → (xs : List X) → AllByRecursion P xs
+every f [] = tt
+every f (x ∷ xs) = (f x, every f xs)
+
+-- extents that a state names, none on the area
+pub record AreApart (area : Area) (v : Holding) (x : SessionOf Extent) : Type 0 where
+  pub running : AllByRecursion (λ c. Apart area c.content) v.state.running
+  pub saved : AllByRecursion (λ c. Apart area c.content) x.saved
+  pub changes : AllByRecursion (λ c. Apart area c.part.payload) x.changes
+
+module _ (v : Holding) (x : SessionOf Extent) (id : ℕ) (sound : IsSound (at_process v x id)) (h : InHand v x id) where
+  abbrev name : List ℕ
+  name = h.pack.manifest.name
+
+  differs : (p q : ℕ) → (p == q) ≡ false → p ≢ q
+  differs p q e same = let z = sym e ∙ eq-eqb p q same in let f : ⊥ = cc in f
+
+  by-place : (place side : ℕ) (cs : List Pair) → AllByRecursion (λ a. (a.1 == place) ≡ false) cs → AllByRecursion (λ a. (n : ℕ) → Side a.1 n ≢ Side place side) cs
+  by-place place side cs each = each-imp _ _ (λ a other n same. differs a.1 place other cc) cs each
+
+  abbrev fresh : Area
+  fresh = Side (lowest_free (state v x id sound h)) 0
+
+  -- a new place
+  install-apart : has_cluster x.saved name ≡ false → AreApart fresh v x
+  install-apart other =
+      let each = by-place (lowest_free (state v x id sound h)) 0 (pairs v x id sound h) (none-any (λ (a : Pair). a.1 == lowest_free (state v x id sound h)) (pairs v x id sound h) (free v x id sound h other).0) in
+      let rest = behind (λ (a : Pair). (n : ℕ) → Side a.1 n ≢ fresh) (map cluster_place v.state.running) (map cluster_place x.saved ++ map change_place x.changes) each in
+      record {
+        running = each-imp _ _ (λ c k. k c.content.side) v.state.running (each-unmap (λ (a : Pair). (n : ℕ) → Side a.1 n ≢ fresh) cluster_place v.state.running (each-first _ (map cluster_place v.state.running) (map cluster_place x.saved ++ map change_place x.changes) each));
+        saved = each-imp _ _ (λ c k. k c.content.side) x.saved (each-unmap (λ (a : Pair). (n : ℕ) → Side a.1 n ≢ fresh) cluster_place x.saved (each-first _ (map cluster_place x.saved) (map change_place x.changes) rest));
+        changes = each-imp _ _ (λ c k. k c.part.payload.side) x.changes (each-unmap (λ (a : Pair). (n : ℕ) → Side a.1 n ≢ fresh) change_place x.changes (behind _ (map cluster_place x.saved) (map change_place x.changes) rest));
+      }
+
+  -- the other side of a running cluster
+  update-apart : (c : Cluster Extent) → cluster_at v.state.running name ≡ Some c → AreApart (Side c.content.place (1 - c.content.side)) v x
+  update-apart c e =
+      let area = Side c.content.place (1 - c.content.side) in
+      let all = pairs v x id sound h in
+      let each = each-fits all sound.order.places in
+      let found = found-has (λ (d : Cluster Extent). bytes_eq d.name name) (λ d. FitsAll all (cluster_place d)) v.state.running c
+          (each-unmap (FitsAll all) cluster_place v.state.running (each-first (FitsAll all) (map cluster_place v.state.running) (map cluster_place x.saved ++ map change_place x.changes) each)) e in
+      let named = name-eq c.name name found.0 in
+      let rest = behind (λ (b : Pair). bytes_eq c.name b.0 ≡ (c.content.place == b.1)) (map cluster_place v.state.running) (map cluster_place x.saved ++ map change_place x.changes) found.1 in
+      let ran = each-unmap (λ (b : Pair). bytes_eq c.name b.0 ≡ (c.content.place == b.1)) cluster_place v.state.running (each-first _ (map cluster_place v.state.running) (map cluster_place x.saved ++ map change_place x.changes) found.1) in
+      let plan = each-unmap (λ (b : Pair). bytes_eq c.name b.0 ≡ (c.content.place == b.1)) change_place x.changes (behind _ (map cluster_place x.saved) (map change_place x.changes) rest) in
+      let only = only-named v.state.running name c rise e in
+      let running = each-both _ _ (λ (d : Cluster Extent). Apart area d.content) (λ d same one. cluster-apart named d same one) v.state.running ran only in
+      record {
+        running = running;
+        saved = subst (AllByRecursion (λ d. Apart area d.content)) (runs v x id sound h) running;
+        changes = each-both _ _ (λ (d : Change Extent). Apart area d.part.payload) (λ d same other. change-apart named d same other) x.changes plan (others x.changes (new-change v x id sound h));
+      }
+    where
+      rise : names_rise (map (λ (d : Cluster Extent). d.name) v.state.running) ≡ true
+      rise = ap names_rise (sym (names-mean v x id sound h v.state.running)) ∙ sound.fit.consistent.limits.running
+
+      other-side : (n : ℕ) → n ≡ 1 - n → ⊥
+      other-side n e = let f : ⊥ = omega (arith, e) in f
+
+      cluster-apart : c.name ≡ name → (d : Cluster Extent) → bytes_eq c.name d.name ≡ (c.content.place == d.content.place) → (bytes_eq d.name name ≡ true → d ≡ c) → Apart (Side c.content.place (1 - c.content.side)) d.content
+      cluster-apart named d same one q =
+          let places : d.content.place ≡ c.content.place = cc in
+          let sides : d.content.side ≡ 1 - c.content.side = cc in
+          let is : d ≡ c = one (ap (bytes_eq d.name) (sym named) ∙ name-swap d.name c.name ∙ same ∙ eq-eqb c.content.place d.content.place (sym places)) in
+          other-side c.content.side (ap (λ (k : Cluster Extent). k.content.side) (sym is) ∙ sides)
+
+      change-apart : c.name ≡ name → (d : Change Extent) → bytes_eq c.name (cluster_of d.part) ≡ (c.content.place == d.part.payload.place) → bytes_eq name (cluster_of d.part) ≡ false → Apart (Side c.content.place (1 - c.content.side)) d.part.payload
+      change-apart named d same other q =
+          let places : d.part.payload.place ≡ c.content.place = cc in
+          let z = sym other ∙ ap (λ n. bytes_eq n (cluster_of d.part)) (sym named) ∙ same ∙ eq-eqb c.content.place d.part.payload.place (sym places) in
+          let f : ⊥ = cc in f
+
+      others : (cs : List (Change Extent)) → has_name (map (λ (d : Change Extent). cluster_of d.part) cs) name ≡ false → AllByRecursion (λ d. bytes_eq name (cluster_of d.part) ≡ false) cs
+      others [] k = tt
+      others (d ∷ cs) k = let parts = neither (bytes_eq name (cluster_of d.part)) (has_name (map (λ (b : Change Extent). cluster_of b.part) cs) name) k in (parts.0, others cs parts.1)
+
+  -- what goes to a side goes to no extent that the state names
+  pub goes-apart : (a : Action) → suits a (has_cluster x.saved name) ≡ true → a ≢ Remove → AreApart (goes_to (state v x id sound h) h.pack.manifest a) v x
+  goes-apart Install s other = install-apart (not-true _ s)
+  goes-apart Update s other =
+      let r = ran-there v x id sound h s in
+      subst (λ (k : Extent). AreApart (Side k.place (1 - k.side)) v x) (ap (λ o. option_map_or (λ (d : Cluster Extent). d.content) o (record { place = 0; side = 0; length = 0 })) (sym r.1)) (update-apart r.0 r.1)
+  goes-apart Remove s other = absurd (other refl)
+
+  -- what a put there leaves
+  module _ (place side n : ℕ) (areas : Areas) (is : IsArea (Side place side)) (fit : AreasFit v.areas) (left : LeavesOutside (Side place side) (x.units_done * block_limit) n v.areas areas) where
+    same-extent : (e : Extent) → IsExtent e → Apart (Side place side) e → on_side areas e ≡ on_side v.areas e
+    same-extent e extent apart = ap (take e.length) (elsewhere-stands (Side place side) v.areas is fit (Side e.place e.side) (x.units_done * block_limit) n areas (extent.0, extent.1) apart left)
+
+    same-cluster : (c : Cluster Extent) → IsExtent c.content → Apart (Side place side) c.content → cluster_meaning areas c ≡ cluster_meaning v.areas c
+    same-cluster c extent apart = ap (λ b. record { name = c.name; version = c.version; needs = c.needs; content = b }) (same-extent c.content extent apart)
+
+    same-change : (c : Change Extent) → IsExtent c.part.payload → Apart (Side place side) c.part.payload → change_meaning areas c ≡ change_meaning v.areas c
+    same-change c extent apart = ap (λ b. record { transfer = c.transfer; part = record { manifest = c.part.manifest; payload = b } }) (same-extent c.part.payload extent apart)
+
+    same-transfer : (t : StoredTransfer) → transfer_meaning package_reading areas t ≡ transfer_meaning package_reading v.areas t
+    same-transfer t = ap (λ (k : Areas). transfer_meaning package_reading k t) left.elsewhere
+
+    pub side-means : AreApart (Side place side) v x → meaning package_reading areas (at_process v x id).state ≡ node_of (at_process v x id)
+    side-means apart = λ i. record (node_of (at_process v x id)) {
+      running = maps (cluster_meaning areas) (cluster_meaning v.areas) v.state.running (each-both _ _ _ same-cluster v.state.running sound.order.clusters apart.running) i;
+      transfers = maps (transfer_meaning package_reading areas) (transfer_meaning package_reading v.areas) v.state.transfers (every same-transfer v.state.transfers) i;
+      session = Some (record (session_meaning v.areas (busy x id)) {
+        saved = maps (cluster_meaning areas) (cluster_meaning v.areas) x.saved (each-both _ _ _ same-cluster x.saved sound.order.session.0 apart.saved) i;
+        changes = maps (change_meaning areas) (change_meaning v.areas) x.changes (each-both _ _ _ same-change x.changes sound.order.session.1 apart.changes) i;
+      });
+    }
+
+    pub side-order : IsInOrder package_reading areas (at_process v x id).state
+    side-order = record {
+      clusters = sound.order.clusters;
+      session = sound.order.session;
+      transfers = each-imp _ _ (λ t placed. record { slot = placed.slot; contents = placed.contents ∙ ap (λ (m : Transfer). map with_length m.parts) (sym (same-transfer t)) }) v.state.transfers sound.order.transfers;
+      slots = sound.order.slots;
+      places = sound.order.places;
+      running = sound.order.running;
+    }

@@ -1,0 +1,10 @@
+use Rattle.std.proofs.Common.{◌≡◌, ◌-◌}
+use Rattle.std.specs.Prelude.{find, not}
+use Rattle.std.specs.List.{range_with_len}
+use Rattle.ucm_base.specs.Limits.{cluster_limit}
+use Rattle.node_core.specs.Units.{is_taken}
+use Rattle.node_core.proofs.held.Held.lowest_free.Given as goal
+
+abbrev pub invariant-loop-place : goal.invariant-loop-place
+invariant-loop-place g l =
+    find (λ p. not (is_taken l.self.state p)) (range_with_len 0 cluster_limit) ≡ find (λ p. not (is_taken l.self.state p)) (range_with_len l.place (cluster_limit - l.place))

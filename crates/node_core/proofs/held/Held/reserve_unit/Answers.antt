@@ -1,0 +1,42 @@
+use Rattle.std.proofs.Common.{◌≡◌, refl, sym, subst, ap, ◌∙◌, ℕ, ◌<◌, arith}
+use Rattle.node_core.specs.Units.{IsNextUnit}
+use Rattle.node_core.proofs.Copied.{needs, on-ok}
+use Rattle.node_core.proofs.Staging.{kept-from}
+use Rattle.node_core.proofs.held.Held.reserve_unit.Goals as goal
+
+some-left : (n : ℕ) → (n ≡ 0 → ⊥) → 0 < n
+some-left n some = omega (arith, some)
+
+pub returns-then-len-eq0-clause-ready : goal.returns-then-len-eq0-clause-ready
+returns-then-len-eq0-clause-ready g c =
+    (needs c.self.view_is c.requires.sound c.requires.status c.in-Some.next (subst (IsNextUnit c.args.self.now) c.in-Some.is c.in_ok-next.ensures)).none c.if-len-eq0.true _ refl refl refl
+
+pub copy-requires-clause-slot : goal.copy-requires-clause-slot
+copy-requires-clause-slot g c = (needs c.self.view_is c.requires.sound c.requires.status c.in-Some.next (subst (IsNextUnit c.args.self.now) c.in-Some.is c.in_ok-next.ensures)).slot
+
+pub copy-requires-clause-area : goal.copy-requires-clause-area
+copy-requires-clause-area g c = (needs c.self.view_is c.requires.sound c.requires.status c.in-Some.next (subst (IsNextUnit c.args.self.now) c.in-Some.is c.in_ok-next.ensures)).area
+
+pub copy-requires-clause-head : goal.copy-requires-clause-head
+copy-requires-clause-head g c = (needs c.self.view_is c.requires.sound c.requires.status c.in-Some.next (subst (IsNextUnit c.args.self.now) c.in-Some.is c.in_ok-next.ensures)).head (some-left c.in-Some.next.len c.if-len-eq0.false)
+
+pub copy-requires-clause-range : goal.copy-requires-clause-range
+copy-requires-clause-range g c = (needs c.self.view_is c.requires.sound c.requires.status c.in-Some.next (subst (IsNextUnit c.args.self.now) c.in-Some.is c.in_ok-next.ensures)).range (some-left c.in-Some.next.len c.if-len-eq0.false)
+
+pub copy-requires-clause-done : goal.copy-requires-clause-done
+copy-requires-clause-done g c = (needs c.self.view_is c.requires.sound c.requires.status c.in-Some.next (subst (IsNextUnit c.args.self.now) c.in-Some.is c.in_ok-next.ensures)).done
+
+pub copy-requires-clause-fits : goal.copy-requires-clause-fits
+copy-requires-clause-fits g c = (needs c.self.view_is c.requires.sound c.requires.status c.in-Some.next (subst (IsNextUnit c.args.self.now) c.in-Some.is c.in_ok-next.ensures)).fits
+
+pub returns-clause-kept : goal.returns-clause-kept
+returns-clause-kept g c = kept-from c.self.view_is
+    ((needs c.self.view_is c.requires.sound c.requires.status c.in-Some.next (subst (IsNextUnit c.args.self.now) c.in-Some.is c.in_ok-next.ensures)).kept (g.met.S.Staging.areas_fit c.self.inside.staging)
+    (some-left c.in-Some.next.len c.if-len-eq0.false) c.copy.new.self c.copy.ensures.state c.copy.ensures.faults c.copy.ensures.left)
+
+pub returns-clause-ready : goal.returns-clause-ready
+returns-clause-ready g c =
+    on-ok c.copy.result
+    (λ put. (needs c.self.view_is c.requires.sound c.requires.status c.in-Some.next (subst (IsNextUnit c.args.self.now) c.in-Some.is c.in_ok-next.ensures)).ready (g.met.S.Staging.areas_fit c.self.inside.staging)
+        (some-left c.in-Some.next.len c.if-len-eq0.false) c.copy.new.self c.copy.ensures.state c.copy.ensures.prepared c.copy.ensures.left put)
+    c.copy.ensures.put
