@@ -1,4 +1,4 @@
--- What the queries require holds of every valid state.
+-- What the queries require holds of every consistent state.
 use Rattle.std.proofs.Common.{◌≡◌, ℕ, ◌<◌, ◌-◌, ◌==◌, nat_lt, Bool, true, false, cond, List, [], ◌∷◌, length, map, find, option_map, option_and_then, Option, Some, None, IsTrue, IfSome, refl, sym, ap, subst, ◌∙◌, arith}
 use Rattle.std.specs.Prelude.{IsSomeAnd}
 use Rattle.std.specs.List.{AllByRecursion}
@@ -10,9 +10,9 @@ use Rattle.pm_types.specs.declared.status.Phase.TheVariants.{Processing}
 use Rattle.pm_types.specs.Clusters.{all_units}
 use Rattle.pm_types.specs.Histories.{Reading}
 use Rattle.pm_types.specs.NodeState.{SessionOf, Transfer, is_in, some_passes}
-use Rattle.pm_types.specs.Stored.{State, Areas, session_meaning, transfer_meaning, meaning, IsPlaced, IsValidStored}
+use Rattle.pm_types.specs.Stored.{State, Areas, session_meaning, transfer_meaning, meaning, IsPlaced}
 use Rattle.pm_types.specs.Transfers.{is_of, transfer_of}
-use Rattle.pm_types.specs.Validity.{numbers_rise}
+use Rattle.pm_types.specs.Validity.{IsConsistent, numbers_rise}
 use Rattle.history_query.specs.Shown.{are_consecutive, stored_units, IsUnfinished, EachIsUnfinished}
 use Rattle.history_query.proofs.Answered.{units-same}
 use Rattle.history_query.proofs.Found.{found-has}
@@ -52,9 +52,9 @@ module _ {X : Type 0} (f : X → ℕ) where
           let later = found-has p (λ y. f x < f y) xs u (above (f x) xs r) k in
           (λ is. absurd (omega (arith, is, later.1, has u later.0)), rec k h)
 
-module _ (read : Reading) (areas : Areas) (s : State) (valid : IsValidStored read areas s) where
+module _ (read : Reading) (areas : Areas) (s : State) (consistent : IsConsistent (meaning read areas s)) (placed : AllByRecursion (IsPlaced read areas) s.transfers) where
   pub lines-consecutive : IsTrue (are_consecutive s.lines)
-  lines-consecutive = consecutive-from (s.entries - length s.lines) s.lines valid.0.consistent.limits.places
+  lines-consecutive = consecutive-from (s.entries - length s.lines) s.lines consistent.limits.places
 
   -- a transfer in processing has more units than are done
   abbrev IsDue : ℕ → Transfer → Type 0
@@ -68,7 +68,7 @@ module _ (read : Reading) (areas : Areas) (s : State) (valid : IsValidStored rea
   )
 
   pub each-unfinished : EachIsUnfinished s.session s.transfers
-  each-unfinished = by-session s.session valid.0.consistent.processing.each valid.0.consistent.processing.unfinished
+  each-unfinished = by-session s.session consistent.processing.each consistent.processing.unfinished
     where
       by-found : (x : SessionOf Extent) (id : ℕ) (o : Option Transfer) → transfer_of (meaning read areas s) x.owner id ≡ o → IsSomeAnd o (λ t. x.units_done < all_units t.parts) → AllByRecursion (λ t. is_in Processing t.header ≡ (id == t.header.id)) (map (transfer_meaning read areas) s.transfers) → AllByRecursion (IsDue x.units_done) (map (transfer_meaning read areas) s.transfers)
       by-found x id None e h due = absurd h
@@ -77,12 +77,12 @@ module _ (read : Reading) (areas : Areas) (s : State) (valid : IsValidStored rea
           (λ t d is in_it. is (grind (arith, nat_tests, sym d ∙ in_it))) (map (transfer_meaning read areas) s.transfers) due
           (only-found (λ t. t.header.id) (λ t. is_of x.owner id t.header) (λ t. x.units_done < all_units t.parts) id
           (λ t q. grind (arith, nat_tests, (and_parts (t.header.id == id) (t.header.client == x.owner) q).0))
-          (map (transfer_meaning read areas) s.transfers) u valid.0.consistent.transfers.rise e h)
+          (map (transfer_meaning read areas) s.transfers) u consistent.transfers.rise e h)
 
       by-id : (x : SessionOf Extent) (processing : Option ℕ) → AllByRecursion (λ t. is_in Processing t.header ≡ some_passes (λ id. id == t.header.id) processing) (map (transfer_meaning read areas) s.transfers) → IfSome processing (λ id. IsSomeAnd (transfer_of (meaning read areas s) x.owner id) (λ t. x.units_done < all_units t.parts)) → AllByRecursion (IsUnfinished x.units_done) s.transfers
-      by-id x None due h = stored x.units_done s.transfers (each-imp _ (IsDue x.units_done) (λ t d in_it. absurd (let no : true ≡ false = sym in_it ∙ d in cc)) (map (transfer_meaning read areas) s.transfers) due) valid.1.transfers
-      by-id x (Some id) due h = stored x.units_done s.transfers (by-found x id (transfer_of (meaning read areas s) x.owner id) refl h due) valid.1.transfers
+      by-id x None due h = stored x.units_done s.transfers (each-imp _ (IsDue x.units_done) (λ t d in_it. absurd (let no : true ≡ false = sym in_it ∙ d in cc)) (map (transfer_meaning read areas) s.transfers) due) placed
+      by-id x (Some id) due h = stored x.units_done s.transfers (by-found x id (transfer_of (meaning read areas s) x.owner id) refl h due) placed
 
       by-session : (session : Option (SessionOf Extent)) → AllByRecursion (λ t. is_in Processing t.header ≡ some_passes (λ id. id == t.header.id) (option_and_then (λ x. x.processing) (option_map (session_meaning areas) session))) (map (transfer_meaning read areas) s.transfers) → IfSome (option_map (session_meaning areas) session) (λ x. IfSome x.processing (λ id. IsSomeAnd (transfer_of (meaning read areas s) x.owner id) (λ t. x.units_done < all_units t.parts))) → EachIsUnfinished session s.transfers
-      by-session None due h = stored 0 s.transfers (each-imp _ (IsDue 0) (λ t d in_it. absurd (let no : true ≡ false = sym in_it ∙ d in cc)) (map (transfer_meaning read areas) s.transfers) due) valid.1.transfers
+      by-session None due h = stored 0 s.transfers (each-imp _ (IsDue 0) (λ t d in_it. absurd (let no : true ≡ false = sym in_it ∙ d in cc)) (map (transfer_meaning read areas) s.transfers) due) placed
       by-session (Some x) due h = by-id x x.processing due h

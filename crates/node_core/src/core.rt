@@ -50,7 +50,7 @@ impl From<StagingFault> for Hold {
 /// A node, seen as its stored state, its areas, and what is ready for the next call.
 #[derive(Drop)]
 pub struct Core<S: Staging> {
-    held: Held<S>,
+    pub(crate) held: Held<S>,
 }
 
 impl<S: Staging> Model for Core<S> {

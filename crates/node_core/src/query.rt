@@ -1,0 +1,84 @@
+//! The queries, which change nothing.
+ghost use Rattle.std.specs.Prelude.{◌≡◌, IfOk};
+ghost use Rattle.pm_types.specs.declared.queries.Query.TheVariants.{GetSwProcessProgress};
+ghost use Rattle.pm_types.specs.Queries.{answer};
+ghost use Rattle.history_query.specs.Shown.{progress_answer};
+ghost use Rattle.node_core.specs.Core.{IsSound, node_of};
+
+use crate::core::Core;
+use crate::held::Held;
+use history_query::{change_info, cluster_info, history, packages, process_progress};
+use pm_types::{Answer, Query, Refusal, Status};
+use std::alloc::{AllocError, Global};
+use transfer_blocks::Staging;
+use ucm_base::ClientId;
+
+impl<S: Staging> Core<S> {
+    /// Answers a query.
+    pub fn query(
+        &self,
+        alloc: Global,
+        client: ClientId,
+        query: &Query,
+    ) -> Result<Answer, AllocError>
+        ensures { IfOk result (λ a. a ≡ answer (node_of self.now) client query.now) }
+    {
+        self.held.answer(alloc, client, query)
+    }
+
+    /// How much of the client's transfer is processed, in percent. It takes no memory.
+    pub fn progress(&self, client: ClientId, id: u32) -> Result<u8, Refusal>
+        ensures { progress_answer result
+            ≡ answer (node_of self.now) client (GetSwProcessProgress id) }
+    {
+        self.held.progress(client, id)
+    }
+
+    /// The node's status.
+    pub fn status(&self) -> Status
+        ensures { result ≡ (node_of self.now).status }
+    {
+        self.held.status
+    }
+}
+
+impl<S: Staging> Held<S> {
+    fn answer(&self, alloc: Global, client: ClientId, query: &Query) -> Result<Answer, AllocError>
+        requires sound { IsSound self.now }
+        ensures { IfOk result (λ a. a ≡ answer (node_of self.now) client query.now) }
+    {
+        match query {
+            Query::CurrentStatus => Ok(Answer::Status(self.status)),
+            Query::GetSwClusterInfo => Ok(Answer::Clusters(cluster_info(alloc, &self.running)?)),
+            Query::GetSwClusterChangeInfo => {
+                Ok(Answer::Changes(change_info(alloc, self.session.as_ref())?))
+            }
+            Query::GetSwPackages => {
+                let transfers = self.transfers.as_slice();
+                Ok(Answer::Packages(packages(alloc, transfers, client)?))
+            }
+            Query::GetSwProcessProgress { id } => Ok(shown(self.progress(client, *id))),
+            Query::GetHistory { ge, lt } => {
+                Ok(Answer::History(history(alloc, &self.lines, *ge, *lt)?))
+            }
+        }
+    }
+
+    fn progress(&self, client: ClientId, id: u32) -> Result<u8, Refusal>
+        requires sound { IsSound self.now }
+        ensures { progress_answer result
+            ≡ answer (node_of self.now) client (GetSwProcessProgress id) }
+    {
+        process_progress(self.transfers.as_slice(), self.session.as_ref(), client, id)
+    }
+}
+
+/// A progress, or its refusal, as an answer.
+fn shown(progress: Result<u8, Refusal>) -> Answer
+    ensures { result ≡ progress_answer progress }
+{
+    match progress {
+        Ok(percent) => Answer::Progress(percent),
+        Err(refusal) => Answer::Refused(refusal),
+    }
+}
