@@ -73,7 +73,8 @@ pub fn packages(
     client: ClientId,
 ) -> Result<PackageList, AllocError>
     ensures { IfOk result (λ list. list
-        ≡ map (λ t. shown_transfer t.header) (filter (λ t. t.header.client == client) transfers.now)) }
+        ≡ map (λ t. shown_transfer t.header)
+        (filter (λ t. t.header.client == client) transfers.now)) }
 {
     let items = shown_packages(alloc, transfers, client)?;
     Ok(PackageList::of(items))
@@ -85,7 +86,8 @@ fn shown_packages(
     client: ClientId,
 ) -> Result<Vec<PackageInfo>, AllocError>
     ensures { IfOk result (λ infos. infos.items
-        ≡ map (λ t. shown_transfer t.header) (filter (λ t. t.header.client == client) transfers.now)) }
+        ≡ map (λ t. shown_transfer t.header)
+        (filter (λ t. t.header.client == client) transfers.now)) }
 {
     transfers
         .iter()

@@ -1,9 +1,10 @@
--- Package lines: `package <name> <action> <cluster> <version> <block> <need>*`, and the package that one makes.
+-- Package lines, and the packages that they make.
 use Rattle.std.specs.Prelude.{ℕ, ◌==◌, ◌||◌, not, nat_le, if◌then◌else◌, List, [], ◌∷◌, length, codes, Option, Some, None, Result, Ok, Err}
 use Rattle.std.specs.Str.{bytes_eq}
 use Rattle.sha2.specs.Sha256.{sha256}
 use Rattle.ucm_base.specs.Limits.{need_limit}
 use Rattle.ucm_base.specs.declared.parts.Action.{Action}
+use Rattle.ucm_base.specs.declared.parts.Manifest.{Manifest}
 use Rattle.ucm_base.specs.declared.parts.Need.{Need}
 use Rattle.package_reader.specs.Reading.{is_remove}
 use Rattle.package_reader.specs.declared.package.Package.{Package}
@@ -26,13 +27,15 @@ abbrev pub payload_in : Action → List ℕ → Result BlockSource Why
 payload_in action word =
     plain_block_in word >>= λ b. given (not (is_remove action) || length_meant b == 0) b Value
 
--- the package that says this of itself, and has the payload's digest
+-- the manifest that has the payload's digest
+abbrev pub manifest_for : Action → List ℕ → List ℕ → List Need → List ℕ → Manifest
+manifest_for action cluster version needs payload =
+    record { action = action; name = cluster; version = version; needs = needs; sha256 = sha256 payload }
+
+-- the package that says this of itself
 abbrev pub contents_of : Action → List ℕ → List ℕ → List Need → List ℕ → Package
 contents_of action cluster version needs payload =
-    record {
-      manifest = record { action = action; name = cluster; version = version; needs = needs; sha256 = sha256 payload };
-      payload = payload;
-    }
+    record { manifest = manifest_for action cluster version needs payload; payload = payload }
 
 abbrev pub package_words : List ℕ → List ℕ → List ℕ → List ℕ → List ℕ → List (List ℕ) → Result NamedPackage Why
 package_words name action cluster version block needs = do

@@ -1,7 +1,9 @@
 //! Recipes: scripts with lines that make software packages, and what is packed of them.
 //!
-//! Layer: stands on `scenario` (the words of lines), `package_reader` and the kit's `sha2`; the program stands on it.
-//! Its one contract: `pack` answers exactly the bytes that the recipe makes, or its first refused line and why.
+//! Layer: stands on `scenario` (the words of lines), `package_reader` and the kit's `sha2`; the
+//! program stands on it.
+//! Its one contract: `pack` answers exactly the bytes that the recipe makes, or its first refused
+//! line and why.
 #![tactic(auto)]
 
 mod fault;

@@ -61,10 +61,11 @@ fn script(alloc: Global, input: &[u8], recipe: Recipe) -> Result<Vec<u8>, AllocE
     Ok(text)
 }
 
-/// Packs a recipe. Its lines `package <name> <action> <cluster> <version> <block> <need>*` make software packages;
-/// each other line passes as it is.
+/// Packs a recipe. Its lines `package <name> <action> <cluster> <version> <block> <need>*` make
+/// software packages; each other line passes as it is.
 ///
-/// A payload is hashed once, and a package once. The time is linear in the recipe and what it makes.
+/// A payload is hashed once (SHA-256, FIPS 180-4), and all bytes of a package before its digest
+/// once. The time is linear in the recipe and what it makes.
 pub fn pack(alloc: Global, input: &[u8], kind: Kind) -> Result<Vec<u8>, PackFault>
     ensures packed { IfOk result (λ b. packed kind input.now ≡ Ok b.items) }
     ensures refused { IfErr result (λ e. (line : ℕ) (why : Why) → e ≡ PackFault.Refused line why

@@ -36,7 +36,8 @@ fn sealed_bytes(alloc: Global, text: &[u8], payload: &[u8]) -> Result<Vec<u8>, A
     Ok(bytes)
 }
 
-/// The bytes of a package. What stands before the digest is hashed once, the payload alone not at all.
+/// The bytes of a package. What stands before the digest is hashed once, the payload alone not at
+/// all: whoever made the manifest did that.
 #[tactic(auto, unfolding(package_reader::specs::Printing::package_text))]
 pub fn seal_package(alloc: Global, contents: &Package) -> Result<Vec<u8>, AllocError>
     ensures bytes { IfOk result (λ b. b.items ≡ package_text contents.now) }

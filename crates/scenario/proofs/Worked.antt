@@ -1,9 +1,9 @@
 -- Scripts and words of one line or a few, worked by the definitions.
-use Rattle.std.proofs.Common.{◌≡◌, List, [], ◌∷◌, Ok, Err, Some, refl}
+use Rattle.std.proofs.Common.{◌≡◌, List, [], ◌∷◌, Ok, Err, refl}
 use Rattle.std.specs.Prelude.{ℕ, codes, Result}
 use Rattle.scenario.specs.declared.why.Why.{Why}
 use Rattle.scenario.specs.declared.why.Why.TheVariants.{Form, Value, Unknown, Twice, Limit, Bytes, Later}
-use Rattle.scenario.specs.declared.blocks.BlockSource.TheVariants.{Bytes as Given, Piece, Fill}
+use Rattle.scenario.specs.declared.blocks.BlockSource.TheVariants.{Piece, Fill}
 use Rattle.scenario.specs.declared.events.Event.TheVariants.{Work}
 use Rattle.scenario.specs.declared.script.Command.TheVariants.{Replay}
 use Rattle.scenario.specs.declared.script.Script.{Script}

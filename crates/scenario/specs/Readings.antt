@@ -1,5 +1,5 @@
 -- Readings: a value, or why there is none.
-use Rattle.std.specs.Prelude.{Bool, if◌then◌else◌, Option, ok_or, Result, Ok, Err}
+use Rattle.std.specs.Prelude.{Bool, if◌then◌else◌, Result, Ok, Err}
 use Rattle.scenario.specs.declared.why.Why.{Why}
 
 abbrev pub Read : Type 0 → Type 0

@@ -16,7 +16,8 @@ pub struct Attached {
     pub len: u32,
 }
 
-/// Attachments by their names, seen as the entries in order of names. A look-up costs the logarithm of their number.
+/// Attachments by their names, seen as the entries in order of names. A look-up costs the logarithm
+/// of their number.
 #[derive(Drop)]
 pub struct Attachments {
     places: BTreeMap<ClusterName, Attached>,

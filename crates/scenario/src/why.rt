@@ -2,8 +2,8 @@
 use std::alloc::{AllocError, AllocFailed};
 use std::fmt;
 
-/// What is wrong with a line. Within a line the first that holds is answered, in this order of a line's
-/// parts: that it comes later, its form, its words from left to right, what stands twice, a limit.
+/// What is wrong with a line. The first that holds is answered, in this order: that the line comes
+/// later, its form, its words from left to right, what stands twice, a limit.
 #[derive(Clone, Copy, Debug, PartialEq, Eq)]
 pub enum Why {
     /// The first word is no line of the command, or no form of it has this number of words.

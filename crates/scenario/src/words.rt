@@ -1,5 +1,5 @@
 //! What single words say. Whatever reads scripts or recipes shares these readers.
-ghost use Rattle.std.specs.Prelude.{◌≡◌, ◌==◌, ◌<◌, ◌+◌, ◌*◌, length, option_and_then, option_map, position, IfOk, IfErr, IfSome, Ok, Err};
+ghost use Rattle.std.specs.Prelude.{◌≡◌, ◌==◌, ◌<◌, ◌∷◌, [], length, option_map, position, IfOk, IfErr, IfSome, Ok, Err};
 ghost use Rattle.scenario.specs.declared.why.Why.{Why};
 ghost use Rattle.scenario.specs.Words.{action_in, byte_in, call_no_in, client_in, cut, digit_value, from_one_in, name_in, need_in, node_in, number_in, req_in, small_in, version_in};
 
@@ -121,17 +121,17 @@ pub(crate) fn byte(word: &[u8]) -> Result<u8, Why>
     ensures { result ≡ byte_in word.now }
 {
     match word {
-        [high, low] => byte_of(*high, *low).ok_or(Why::Value),
+        [high, low] => byte_of(*high, *low),
         _ => Err(Why::Value),
     }
 }
 
-fn byte_of(high: u8, low: u8) -> Option<u8>
-    ensures { result ≡ option_and_then (λ h. option_map (λ l. 16 * h + l) (digit_value low)) (digit_value high) }
+fn byte_of(high: u8, low: u8) -> Result<u8, Why>
+    ensures { result ≡ byte_in (high ∷ low ∷ []) }
 {
-    let high = digit(high)?;
-    let low = digit(low)?;
-    Some(16 * high + low)
+    let high = digit(high).ok_or(Why::Value)?;
+    let low = digit(low).ok_or(Why::Value)?;
+    Ok(16 * high + low)
 }
 
 /// A version.

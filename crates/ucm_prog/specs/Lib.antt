@@ -1,4 +1,7 @@
 pub mod Commands
 pub mod Script
+pub mod Refusals
 pub mod Replay
+pub mod Inspect
 pub mod Outcome
+pub mod Outputs

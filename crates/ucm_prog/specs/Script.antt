@@ -6,7 +6,7 @@ use Rattle.ucm_base.specs.declared.ids.CallNo.{CallNo}
 use Rattle.ucm_base.specs.Limits.{client_limit}
 use Rattle.ucm_text.specs.Decimal.{number_of_word}
 use Rattle.ucm_text.specs.Hexadecimal.{bytes_of_word}
-use Rattle.pm_types.specs.declared.calls.Call.TheVariants.{Sync, TransferStart, TransferData, DeleteTransfer}
+use Rattle.pm_types.specs.declared.calls.Call.TheVariants.{Sync, TransferStart, TransferData, TransferExit, DeleteTransfer}
 use Rattle.std.specs.Ordering.{is_lt}
 use Rattle.pm_types.specs.NodeState.{of_client}
 use Rattle.pm_types.specs.Steps.{call_no_cmp}
@@ -72,11 +72,12 @@ abbrev pub data_call : List ℕ → List ℕ → List ℕ → Option ScriptCall
 data_call id counter block =
     option_and_then (λ i. option_and_then (λ n. block_of_pieces i n (slice_split (λ b. b == 58) block)) (number_of_word counter)) (small_number id)
 
--- `sync`, `start <size>`, `delete <id>` or `data <id> <counter> <block>`
+-- `sync`, `start <size>`, `exit <id>`, `delete <id>` or `data <id> <counter> <block>`
 abbrev pub call_of_words : List (List ℕ) → Option ScriptCall
 call_of_words (name ∷ []) = if bytes_eq name (codes "sync") then Some (Given Sync) else None
 call_of_words (name ∷ word ∷ []) =
     if bytes_eq name (codes "start") then option_map (λ n. Given (TransferStart n)) (number_of_word word)
+    else if bytes_eq name (codes "exit") then option_map (λ n. Given (TransferExit n)) (small_number word)
     else if bytes_eq name (codes "delete") then option_map (λ n. Given (DeleteTransfer n)) (small_number word)
     else None
 call_of_words (name ∷ id ∷ counter ∷ block ∷ []) = if bytes_eq name (codes "data") then data_call id counter block else None

@@ -5,6 +5,10 @@
 //! cause.
 #![tactic(auto)]
 
+mod commands;
+mod inspect;
+mod output;
+mod pack;
 mod plain;
 mod replay;
 mod script;

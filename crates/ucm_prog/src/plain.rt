@@ -1,11 +1,15 @@
 //! The commands that never wait.
-ghost use Rattle.std.specs.Prelude.{◌≡◌, ◌↔◌, ◌⊎◌, IfSome, IfOk, IfErr, map, string_bytes, false};
+ghost use Rattle.std.specs.Prelude.{◌≡◌, ◌↔◌, ◌⊎◌, IfSome, IfOk, IfErr, map, string_bytes, None};
 ghost use Rattle.ucm_ports.specs.Faults.{HasRisen};
-ghost use Rattle.ucm_prog.specs.Commands.{is_replay, usage_line};
+ghost use Rattle.ucm_prog.specs.Commands.{command_of, usage_line};
 ghost use Rattle.ucm_prog.specs.Outcome.{IsEnded, IsPlain, IsWritten, Puts, PutsPrefix};
-ghost use Rattle.ucm_prog.specs.Replay.{IsOutput, IsOutputOf, LeavesPrefixOf, output_of, too_long_output};
+ghost use Rattle.ucm_prog.specs.Outputs.{IsOutput, IsOutputOf, LeavesPrefixOf, command_output, output_of};
 
-use crate::replay::{Output, replay};
+use crate::commands::{Command, command_in};
+use crate::inspect::inspect;
+use crate::output::{Output, too_long};
+use crate::pack::pack_input;
+use crate::replay::replay;
 use crate::status::ExitStatus;
 use disk_core::Disk;
 use std::alloc::{AllocError, Global};
@@ -15,7 +19,7 @@ use ucm_ports::{ReadFault, Sink, Source, put_all, read_all};
 const USAGE: &str =
     "usage: ucm run [full] | demo <number> | replay | inspect | pack package|vehicle|script\n";
 
-/// Carries out a command that never waits; so far `replay` alone.
+/// Carries out a command that never waits: `replay`, `inspect`, `pack package` or `pack script`.
 ///
 /// It reads the whole source, of at most 67,108,864 bytes, and writes the command's output to the
 /// sink. It hands the disks back, of which no command makes a call so far.
@@ -27,13 +31,13 @@ pub fn ucm_plain<S: Source, K: Sink, D: Disk>(
     disks: Vec<D>,
 ) -> (ExitStatus, Vec<D>)
     ensures usage { (result.0 ≡ ExitStatus.Usage)
-        ↔ (is_replay (map string_bytes words.now) ≡ false) }
+        ↔ (command_of (map string_bytes words.now) ≡ None) }
     ensures usage_reads_nothing { result.0 ≡ ExitStatus.Usage → source.new ≡ source.old }
     ensures usage_is_written { result.0 ≡ ExitStatus.Usage
         → IsWritten (K.written sink.old) (K.written sink.new) usage_line
         (K.fault_count sink.old) (K.fault_count sink.new) }
     ensures output { IsEnded result.0
-        → IsOutputOf (S.left source.old) result.0 (K.written sink.old) (K.written sink.new) }
+        → IsOutputOf (command_of (map string_bytes words.now)) (S.left source.old) result.0 (K.written sink.old) (K.written sink.new) }
     ensures read_fault { result.0 ≡ ExitStatus.ReadFault
         → HasRisen (S.fault_count source.old) (S.fault_count source.new) }
     ensures read_fault_writes_nothing { result.0 ≡ ExitStatus.ReadFault
@@ -41,18 +45,18 @@ pub fn ucm_plain<S: Source, K: Sink, D: Disk>(
     ensures write_fault { result.0 ≡ ExitStatus.WriteFault
         → HasRisen (K.fault_count sink.old) (K.fault_count sink.new) }
     ensures write_fault_leaves_a_prefix { result.0 ≡ ExitStatus.WriteFault
-        → LeavesPrefixOf (S.left source.old) (K.written sink.old) (K.written sink.new) }
+        → LeavesPrefixOf (command_of (map string_bytes words.now)) (S.left source.old) (K.written sink.old) (K.written sink.new) }
     ensures out_of_memory_writes_nothing { result.0 ≡ ExitStatus.OutOfMemory
         → sink.new ≡ sink.old }
     ensures served { IsPlain result.0 }
     ensures disks { result.1 ≡ disks }
 {
-    if !is_replay_command(words) {
+    let Some(command) = command_in(words) else {
         let _ = put_all(sink, USAGE.as_bytes());
         return (ExitStatus::Usage, disks);
-    }
-    match run(alloc, source) {
-        Ok(output) => (written(sink, output.text.as_bytes(), output.status), disks),
+    };
+    match run(alloc, command, source) {
+        Ok(output) => (written(sink, output.bytes.as_slice(), output.status), disks),
         Err(RunFault::Failed) => (ExitStatus::ReadFault, disks),
         Err(RunFault::OutOfMemory) => (ExitStatus::OutOfMemory, disks),
     }
@@ -65,15 +69,15 @@ enum RunFault {
 }
 
 /// Reads the whole source, and makes the output.
-fn run<S: Source>(alloc: Global, source: &mut S) -> Result<Output, RunFault>
+fn run<S: Source>(alloc: Global, command: Command, source: &mut S) -> Result<Output, RunFault>
     ensures output { IfOk result (λ o. IfSome (S.left source.old)
-        (λ input. IsOutput (output_of input) o.status (string_bytes o.text))) }
+        (λ input. IsOutput (output_of command input) o.status o.bytes.items)) }
     ensures ended { IfOk result (λ o. IsEnded o.status) }
     ensures cause { IfErr result (λ e. e ≡ RunFault.Failed
         → HasRisen (S.fault_count source.old) (S.fault_count source.new)) }
 {
     match read_all(alloc, source, INPUT_LIMIT as usize) {
-        Ok(input) => match replay(alloc, input.as_slice()) {
+        Ok(input) => match output(alloc, command, input.as_slice()) {
             Ok(output) => Ok(output),
             Err(AllocError) => Err(RunFault::OutOfMemory),
         },
@@ -86,22 +90,15 @@ fn run<S: Source>(alloc: Global, source: &mut S) -> Result<Output, RunFault>
     }
 }
 
-fn too_long(alloc: Global) -> Result<Output, AllocError>
-    ensures { IfOk result (λ o. IsOutput too_long_output o.status (string_bytes o.text)) }
+/// What the command writes of an input.
+fn output(alloc: Global, command: Command, input: &[u8]) -> Result<Output, AllocError>
+    ensures output { IfOk result (λ o. IsOutput (command_output command input.now)
+        o.status o.bytes.items) }
 {
-    Ok(Output {
-        status: ExitStatus::InputRefused,
-        text: String::from_str(alloc, "refused too long\n")?,
-    })
-}
-
-/// Whether the words are `replay` alone.
-fn is_replay_command(words: &[String]) -> bool
-    ensures { result ≡ is_replay (map string_bytes words.now) }
-{
-    match words {
-        [word] => word.as_str() == "replay",
-        _ => false,
+    match command {
+        Command::Replay => replay(alloc, input),
+        Command::Inspect => inspect(alloc, input),
+        Command::Pack(kind) => pack_input(alloc, input, kind),
     }
 }
 

@@ -1,50 +1,38 @@
 //! The command `replay`: the calls of a script, executed by one node in memory.
-ghost use Rattle.std.specs.Prelude.{◌≡◌, ◌<◌, ◌≤◌, ◌+◌, ◌++◌, [], true, replicate, IfOk, OnOk, Ok, string_bytes};
+ghost use Rattle.std.specs.Prelude.{◌≡◌, ◌<◌, ◌≤◌, ◌+◌, ◌++◌, [], true, replicate, IfOk, OnOk, string_bytes};
 ghost use Rattle.ucm_base.specs.Limits.{entry_limit};
 ghost use Rattle.pm_types.specs.Histories.{formatted};
-ghost use Rattle.pm_types.specs.Steps.{step};
-ghost use Rattle.node_core.specs.Core.{is_served, node_of};
-ghost use Rattle.ucm_prog.specs.Replay.{IsOutput, after_line, call_meant, later_text, line_text, output_of_calls, texts_of};
+ghost use Rattle.node_core.specs.Core.{is_served, node_of, step_by};
+ghost use Rattle.ucm_prog.specs.Replay.{after_line, call_meant, line_text, output_of_calls, texts_of};
+ghost use Rattle.ucm_prog.specs.Outputs.{IsOutput};
 ghost use Rattle.ucm_prog.specs.Script.{calls_of};
 
+use crate::output::{Output, refused_line};
 use crate::script::{CallLine, ScriptCall, ScriptFault, read_script};
 use crate::status::ExitStatus;
 use node_core::{Core, Hold};
 use pm_types::{Call, Clusters, Reached, State};
+use scenario::Why;
 use std::alloc::{AllocError, Global};
+use transfer_blocks::MemStaging;
 use ucm_base::{Block, CallNo, ClientId};
-
-/// A status, and the text that is written.
-#[derive(Drop)]
-pub struct Output {
-    pub status: ExitStatus,
-    pub text: String,
-}
 
 /// What `replay` of a whole input writes.
 pub fn replay(alloc: Global, input: &[u8]) -> Result<Output, AllocError>
     ensures { IfOk result (λ output. IsOutput (output_of_calls
-        (calls_of input.now)) output.status (string_bytes output.text)) }
+        (calls_of input.now)) output.status output.bytes.items) }
 {
     match read_script(alloc, input) {
-        Ok(calls) => Ok(Output {
-            status: ExitStatus::Successful,
-            text: texts(alloc, calls.as_slice())?,
-        }),
-        Err(ScriptFault::Later { line }) => Ok(Output {
-            status: ExitStatus::InputRefused,
-            text: refused_line(alloc, line)?,
-        }),
+        Ok(calls) => {
+            let text = texts(alloc, calls.as_slice())?;
+            Ok(Output {
+                status: ExitStatus::Successful,
+                bytes: text.into_bytes(),
+            })
+        }
+        Err(ScriptFault::Later { line }) => refused_line(alloc, line, Why::Later),
         Err(ScriptFault::OutOfMemory) => Err(AllocError),
     }
-}
-
-fn refused_line(alloc: Global, line: u64) -> Result<String, AllocError>
-    ensures { IfOk result (λ text. string_bytes text ≡ later_text line) }
-{
-    let mut text = String::new(alloc);
-    write!(text, "refused line {line} later\n")?;
-    Ok(text)
 }
 
 /// The lines that calls print.
@@ -61,13 +49,13 @@ fn texts(alloc: Global, calls: &[CallLine]) -> Result<String, AllocError>
 }
 
 /// A node that has just been formatted, without clusters.
-fn new_node(alloc: Global) -> Result<Core, AllocError>
+fn new_node(alloc: Global) -> Result<Core<MemStaging>, AllocError>
     ensures node { IfOk result (λ core. node_of core ≡ formatted []) }
-    ensures entries { IfOk result (λ core. core.entries ≡ 0) }
+    ensures entries { IfOk result (λ core. core.state.entries ≡ 0) }
 {
     let state = State::fresh(alloc, Clusters::of(Vec::new(alloc)))?;
-    let core = Core::new(alloc, state)?;
-    Ok(core)
+    let staging = MemStaging::new(alloc)?;
+    Ok(Core::new(staging, state))
 }
 
 /// Prints a line's number and what its call gave.
@@ -79,16 +67,16 @@ fn print_line(text: &mut String, line: u64, reached: &Reached) -> Result<(), All
 }
 
 /// Executes the call of a line.
-fn reach(alloc: Global, core: &mut Core, line: &CallLine) -> Result<Reached, AllocError>
-    requires { core.old.entries < entry_limit }
+fn reach(alloc: Global, core: &mut Core<MemStaging>, line: &CallLine) -> Result<Reached, AllocError>
+    requires { core.old.state.entries < entry_limit }
     ensures reached { IfOk result (λ reached. reached
         ≡ (after_line (node_of core.old) line.now).1) }
     ensures node { OnOk result (node_of core.new ≡ (after_line (node_of core.old) line.now).0) }
-    ensures entries { core.new.entries ≤ core.old.entries + 1 }
+    ensures entries { core.new.state.entries ≤ core.old.state.entries + 1 }
 {
     let CallLine { client, no, .. } = *line;
     match &line.call {
-        ScriptCall::Given(call) => executed(core, client, no, call.as_call()),
+        ScriptCall::Given(call) => executed(alloc, core, client, no, call.as_call()),
         ScriptCall::Filled {
             id,
             counter,
@@ -96,7 +84,7 @@ fn reach(alloc: Global, core: &mut Core, line: &CallLine) -> Result<Reached, All
             byte,
         } => {
             let call = filled_call(alloc, *id, *counter, *size, *byte)?;
-            executed(core, client, no, &call)
+            executed(alloc, core, client, no, &call)
         }
     }
 }
@@ -125,21 +113,23 @@ fn filled_call(
 }
 
 fn executed(
-    core: &mut Core,
+    alloc: Global,
+    core: &mut Core<MemStaging>,
     client: ClientId,
     no: CallNo,
     call: &Call,
 ) -> Result<Reached, AllocError>
     requires served { is_served call.now ≡ true }
-    requires entries { core.old.entries < entry_limit }
+    requires entries { core.old.state.entries < entry_limit }
     ensures reached { IfOk result (λ reached. reached
-        ≡ (step (node_of core.old) client no call.now (Ok [])).1) }
+        ≡ (step_by core.old client no call.now).1) }
     ensures node { OnOk result (node_of core.new
-        ≡ (step (node_of core.old) client no call.now (Ok [])).0) }
-    ensures entries { core.new.entries ≤ core.old.entries + 1 }
+        ≡ (step_by core.old client no call.now).0) }
+    ensures entries { core.new.state.entries ≤ core.old.state.entries + 1 }
 {
-    match core.reserve(client, no, call) {
+    match core.reserve(alloc, client, no, call) {
         Ok(()) => Ok(core.exec(client, no, call)),
-        Err(Hold::OutOfMemory) => Err(AllocError),
+        // Areas in memory never fail but for want of memory.
+        Err(Hold::OutOfMemory | Hold::StagingFailed) => Err(AllocError),
     }
 }

@@ -308,6 +308,9 @@ fn call_with(name: &[u8], word: &[u8]) -> Option<ScriptCall>
     if name == b"start".as_slice() {
         let size = number_of(word)?;
         Some(ScriptCall::Given(ServedCall::of(Call::TransferStart { size })))
+    } else if name == b"exit".as_slice() {
+        let id = small_number_of(word)?;
+        Some(ScriptCall::Given(ServedCall::of(Call::TransferExit { id })))
     } else if name == b"delete".as_slice() {
         let id = small_number_of(word)?;
         Some(ScriptCall::Given(ServedCall::of(Call::DeleteTransfer { id })))

@@ -5,18 +5,21 @@ use disk_mem::MemDisk;
 use std::alloc::{AllocError, Global};
 use std::test::Fail;
 use ucm_ports::{Fails, MemSink, MemSource};
+use ucm_text::hex_of;
 
-/// What a run with these words and this input ends with and writes, where these calls of the source
+/// What a run with these words, cut at spaces, and this input ends with and writes, where these calls of the source
 /// and the sink fail.
 fn outcome(
     alloc: Global,
-    word: &str,
+    line: &str,
     input: &[u8],
     takes: &[u64],
     puts: &[u64],
 ) -> Result<(ExitStatus, Vec<u8>), AllocError> {
     let mut words = Vec::new(alloc);
-    words.push(String::from_str(alloc, word)?)?;
+    for word in line.split(' ') {
+        words.push(String::from_str(alloc, word)?)?;
+    }
     let mut source = MemSource::new(
         Vec::from_slice(alloc, input)?,
         Fails::of(Vec::from_slice(alloc, takes)?),
@@ -77,6 +80,72 @@ call 1 1 1.4 data 1 1 hex:\ncall 1 1 1.5 data 1 1 fill:5:00\ncall 1 1 1.6 data 2
     for (script, text) in rows {
         let (status, written) = outcome(rt.alloc(), "replay", script, &[], &[])?;
         assert_eq!(rt; status, ExitStatus::Successful);
+        assert!(rt; written.as_slice() == text);
+    }
+    Ok(())
+}
+
+/// The package that installs core 1.0.0 with the payload `abc`, in hexadecimal text.
+const PACKAGE: &[u8] =
+    b"535750310000008b7b22616374696f6e223a22696e7374616c6c222c226e616d65223a22636f7265222c226e65656473223a5b5d2c22736861323536223a2262613738313662663866303163666561343134313430646535646165323232336230303336316133393631373761396362343130666636316632303031356164222c2276657273696f6e223a22312e302e30227d000000036162638519fb70b0ded6ee4676a0b23cfcf9334a5928b338c4d8aae24b03a38c173ce1";
+
+/// The script that transfers these 186 bytes in one block, and closes the transfer twice.
+fn transfer(alloc: Global, digits: &[u8]) -> Result<Vec<u8>, AllocError> {
+    let mut script = Vec::from_slice(alloc, b"call 1 1 1.1 start 186\ncall 1 1 1.2 data 1 1 hex:")?;
+    script.extend_from_slice(digits)?;
+    script.extend_from_slice(b"\ncall 1 1 1.3 exit 1\ncall 1 1 1.4 exit 1\n")?;
+    Ok(script)
+}
+
+#[test]
+fn a_package_is_packed_inspected_and_transferred(rt: HostRuntime) -> Result<(), Fail> {
+    let alloc = rt.alloc();
+    let recipe: &[u8] = b"package p1 install core 1.0.0 hex:616263\n";
+    let (status, package) = outcome(alloc, "pack package", recipe, &[], &[])?;
+    assert_eq!(rt; status, ExitStatus::Successful);
+    assert!(rt; hex_of(alloc, package.as_slice())?.as_slice() == PACKAGE);
+    let (status, written) = outcome(alloc, "inspect", package.as_slice(), &[], &[])?;
+    assert_eq!(rt; status, ExitStatus::Successful);
+    assert!(rt; written.as_slice() == b"package core 1.0.0 install payload 3\n".as_slice());
+    let (status, written) = outcome(alloc, "inspect", &package.as_slice()[..150], &[], &[])?;
+    assert_eq!(rt; status, ExitStatus::InputRefused);
+    assert!(rt; written.as_slice() == b"refused PackageInconsistent 147\n".as_slice());
+    let script = transfer(alloc, PACKAGE)?;
+    let (_, written) = outcome(alloc, "replay", script.as_slice(), &[], &[])?;
+    assert!(rt;
+        written.as_slice()
+            == b"1 Started 1\n2 Done\n3 Done\n4 Refused 4 OperationNotPermitted\n".as_slice()
+    );
+    let mut other = Vec::from_slice(alloc, PACKAGE)?;
+    let last = other.len() - 1;
+    other[last] = if other[last] == b'0' { b'1' } else { b'0' };
+    let script = transfer(alloc, other.as_slice())?;
+    let (_, written) = outcome(alloc, "replay", script.as_slice(), &[], &[])?;
+    assert!(rt;
+        written.as_slice()
+            == b"1 Started 1\n2 Done\n3 Refused 7 PackageInconsistent 154\n\
+4 Refused 7 PackageInconsistent 154\n"
+                .as_slice()
+    );
+    Ok(())
+}
+
+#[test]
+fn what_is_no_package_is_refused(rt: HostRuntime) -> Result<(), Fail> {
+    let rows: [(&str, &[u8], &[u8]); 5] = [
+        ("inspect", b"", b"refused PackageInconsistent 0\n"),
+        ("inspect", b"SWP1", b"refused PackageInconsistent 4\n"),
+        ("pack package", b"", b"refused line 0 missing\n"),
+        (
+            "pack package",
+            b"package p1 remove core 1.0.0 fill:1:00",
+            b"refused line 1 value\n",
+        ),
+        ("pack script", b"step 1 p1\n", b"refused line 1 later\n"),
+    ];
+    for (words, input, text) in rows {
+        let (status, written) = outcome(rt.alloc(), words, input, &[], &[])?;
+        assert_eq!(rt; status, ExitStatus::InputRefused);
         assert!(rt; written.as_slice() == text);
     }
     Ok(())

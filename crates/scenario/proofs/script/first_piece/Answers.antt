@@ -1,4 +1,3 @@
-use Rattle.std.proofs.Common.{◌≡◌}
 use Rattle.scenario.proofs.Cuts.{cut-Some, cut-None}
 use Rattle.scenario.proofs.script.first_piece.Goals as goal
 

@@ -7,5 +7,5 @@ use Rattle.ucm_prog.proofs.replay.texts.Given as goal
 abbrev pub invariant-calls : goal.invariant-calls
 invariant-calls l = record {
   text : texts_of (formatted []) l.calls ≡ string_bytes l.text ++ texts_of (node_of l.core) (drop l.call-index l.calls);
-  entries : l.core.entries ≤ l.call-index;
+  entries : l.core.state.entries ≤ l.call-index;
 }

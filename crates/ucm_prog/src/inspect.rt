@@ -1,0 +1,86 @@
+//! The command `inspect`: what a software package is.
+ghost use Rattle.std.specs.Prelude.{◌≡◌, ◌++◌, length, codes, IfOk, OnOk, string_bytes};
+ghost use Rattle.std.specs.List.{flat_map};
+ghost use Rattle.package_reader.specs.Reading.{reading};
+ghost use Rattle.ucm_prog.specs.Inspect.{action_word, inspected, need_line, package_line, shown};
+ghost use Rattle.ucm_prog.specs.Outputs.{IsOutput};
+ghost use Rattle.ucm_prog.specs.Refusals.{package_refusal, refused_output};
+
+use crate::output::{Output, refused};
+use crate::status::ExitStatus;
+use package_reader::{PackageFault, read_contents};
+use std::alloc::{AllocError, Global};
+use ucm_base::{Action, Manifest, Need};
+
+/// What `inspect` of a whole input writes. The payload isn't copied.
+pub fn inspect(alloc: Global, input: &[u8]) -> Result<Output, AllocError>
+    ensures { IfOk result (λ o. IsOutput (inspected (reading input.now)) o.status o.bytes.items) }
+{
+    match read_contents(alloc, input) {
+        Ok(package) => {
+            let text = shown_package(alloc, &package.manifest, package.payload.len())?;
+            Ok(Output {
+                status: ExitStatus::Successful,
+                bytes: text.into_bytes(),
+            })
+        }
+        Err(PackageFault::OutOfMemory) => Err(AllocError),
+        Err(fault) => refused_package(alloc, fault),
+    }
+}
+
+fn refused_package(alloc: Global, fault: PackageFault) -> Result<Output, AllocError>
+    ensures { IfOk result (λ o. IsOutput (refused_output (package_refusal fault))
+        o.status o.bytes.items) }
+{
+    let mut text = String::new(alloc);
+    match fault {
+        PackageFault::PackageInconsistent { place } => {
+            write!(text, "refused PackageInconsistent {place}\n")?
+        }
+        PackageFault::InvalidManifest => write!(text, "refused InvalidManifest\n")?,
+        PackageFault::OutOfMemory => return Err(AllocError),
+    }
+    Ok(refused(text))
+}
+
+fn shown_package(alloc: Global, manifest: &Manifest, size: usize) -> Result<String, AllocError>
+    ensures { IfOk result (λ text. string_bytes text ≡ shown manifest.now size) }
+{
+    let mut text = String::new(alloc);
+    add_package(&mut text, manifest, size)?;
+    add_needs(&mut text, manifest.needs.as_slice())?;
+    Ok(text)
+}
+
+fn add_package(text: &mut String, manifest: &Manifest, size: usize) -> Result<(), AllocError>
+    ensures { OnOk result (string_bytes text.new
+        ≡ string_bytes text.old ++ package_line manifest.now size) }
+{
+    let name = manifest.name;
+    let version = manifest.version.text();
+    let action = word_of(manifest.action);
+    write!(text, "package {name} {version} {action} payload {size}\n")
+}
+
+fn add_needs(text: &mut String, needs: &[Need]) -> Result<(), AllocError>
+    ensures { OnOk result (string_bytes text.new
+        ≡ string_bytes text.old ++ flat_map need_line needs.now) }
+{
+    for need in needs {
+        let name = need.name;
+        let req = need.req.text();
+        write!(text, "need {name}@{req}\n")?;
+    }
+    Ok(())
+}
+
+fn word_of(action: Action) -> &'static str
+    ensures { result.now ≡ action_word action }
+{
+    match action {
+        Action::Install => "install",
+        Action::Update => "update",
+        Action::Remove => "remove",
+    }
+}
