@@ -1,5 +1,5 @@
 -- A node that has just been formatted, without clusters, is sound.
-use Rattle.std.proofs.Common.{◌≡◌, refl, ℕ, [], arith}
+use Rattle.std.proofs.Common.{refl, ℕ, [], arith}
 use Rattle.pm_types.specs.Stored.{Areas, fresh_state}
 use Rattle.node_laws.proofs.Kept.{keeps-fit}
 use Rattle.node_core.specs.Core.{IsSound, holding}

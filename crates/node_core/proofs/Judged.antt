@@ -21,7 +21,7 @@ use Rattle.pm_types.specs.Transfers.{start_refusals, data_refusals, exit_refusal
 use Rattle.pm_types.specs.Validity.{numbers_rise}
 use Rattle.transfer_blocks.specs.Table.{IsTable, Table, bad_refusal, good_parts, lowest_free, received, slots_of, stored_header, stored_of, unless_refused, whole, with_fresh, with_stored, without}
 use Rattle.node_laws.proofs.Lists.{each-append, each-both, found-has, each-filter, each-imp}
-use Rattle.node_laws.proofs.Refusals.{rows-clear, both-none, not-false, is-transferring}
+use Rattle.node_laws.proofs.Lists.{rows-clear, both-none, not-false, is-transferring}
 use Rattle.node_core.specs.Core.{Holding, IsBehind, IsReady, IsJudged, IsSound, node_of, refusal_by, table_of, verdict_on, with_table}
 use Rattle.node_core.specs.Packages.{package_reading}
 use Rattle.node_core.specs.Places.{IsCopied, IsCopiedIn}

@@ -29,7 +29,7 @@ use Rattle.transfer_blocks.proofs.Areas.{content-here}
 use Rattle.transfer_blocks.proofs.Bytes.{front_slice, slice-overwritten}
 use Rattle.transfer_blocks.proofs.Meanings.{transfer-stands}
 use Rattle.node_laws.proofs.Lists.{each-both, each-imp, each-unmap, found-has}
-use Rattle.node_laws.proofs.Refusals.{not-true}
+use Rattle.node_laws.proofs.Lists.{not-true}
 use Rattle.node_core.specs.Core.{Holding, IsBehind, IsKept, IsReady, IsSound, node_of}
 use Rattle.node_core.specs.declared.prepared.Prepared.{Prepared}
 use Rattle.node_core.specs.declared.prepared.Prepared.TheVariants.{Verdict as Judged}

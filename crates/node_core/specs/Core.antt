@@ -1,10 +1,10 @@
 -- A node in memory: its stored state, where its bytes lie, and what is ready for the next call.
-use Rattle.std.specs.Prelude.{◌≡◌, ◌≤◌, ◌+◌, ℕ, Bool, true, false, ⊤, [], length, slice_range, slice_index_or, Option, None}
+use Rattle.std.specs.Prelude.{◌≡◌, ◌≤◌, ◌+◌, ℕ, ⊤, [], length, slice_range, slice_index_or, Option, Some, None}
 use Rattle.std.specs.List.{AllByRecursion}
 use Rattle.ucm_base.specs.declared.ids.CallNo.{CallNo}
 use Rattle.ucm_base.specs.Parts.{Bytes}
 use Rattle.pm_types.specs.declared.calls.Call.{Call}
-use Rattle.pm_types.specs.declared.calls.Call.TheVariants.{Sync, TransferStart, TransferData, TransferExit, DeleteTransfer}
+use Rattle.pm_types.specs.declared.calls.Call.TheVariants.{TransferData, TransferExit, ProcessSwPackage, Activate}
 use Rattle.pm_types.specs.declared.replies.Refusal.{Refusal}
 use Rattle.pm_types.specs.declared.replies.Reached.{Reached}
 use Rattle.pm_types.specs.declared.replies.Reply.{Reply}
@@ -14,6 +14,7 @@ use Rattle.pm_types.specs.declared.state.StoredTransfer.{StoredTransfer}
 use Rattle.pm_types.specs.NodeState.{NodeState, SessionOf, of_client}
 use Rattle.pm_types.specs.Histories.{verdict_for}
 use Rattle.pm_types.specs.Refusals.{first_refusal}
+use Rattle.pm_types.specs.Sessions.{activate_refusal, session_refusals}
 use Rattle.pm_types.specs.Steps.{refusal, repeat_of, reply_to, after_reply, step}
 use Rattle.pm_types.specs.Stored.{Areas, State, IsInOrder, meaning}
 use Rattle.pm_types.specs.Transfers.{Verdict, transfer_of, header_of, exit_refusals}
@@ -23,7 +24,8 @@ use Rattle.node_core.specs.declared.prepared.Prepared.{Prepared}
 use Rattle.node_core.specs.declared.prepared.Prepared.TheVariants.{Nothing}
 use Rattle.node_core.specs.Packages.{package_reading}
 use Rattle.node_core.specs.Places.{IsCopied}
-use Rattle.node_core.specs.Prepared.{IsVerdictKept, verdict_kept}
+use Rattle.node_core.specs.Prepared.{IsVerdictKept, session_kept, unmet_kept, verdict_kept}
+use Rattle.node_core.specs.Sessions.{opened}
 
 -- a node in memory
 pub record Holding : Type 0 where
@@ -91,15 +93,6 @@ abbrev pub IsBehind : Areas → Bytes → StoredTransfer → Type 0
 IsBehind areas block t =
     slice_range (slice_index_or areas.slots t.slot []) t.header.received (t.header.received + length block) ≡ block
 
--- the calls that are served so far
-abbrev pub is_served : Call → Bool
-is_served Sync = true
-is_served (TransferStart size) = true
-is_served (TransferData id counter bytes) = true
-is_served (TransferExit id) = true
-is_served (DeleteTransfer id) = true
-is_served _ = false
-
 -- all that executing the call needs is there, where the table accepts it
 abbrev pub IsReady : Holding → ℕ → Call → Type 0
 IsReady v client (TransferData id counter block) =
@@ -108,6 +101,12 @@ IsReady v client (TransferData id counter block) =
 IsReady v client (TransferExit id) =
     first_refusal (exit_refusals (header_of (transfer_of (node_of v) client id))) ≡ None
     → IsVerdictKept (verdict_kept v.prepared) (verdict_on v client (TransferExit id))
+IsReady v client (ProcessSwPackage id tag) =
+    refusal_by v client (ProcessSwPackage id tag) ≡ None
+    → v.state.session ≡ None → session_kept v.prepared ≡ Some (opened v.state.running client tag)
+IsReady v client Activate =
+    first_refusal (session_refusals (node_of v) client Activate) ≡ None
+    → unmet_kept v.prepared ≡ Some (activate_refusal (node_of v))
 IsReady v client _ = ⊤
 
 -- the same, where the call is newer than the client's last one

@@ -1,5 +1,8 @@
 pub mod Packages
 pub mod Prepared
 pub mod Places
+pub mod Sessions
 pub mod Core
 pub mod Holds
+pub mod Units
+pub mod Format

@@ -1,13 +1,16 @@
 -- What is made ready before a call or a unit.
 use Rattle.std.specs.Prelude.{◌≡◌, ℕ, [], ◌∷◌, length, map, unwrap_or, Option, Some, None, IsSomeAnd, Ok, Err}
 use Rattle.ucm_base.specs.Parts.{Bytes}
+use Rattle.pm_types.specs.declared.clusters.Extent.{Extent}
 use Rattle.pm_types.specs.declared.clusters.Part.{Part}
+use Rattle.pm_types.specs.declared.replies.Refusal.{Refusal}
 use Rattle.pm_types.specs.declared.replies.Refusal.TheVariants.{InvalidManifest}
 use Rattle.pm_types.specs.declared.transfers.ExitVerdict.{ExitVerdict}
 use Rattle.pm_types.specs.declared.transfers.ExitVerdict.TheVariants.{Good, Bad}
+use Rattle.pm_types.specs.NodeState.{SessionOf}
 use Rattle.pm_types.specs.Transfers.{Verdict}
 use Rattle.node_core.specs.declared.prepared.Prepared.{Prepared}
-use Rattle.node_core.specs.declared.prepared.Prepared.TheVariants.{Verdict as Judged}
+use Rattle.node_core.specs.declared.prepared.Prepared.TheVariants.{Verdict as Judged, Session as Opened, Unmet}
 
 -- the verdict that is ready
 abbrev pub verdict_kept : Prepared → Option ExitVerdict
@@ -17,6 +20,16 @@ verdict_kept _ = None
 -- where none is, the bytes are no package
 abbrev pub verdict_in : Option ExitVerdict → ExitVerdict
 verdict_in kept = unwrap_or kept (Bad InvalidManifest)
+
+-- the session that is ready
+abbrev pub session_kept : Prepared → Option (SessionOf Extent)
+session_kept (Opened session) = Some session
+session_kept _ = None
+
+-- what is ready to refuse an activation, if anything
+abbrev pub unmet_kept : Prepared → Option (Option Refusal)
+unmet_kept (Unmet why) = Some why
+unmet_kept _ = None
 
 -- a part with its payload's length alone
 abbrev pub with_length : Part Bytes → Part ℕ

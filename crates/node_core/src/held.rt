@@ -1,9 +1,9 @@
 //! A node in memory without its form: the parts that a call or a unit changes, and what executing a call keeps.
-ghost use Rattle.std.specs.Prelude.{◌≡◌, ◌<◌, ◌+◌, None, true, option_map, slice_index_or};
+ghost use Rattle.std.specs.Prelude.{◌≡◌, ◌<◌, ◌+◌, None, option_map, slice_index_or};
 ghost use Rattle.ucm_base.specs.Limits.{client_limit, entry_limit};
 ghost use Rattle.pm_types.specs.Steps.{after_call, repeat_of, reply_code, synced, with_entry, with_kept};
 ghost use Rattle.pm_types.specs.Stored.{IsInOrder};
-ghost use Rattle.node_core.specs.Core.{IsJudged, IsReady, IsSound, is_served, mark_of, node_of, reply_by, verdict_on};
+ghost use Rattle.node_core.specs.Core.{IsJudged, IsReady, IsSound, mark_of, node_of, reply_by, verdict_on};
 ghost use Rattle.node_core.specs.Packages.{package_reading};
 ghost use Rattle.node_core.specs.Places.{IsCopied};
 
@@ -72,7 +72,6 @@ impl<S: Staging> Held<S> {
 
     /// Judges a newer call, keeps its number and reply, and writes its line.
     pub(crate) fn execute(&mut self, client: ClientId, no: CallNo, call: &Call) -> Reply
-        requires served { is_served call.now ≡ true }
         requires sound { IsSound self.old }
         requires ready { IsReady self.old client call.now }
         requires entries { self.old.state.entries < entry_limit }
@@ -114,7 +113,6 @@ impl<S: Staging> Held<S> {
     }
 
     fn judge(&mut self, client: ClientId, call: &Call) -> Reply
-        requires served { is_served call.now ≡ true }
         requires sound { IsSound self.old }
         requires ready { IsReady self.old client call.now }
         ensures judged { IsJudged self.old client call.now result self.new }
@@ -128,7 +126,12 @@ impl<S: Staging> Held<S> {
             }
             Call::TransferExit { id } => self.exit(client, *id),
             Call::DeleteTransfer { id } => self.delete(client, *id),
-            _ => unreachable!(),
+            Call::ProcessSwPackage { id, tag } => self.process(client, *id, *tag),
+            Call::Activate => self.activate(client),
+            Call::Finish => self.finish(client),
+            Call::Rollback => self.roll_back(client),
+            Call::RevertProcessedSwPackages => self.revert(client),
+            Call::Cancel { id } => self.cancel(client, *id),
         }
     }
 

@@ -5,11 +5,17 @@
 //! one `exec` is one step of the definition, and takes no memory; a query is answered as the definition says.
 #![tactic(auto)]
 
-mod core;
+mod format;
 mod held;
+mod node;
+mod opening;
+mod plan;
 mod prepared;
 mod query;
+mod session_rules;
+mod sessions;
 mod transfers;
 
-pub use core::{Core, Hold};
+pub use format::{Installed, format_areas};
+pub use node::{Core, Hold};
 pub use prepared::Prepared;

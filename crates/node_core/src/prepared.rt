@@ -1,6 +1,6 @@
 //! What is made ready before a call or a unit, so that making it takes no memory.
-ghost use Rattle.std.specs.Prelude.{◌≡◌};
-ghost use Rattle.node_core.specs.Prepared.{verdict_in, verdict_kept};
+ghost use Rattle.std.specs.Prelude.{◌≡◌, None, unwrap_or};
+ghost use Rattle.node_core.specs.Prepared.{session_kept, unmet_kept, verdict_in, verdict_kept};
 
 use pm_types::{Change, Clusters, ExitVerdict, Extent, Refusal, Session};
 use std::mem;
@@ -29,6 +29,26 @@ impl Prepared {
         match mem::replace(self, Prepared::Nothing) {
             Prepared::Verdict(verdict) => verdict,
             _ => ExitVerdict::Bad(Refusal::InvalidManifest),
+        }
+    }
+
+    /// Takes the session that begins.
+    pub(crate) fn take_session(&mut self) -> Option<Session>
+        ensures { result ≡ session_kept self.old }
+    {
+        match mem::replace(self, Prepared::Nothing) {
+            Prepared::Session(session) => Some(session),
+            _ => None,
+        }
+    }
+
+    /// What refuses the activation.
+    pub(crate) fn unmet(&self) -> Option<Refusal>
+        ensures { result ≡ unwrap_or (unmet_kept self.now) None }
+    {
+        match self {
+            Prepared::Unmet(why) => *why,
+            _ => None,
         }
     }
 }

@@ -5,7 +5,7 @@ ghost use Rattle.pm_types.specs.Queries.{answer};
 ghost use Rattle.history_query.specs.Shown.{progress_answer};
 ghost use Rattle.node_core.specs.Core.{IsSound, node_of};
 
-use crate::core::Core;
+use crate::node::Core;
 use crate::held::Held;
 use history_query::{change_info, cluster_info, history, packages, process_progress};
 use pm_types::{Answer, Query, Refusal, Status};

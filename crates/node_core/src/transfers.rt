@@ -6,8 +6,8 @@ ghost use Rattle.node_core.specs.Core.{IsJudged, IsKept, IsReady, IsSound};
 ghost use Rattle.node_core.specs.Packages.{package_reading};
 ghost use Rattle.node_core.specs.Prepared.{IsVerdict};
 
-use crate::core::Hold;
 use crate::held::Held;
+use crate::node::Hold;
 use crate::prepared::Prepared;
 use package_reader::{PackageFault, read_contents};
 use pm_types::{ExitVerdict, Part, Refusal, Reply};

@@ -1,56 +1,85 @@
--- What a node does leaves its state fit.
-use Rattle.std.proofs.Common.{◌≡◌, refl, sym, subst, ap, ℕ, ◌+◌, ◌<◌, Bool, true, false, List, [], ◌∷◌, arith}
-use Rattle.std.specs.Prelude.{nat_lt, option_map, option_and_then, unwrap_or, if◌then◌else◌, Option, Some, None}
-use Rattle.std.specs.declared.cmp.Ordering.{Ordering}
-use Rattle.std.specs.declared.cmp.Ordering.TheVariants.{Less, Equal, Greater}
-use Rattle.ucm_base.specs.Limits.{client_limit}
-use Rattle.ucm_base.specs.Parts.{Bytes}
-use Rattle.ucm_base.specs.declared.ids.CallNo.{CallNo}
-use Rattle.pm_types.specs.declared.calls.Call.{Call}
-use Rattle.pm_types.specs.declared.calls.Call.TheVariants.{Sync, TransferStart, TransferData, TransferExit, DeleteTransfer, ProcessSwPackage, Activate, Finish, Rollback, RevertProcessedSwPackages, Cancel}
-use Rattle.pm_types.specs.declared.clusters.Cluster.{Cluster}
-use Rattle.pm_types.specs.declared.history.Entry.{Entry}
-use Rattle.pm_types.specs.declared.history.Entry.TheVariants.{Numbered, Unit as UnitDone}
-use Rattle.pm_types.specs.declared.history.Happened.TheVariants.{Unit as UnitLine}
-use Rattle.pm_types.specs.declared.replies.Reached.TheVariants.{Done as Answered}
-use Rattle.pm_types.specs.declared.replies.Refusal.{Refusal}
-use Rattle.pm_types.specs.declared.replies.Reply.{Reply}
-use Rattle.pm_types.specs.declared.replies.Reply.TheVariants.{Done, Started, Synced, Refused}
-use Rattle.pm_types.specs.declared.status.Status.{Status}
-use Rattle.pm_types.specs.declared.status.Status.TheVariants.{Idle, Ready, Processing, Activating, Verifying, Activated, RollingBack, RolledBack, CleaningUp}
-use Rattle.pm_types.specs.declared.state.Kept.{Kept}
-use Rattle.pm_types.specs.NodeState.{NodeState, Session, of_client}
-use Rattle.pm_types.specs.Clusters.{all_units}
-use Rattle.pm_types.specs.Transfers.{parts_of}
-use Rattle.pm_types.specs.Steps.{refusal, accepted, acceptance, refused_or, reply_to, after_reply, judge, after_call, executed, by_order, by_last, call_no_cmp, step, with_entry}
-use Rattle.pm_types.specs.Work.{unit_of, process_unit, processed, parts_of_id}
-use Rattle.pm_types.specs.Histories.{Reading, verdict_for, worked, formatted, after_entry, state_after, IsNext, IsLegal}
-use Rattle.node_laws.specs.Fit.{IsReading, IsFit, IsInstalled, KeepsFit}
-use Rattle.node_laws.proofs.Refusals.{both-none}
-use Rattle.node_laws.proofs.Sessions.{Busy, busy-of, base-of}
+-- A reply that is kept and an entry with its line leave a state fit.
+use Rattle.node_laws.proofs.Names.{◌≡◌, refl, ℕ, zero, suc, ◌+◌, ◌-◌, ◌≤◌, true, List, [], ◌∷◌, ◌++◌, length, drop}
+use Rattle.node_laws.proofs.Names.{length-append, length-drop, add-zero, arith, ◌==◌, min, Option, Some, both_true}
+use Rattle.node_laws.proofs.Names.{length-set, and_parts, eq-eqb, line_limit, CallNo, Happened, Line, Reply, Kept}
+use Rattle.node_laws.proofs.Names.{NodeState, newest, with_entry, with_kept, Reading, places_from, IsFit, subst, None}
+use Rattle.node_laws.proofs.Names.{Bytes, Cluster, Session, IsInstalled, sym, ap, ◌<◌, Bool, false, nat_lt, option_map}
+use Rattle.node_laws.proofs.Names.{option_and_then, unwrap_or, if◌then◌else◌, Ordering, Greater, client_limit, Call}
+use Rattle.node_laws.proofs.Names.{Sync, TransferStart, TransferData, TransferExit, DeleteTransfer, ProcessSwPackage}
+use Rattle.node_laws.proofs.Names.{Activate, Finish, Rollback, RevertProcessedSwPackages, Cancel, Entry, Numbered}
+use Rattle.node_laws.proofs.Names.{UnitDone, UnitLine, Answered, Refusal, Refused, Status, Processing, Activating}
+use Rattle.node_laws.proofs.Names.{Verifying, RollingBack, CleaningUp, of_client, all_units, parts_of, refusal}
+use Rattle.node_laws.proofs.Names.{accepted, acceptance, refused_or, reply_to, after_reply, judge, after_call, executed}
+use Rattle.node_laws.proofs.Names.{by_order, by_last, call_no_cmp, step, unit_of, process_unit, processed, parts_of_id}
+use Rattle.node_laws.proofs.Names.{verdict_for, worked, formatted, after_entry, state_after, IsNext, IsLegal, IsReading}
+use Rattle.node_laws.proofs.Names.{KeepsFit}
+use Rattle.node_laws.proofs.Sessions.{base-of, Busy, busy-of}
+use Rattle.node_laws.proofs.Lists.{both-none}
 use Rattle.node_laws.proofs.Quiet.{processes}
 use Rattle.node_laws.proofs.KeptTransfers.{start-fit, data-fit, exit-fit, delete-fit}
-use Rattle.node_laws.proofs.KeptSessions.{at-status, led-fit, activates, finishes, rolls_back, reverts}
-use Rattle.node_laws.proofs.KeptUnits.{activate-fit, verify-fit, roll_back-fit, clean_up-fit}
+use Rattle.node_laws.proofs.KeptSessions.{at-status, led-fit, activates, finishes, rolls_back, reverts, activate-fit}
+use Rattle.node_laws.proofs.KeptSessions.{verify-fit, roll_back-fit, clean_up-fit}
 use Rattle.node_laws.proofs.KeptProcessing.{more-fit, last-fit}
 use Rattle.node_laws.proofs.KeptPackages.{process-fit, cancel-fit}
-use Rattle.node_laws.proofs.Entries.{kept-fit, entry-fit}
 
+places-append : (place : ℕ) (ls : List Line) (l : Line) → places_from place ls ≡ true → l.place ≡ place + length ls → places_from place (ls ++ l ∷ []) ≡ true
+places-append place [] l h e = both_true (eq-eqb _ _ (omega (arith, e))) refl
+places-append place (m ∷ ls) l h e =
+    let parts = and_parts (m.place == place) (places_from (place + 1) ls) h in
+    both_true parts.0 (places-append (place + 1) ls l parts.1 (omega (arith, e)))
+
+places-drop : (place k : ℕ) (ls : List Line) → k ≤ length ls → places_from place ls ≡ true → places_from (place + k) (drop k ls) ≡ true
+places-drop place zero ls h p = rw (add-zero place) p
+places-drop place (suc k) [] h p = refl
+places-drop place (suc k) (l ∷ ls) h p =
+    let parts = and_parts (l.place == place) (places_from (place + 1) ls) p in
+    let e : place + suc k ≡ place + 1 + k = omega arith in
+    rw e (places-drop (place + 1) k ls (omega (arith, h)) parts.1)
+
+-- the lines are the newest, in their places
+record InPlace (entries : ℕ) (ls : List Line) : Type 0 where
+  count : length ls ≡ min entries line_limit
+  places : places_from (entries - length ls) ls ≡ true
+
+lines-kept : (entries : ℕ) (ls : List Line) (h : Happened) → InPlace entries ls → InPlace (entries + 1) (newest (ls ++ record { place = entries; happened = h } ∷ []))
+lines-kept entries ls h v =
+    let more = ls ++ record { place = entries; happened = h } ∷ [] in
+    let n : length more ≡ length ls + 1 = length-append ls _ in
+    let k = length more - line_limit in
+    let d : length (newest more) ≡ length more - k = length-drop k more in
+    let e : entries + 1 - length (newest more) ≡ entries - length ls + k = omega (arith, n, d, v.count) in
+    record {
+      count = omega (arith, n, d, v.count);
+      places = rw e (places-drop (entries - length ls) k more (omega arith) (places-append (entries - length ls) ls _ v.places (omega (arith, v.count))));
+    }
+
+-- other numbers and replies that are kept, and other entries and lines
+noted-fit : (read : Reading) (s : NodeState) (last : List (Option Kept)) (entries : ℕ) (lines : List Line) → IsFit read s → length last ≡ length s.last → InPlace entries lines → IsFit read (record s { last = last; entries = entries; lines = lines })
+noted-fit read s last entries lines fit same place = grind arith
+
+-- the lines of a fit state are in their places
+in-place : (read : Reading) (s : NodeState) → IsFit read s → InPlace s.entries s.lines
+in-place read s fit = record { count = fit.consistent.limits.lines; places = fit.consistent.limits.places }
+
+pub kept-fit : (read : Reading) (s : NodeState) (client : ℕ) (at : CallNo) (r : Reply) → IsFit read s → IsFit read (with_kept client at r s)
+kept-fit read s client at r fit = noted-fit read s _ s.entries s.lines fit (length-set s.last client (Some (record { no = at; reply = r }))) (in-place read s fit)
+
+pub entry-fit : (read : Reading) (h : Happened) (s : NodeState) → IsFit read s → IsFit read (with_entry h s)
+entry-fit read h s fit = noted-fit read s s.last (s.entries + 1) _ fit refl (lines-kept s.entries s.lines h (in-place read s fit))
+
+-- A node without a session stays fit with other clusters.
+-- what runs where a node without a session is opened with these clusters
+abbrev pub opened_by : Option Session → List (Cluster Bytes) → List (Cluster Bytes) → List (Cluster Bytes)
+opened_by None clusters running = clusters
+opened_by (Some x) clusters running = running
+
+pub opened-fit : (read : Reading) (s : NodeState) (clusters : List (Cluster Bytes)) → IsInstalled clusters → IsFit read s → IsFit read (record s { running = opened_by s.session clusters s.running })
+opened-fit read s clusters installed fit = grind arith
+
+-- What a node does leaves its state fit.
 -- a formatted node with clusters in order, of at most 16 names
 formatted-fit : (read : Reading) (clusters : List (Cluster Bytes)) → IsInstalled clusters → IsFit read (formatted clusters)
-formatted-fit read clusters installed = record {
-  consistent = record {
-    session = tt;
-    running = tt;
-    changes = tt;
-    applying = tt;
-    processing = record { each = tt; status = refl; unfinished = tt };
-    verdicts = tt;
-    transfers = record { each = tt; rise = refl; next_id = (omega arith, omega arith) };
-    limits = record { names = installed.few; running = installed.rise; saved = tt; transfers = omega arith; sizes = tt; clients = (refl, refl); lines = refl; places = refl };
-  };
-  read_parts = tt;
-}
+formatted-fit read clusters installed = grind arith
 
 module _ (read : Reading) (reading : IsReading read) where
   -- a call that isn't refused
@@ -71,10 +100,8 @@ module _ (read : Reading) (reading : IsReading read) where
   judge-fit s client c low fit = go (refusal s client c (verdict_for read s client c)) refl
     where
       done : (r : Reply) → IsFit read (accepted s client c (verdict_for read s client c)) → IsFit read (after_reply s client c (verdict_for read s client c) r)
-      done Done h = h
-      done (Started id) h = h
-      done (Synced x) h = h
       done (Refused why) h = fit
+      done _ h = h
 
       go : (o : Option Refusal) → refusal s client c (verdict_for read s client c) ≡ o → IsFit read (after_reply s client c (verdict_for read s client c) (refused_or (acceptance s client c) o))
       go None e = done (acceptance s client c) (accepted-fit s client c low fit e)
@@ -91,9 +118,8 @@ module _ (read : Reading) (reading : IsReading read) where
       done = executed-fit s client at c low fit
 
       order : (kept : Kept) (o : Ordering) → IsFit read (by_order s (executed s client at c (verdict_for read s client c)) kept o).0
-      order kept Less = fit
-      order kept Equal = fit
       order kept Greater = done
+      order kept _ = fit
 
       by : (o : Option Kept) → IsFit read (by_last s (executed s client at c (verdict_for read s client c)) at o).0
       by None = done
@@ -120,15 +146,12 @@ module _ (read : Reading) (reading : IsReading read) where
       processing p v (Some id) m j = is _ (packaged p id m (subst (λ o. Busy (record s { status = Processing }) (record x { processing = o })) m v) (nat_lt (x.units_done + 1) (all_units (parts_of_id s x id))) refl) j
 
       go : (st : Status) → s.status ≡ st → Busy (record s { status = st }) x → unit_of s x passed st ≡ Some t → IsFit read t
-      go Idle p v j = absurd (cc)
-      go Ready p v j = absurd (cc)
       go Processing p v j = processing p v x.processing refl j
       go Activating p v j = is _ (activate-fit read s x fit v) j
       go Verifying p v j = is _ (verify-fit read s x passed fit e v) j
-      go Activated p v j = absurd (cc)
       go RollingBack p v j = is _ (roll_back-fit read s x fit e v) j
-      go RolledBack p v j = absurd (cc)
       go CleaningUp p v j = is _ (clean_up-fit read s x fit v) j
+      go _ p v j = absurd (cc)
 
   unit-fit : (s : NodeState) (passed : Bool) → IsFit read s → IsFit read (unwrap_or (worked s passed) s)
   unit-fit s passed fit = go s.session refl
@@ -143,16 +166,8 @@ module _ (read : Reading) (reading : IsReading read) where
 
   -- an entry of a legal history
   answered : (s : NodeState) (client : ℕ) (at : CallNo) (c : Call) (r : Reply) → (step s client at c (verdict_for read s client c)).1 ≡ Answered r → r ≡ reply_to s client c (verdict_for read s client c)
-  answered s client at c r e = by (of_client s.last client) e
-    where
-      order : (kept : Kept) (o : Ordering) → (by_order s (executed s client at c (verdict_for read s client c)) kept o).1 ≡ Answered r → r ≡ reply_to s client c (verdict_for read s client c)
-      order kept Less q = absurd (cc)
-      order kept Equal q = absurd (cc)
-      order kept Greater q = cc
-
-      by : (o : Option Kept) → (by_last s (executed s client at c (verdict_for read s client c)) at o).1 ≡ Answered r → r ≡ reply_to s client c (verdict_for read s client c)
-      by None q = cc
-      by (Some kept) q = order kept (call_no_cmp at kept.no) q
+  answered s client at c r e =
+      grind (arith, of_client, by_order, executed, verdict_for, reply_to, by_last, call_no_cmp)
 
   next-fit : (s : NodeState) (entry : Entry) → IsFit read s → IsNext read s entry → IsFit read (after_entry read s entry)
   next-fit s (Numbered client at c r) fit next =

@@ -1,43 +1,28 @@
 -- The call that takes a package into processing, and the call that stops it, leave a state fit.
-use Rattle.std.proofs.Common.{◌≡◌, ◌⊎◌, inl, inr, refl, sym, subst, ap, ◌∙◌, ℕ, ◌<◌, ◌≤◌, Bool, true, false, List, [], ◌∷◌, ◌++◌, length, arith}
-use Rattle.std.specs.Prelude.{◌==◌, ◌&&◌, ◌||◌, not, nat_lt, is_some, is_none, if◌then◌else◌, map, unwrap_or, option_map, IsSomeAnd, Option, Some, None}
-use Rattle.std.specs.Option.{option_or, option_map_or}
-use Rattle.std.specs.List.{AllByRecursion}
-use Rattle.std.proofs.lemmas.Bool.{eqb-true, eq-eqb, lt-ltb}
-use Rattle.std.proofs.lemmas.Bool.Decides.{nat_tests}
-use Rattle.std.proofs.lemmas.List.{map-append, append-nil}
-use Rattle.ucm_base.specs.Limits.{client_limit, cluster_limit}
-use Rattle.ucm_base.specs.Names.{all_differ, names_rise}
-use Rattle.ucm_base.specs.Parts.{Bytes}
-use Rattle.pm_types.specs.declared.calls.Call.TheVariants.{ProcessSwPackage, Cancel}
-use Rattle.pm_types.specs.declared.clusters.Change.{Change}
-use Rattle.pm_types.specs.declared.clusters.Part.{Part}
-use Rattle.pm_types.specs.declared.replies.Refusal.{Refusal}
-use Rattle.pm_types.specs.declared.replies.Refusal.TheVariants.{OperationNotPermitted, InvalidTransferId}
-use Rattle.pm_types.specs.declared.status.Outcome.{Outcome}
-use Rattle.pm_types.specs.declared.status.Outcome.TheVariants.{Old}
-use Rattle.pm_types.specs.declared.status.Phase.{Phase}
-use Rattle.pm_types.specs.declared.status.Phase.TheVariants.{Transferring, Transferred, Processing as BeingProcessed, Processed}
-use Rattle.pm_types.specs.declared.status.Status.{Status}
-use Rattle.pm_types.specs.declared.status.Status.TheVariants.{Idle, Ready, Processing, CleaningUp}
-use Rattle.pm_types.specs.NodeState.{NodeState, Session, Transfer, is_in, has_status, some_passes, phase_code}
-use Rattle.pm_types.specs.Refusals.{first_refusal}
-use Rattle.pm_types.specs.Clusters.{cluster_of, all_units}
-use Rattle.pm_types.specs.Sessions.{To, Resume, status_table, session_refusals, process_refusal, cancel_refusals, parts_refusal, is_wrong_tag, changes_in, applies, names_among, new_session, begin_processing, stop_processing, arrive, led_by}
-use Rattle.pm_types.specs.Transfers.{is_of, transfer_of, header_of, parts_of}
-use Rattle.pm_types.specs.Histories.{Reading}
-use Rattle.pm_types.specs.Validity.{SessionIsDue, should_run, LeavesOneToVerify, IsWholeFromTransferred, IsPlannedWhole, is_processed, parts_in, may_plan_nothing, numbers_rise}
-use Rattle.node_laws.specs.Fit.{IsFit}
-use Rattle.node_laws.proofs.Lists.{each-append, each-first, each-imp, found-has}
-use Rattle.node_laws.proofs.NameLists.{Within, within-self, within-left, within-right, fewer-within}
-use Rattle.node_laws.proofs.Planned.{names_of, changed_names}
-use Rattle.node_laws.proofs.Changed.{ids, found, found-is, changed, each-changed, all-changed, any-changed, found-changed}
-use Rattle.node_laws.proofs.Refusals.{rows-clear, both-none, neither, not-false, some-transfer, some-header, is-transferred, is-processing}
+use Rattle.node_laws.proofs.Names.{◌≡◌, ◌⊎◌, inl, inr, refl, sym, subst, ap, ◌∙◌, ℕ, ◌<◌, ◌≤◌, Bool, true, false, List}
+use Rattle.node_laws.proofs.Names.{[], ◌∷◌, ◌++◌, length, arith, ◌==◌, ◌&&◌, ◌||◌, not, nat_lt, is_some, is_none}
+use Rattle.node_laws.proofs.Names.{if◌then◌else◌, map, unwrap_or, option_map, IsSomeAnd, Option, Some, None, option_or}
+use Rattle.node_laws.proofs.Names.{option_map_or, AllByRecursion, eqb-true, eq-eqb, lt-ltb, map-append, append-nil}
+use Rattle.node_laws.proofs.Names.{client_limit, cluster_limit, all_differ, names_rise, Bytes, ProcessSwPackage, Cancel}
+use Rattle.node_laws.proofs.Names.{Change, Part, Refusal, OperationNotPermitted, InvalidTransferId, Outcome, Old, Phase}
+use Rattle.node_laws.proofs.Names.{Transferred, BeingProcessed, Processed, Status, Idle, Ready, Processing, CleaningUp}
+use Rattle.node_laws.proofs.Names.{NodeState, Session, Transfer, is_in, has_status, some_passes, phase_code}
+use Rattle.node_laws.proofs.Names.{first_refusal, cluster_of, all_units, To, Resume, status_table, session_refusals}
+use Rattle.node_laws.proofs.Names.{process_refusal, cancel_refusals, parts_refusal, is_wrong_tag, changes_in, applies}
+use Rattle.node_laws.proofs.Names.{names_among, new_session, begin_processing, stop_processing, arrive, led_by, is_of}
+use Rattle.node_laws.proofs.Names.{transfer_of, header_of, parts_of, Reading, SessionIsDue, should_run}
+use Rattle.node_laws.proofs.Names.{LeavesOneToVerify, IsWholeFromTransferred, IsPlannedWhole, is_processed, parts_in}
+use Rattle.node_laws.proofs.Names.{may_plan_nothing, numbers_rise, IsFit}
+use Rattle.node_laws.proofs.Lists.{each-append, each-first, each-imp, found-has, ids, found, found-is, changed}
+use Rattle.node_laws.proofs.Lists.{each-changed, all-changed, any-changed, found-changed, rows-clear, both-none}
+use Rattle.node_laws.proofs.Lists.{neither, not-false, some-transfer, some-header, is-transferred, is-processing}
+use Rattle.node_laws.proofs.NameLists.{Within, within-self, within-left, within-right, fewer-within, names_of}
+use Rattle.node_laws.proofs.NameLists.{changed_names, names-of-parts, differ-first, differ-kept, each-applies, few-kept}
 use Rattle.node_laws.proofs.Sessions.{Base, Busy, Free, InProcessing, base-of, busy-of, free-of, busy-is}
-use Rattle.node_laws.proofs.KeptSessions.{or-true, at-status}
-use Rattle.node_laws.proofs.KeptUnits.{both-in, left-in, changes-in, all_of, clusters-in, parts-in, all-in, names-fewer}
-use Rattle.node_laws.proofs.Differ.{differ-first, differ-kept, each-applies, few-kept}
-use Rattle.node_laws.proofs.KeptProcessing.{rephased, names-kept, late_transferred, being_processed, read-rephased, base-rephased, in-other, some-units, names-of-parts}
+use Rattle.node_laws.proofs.KeptSessions.{or-true, at-status, both-in, left-in, changes-in, all_of, clusters-in}
+use Rattle.node_laws.proofs.KeptSessions.{parts-in, all-in, names-fewer}
+use Rattle.node_laws.proofs.KeptProcessing.{rephased, names-kept, late_transferred, being_processed, read-rephased}
+use Rattle.node_laws.proofs.KeptProcessing.{base-rephased, in-other, some-units}
 
 -- a session that has nothing in processing, or is about to begin
 record Waits (s : NodeState) (x : Session) : Type 0 where
@@ -101,7 +86,7 @@ begun-fit read s x id u fit v e phase accepted = record {
     own-id = (found-is x.owner id s.transfers u e).0
 
     other-id : (t : Transfer) → (t.header.id == id) ≡ false → false ≡ (id == t.header.id)
-    other-id t n = grind (arith, nat_tests, n)
+    other-id t n = grind arith
 
     sound : IsWholeFromTransferred u Transferred
     sound = subst (IsWholeFromTransferred u) phase (found-has (λ t. is_of x.owner id t.header) _ s.transfers u b.held.each e).1.whole
@@ -131,19 +116,7 @@ begun-fit read s x id u fit v e phase accepted = record {
 
 -- a session in Ready waits for a package
 ready-waits : (s : NodeState) (x : Session) → Busy (record s { status = Ready }) x → Waits s x
-ready-waits s x v = record {
-  tag = v.due;
-  runs = v.runs;
-  differ = v.changes.differ;
-  whole = v.changes.whole;
-  processed = v.changes.processed;
-  applies = each-first _ (map (λ change. change.part) x.changes) _ v.applies.each;
-  each = subst (λ o. InProcessing o s.transfers) (none x.processing v.working) v.each;
-  leaves = v.leaves;
-  outcome = v.outcome;
-  names = few;
-  saved = v.saved;
-}
+ready-waits s x v = grind (arith, none, few, applies, each-first)
   where
     none : (o : Option ℕ) → is_some o ≡ false → o ≡ None
     none None e = refl
@@ -159,25 +132,7 @@ ready-waits s x v = record {
 
 -- and so does a new session
 idle-waits : (s : NodeState) (client tag : ℕ) → client < client_limit → (tag == 0) ≡ not (client == 0) → Base s → Free s → Waits s (new_session s client tag)
-idle-waits s client tag low own b f = record {
-  tag = own;
-  runs = refl;
-  differ = refl;
-  whole = each-imp _ _ (λ t. unplanned t t.header.phase) s.transfers f.changes;
-  processed = tt;
-  applies = tt;
-  each = f.each;
-  leaves = omega arith;
-  outcome = refl;
-  names = f.names;
-  saved = (b.running, low);
-}
-  where
-    unplanned : (t : Transfer) (p : Phase) → (phase_code p == 3) ≡ false → IsPlannedWhole (new_session s client tag) t p
-    unplanned t Transferring e = tt
-    unplanned t Transferred e = tt
-    unplanned t BeingProcessed e = tt
-    unplanned t Processed e = absurd (cc)
+idle-waits s client tag low own b f = grind (arith, each-imp)
 
 own-tag : (a b : Bool) → (if a then b else not b) ≡ false → b ≡ not a
 own-tag true b e = e
@@ -186,9 +141,7 @@ own-tag false false e = absurd (cc)
 
 -- the table takes a package in Idle and in Ready
 process-status : (a : Status) (id tag : ℕ) → is_none (status_table a (ProcessSwPackage id tag)) ≡ false → ((a ≡ Idle) ⊎ (a ≡ Ready)) × (status_table a (ProcessSwPackage id tag) ≡ Some (To Processing))
-process-status Idle id tag e = (inl refl, refl)
-process-status Ready id tag e = (inr refl, refl)
-process-status _ id tag e = absurd (cc)
+process-status x id tag e = grind arith
 
 -- a package is taken into processing
 pub process-fit : (read : Reading) (s : NodeState) (client id tag : ℕ) → client < client_limit → IsFit read s
@@ -277,15 +230,13 @@ stopped read s x id u to o fit v e due runs plans working leaves outcome = recor
     phase = is-processing u.header ((found-has (λ t. is_of x.owner id t.header) _ s.transfers u v.each e).1 ∙ eq-eqb _ _ (sym (found-is x.owner id s.transfers u e).0))
 
     other-id : (t : Transfer) → (t.header.id == id) ≡ false → (id == t.header.id) ≡ false
-    other-id t n = grind (arith, nat_tests, n)
+    other-id t n = grind arith
 
 passes-some : (o : Option ℕ) (n : ℕ) → some_passes (λ i. i == n) o ≡ true → o ≡ Some n
-passes-some None n e = absurd (cc)
-passes-some (Some i) n e = ap Some (eqb-true i n e)
+passes-some x n e = grind arith
 
 cancel-status : (a : Status) (id : ℕ) → is_none (status_table a (Cancel id)) ≡ false → (a ≡ Processing) × (status_table a (Cancel id) ≡ Some Resume)
-cancel-status Processing id e = (refl, refl)
-cancel-status _ id e = absurd (cc)
+cancel-status x id e = grind arith
 
 -- a package is not processed after all
 pub cancel-fit : (read : Reading) (s : NodeState) (client id : ℕ) → IsFit read s

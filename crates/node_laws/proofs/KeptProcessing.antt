@@ -1,37 +1,18 @@
 -- Processing a package: the call that begins it, a unit of it, its last unit, and the call that stops it.
-use Rattle.std.proofs.Common.{◌≡◌, refl, sym, subst, ap, ◌∙◌, ℕ, ◌+◌, ◌<◌, ◌≤◌, Bool, true, false, List, [], ◌∷◌, ◌++◌, length, length-append, arith}
-use Rattle.std.specs.Prelude.{◌==◌, ◌&&◌, ◌||◌, nat_lt, cond, filter, find, map, IsSomeAnd, Option, Some, None}
-use Rattle.std.specs.List.{list_any, AllByRecursion}
-use Rattle.std.proofs.lemmas.Bool.{and_parts, eqb-true, eq-eqb, ltb-true, lt-ltb}
-use Rattle.std.proofs.lemmas.Bool.Decides.{nat_tests}
-use Rattle.std.specs.Cmp.Derive.{both_true}
-use Rattle.std.proofs.lemmas.List.{map-append, append-nil}
-use Rattle.std.proofs.lemmas.List.Sums.{sum_by-cons}
-use Rattle.std.proofs.lemmas.List.Elements.{filter-append}
-use Rattle.ucm_base.specs.Limits.{cluster_limit}
-use Rattle.ucm_base.specs.Names.{all_differ}
-use Rattle.ucm_base.specs.Parts.{Bytes}
-use Rattle.pm_types.specs.declared.clusters.Change.{Change}
-use Rattle.pm_types.specs.declared.clusters.Part.{Part}
-use Rattle.pm_types.specs.declared.status.Phase.{Phase}
-use Rattle.pm_types.specs.declared.status.Phase.TheVariants.{Transferring, Transferred, Processing as BeingProcessed, Processed}
-use Rattle.pm_types.specs.declared.status.Status.{Status}
-use Rattle.pm_types.specs.declared.status.Status.TheVariants.{Ready, Processing}
-use Rattle.pm_types.specs.NodeState.{NodeState, Session, Transfer, is_in, some_passes, phase_code}
-use Rattle.pm_types.specs.Clusters.{cluster_of, changes_of, units_of, all_units}
-use Rattle.pm_types.specs.Sessions.{names_among}
-use Rattle.pm_types.specs.Transfers.{is_of, transfer_of, parts_of, in_phase}
-use Rattle.pm_types.specs.Histories.{Reading}
-use Rattle.pm_types.specs.Validity.{IsSound, IsWholeFromTransferred, IsPlannedWhole, is_processed, PartsApply}
-use Rattle.pm_types.specs.Work.{processed, parts_of_id}
-use Rattle.node_laws.specs.Fit.{IsFit, IsRead}
-use Rattle.node_laws.proofs.Lists.{each-append, each-imp, found-has}
-use Rattle.node_laws.proofs.Planned.{changed_names}
-use Rattle.node_laws.proofs.Changed.{found, found-is, changed, each-changed, all-changed, KeepsNames}
-use Rattle.node_laws.proofs.Refusals.{is-processing}
+use Rattle.node_laws.proofs.Names.{◌≡◌, refl, sym, subst, ap, ◌∙◌, ℕ, ◌+◌, ◌<◌, ◌≤◌, Bool, true, false, List, [], ◌∷◌}
+use Rattle.node_laws.proofs.Names.{◌++◌, length, length-append, arith, ◌==◌, ◌&&◌, ◌||◌, nat_lt, filter, find, map}
+use Rattle.node_laws.proofs.Names.{Option, Some, None, list_any, AllByRecursion, and_parts, eqb-true, eq-eqb, lt-ltb}
+use Rattle.node_laws.proofs.Names.{both_true, map-append, append-nil, sum_by-cons, filter-append, cluster_limit}
+use Rattle.node_laws.proofs.Names.{all_differ, Bytes, Change, Part, Phase, Transferred, BeingProcessed, Processed}
+use Rattle.node_laws.proofs.Names.{Status, Ready, Processing, NodeState, Session, Transfer, is_in, some_passes}
+use Rattle.node_laws.proofs.Names.{cluster_of, changes_of, units_of, all_units, names_among, is_of, parts_of, in_phase}
+use Rattle.node_laws.proofs.Names.{Reading, IsSound, IsWholeFromTransferred, IsPlannedWhole, is_processed, PartsApply}
+use Rattle.node_laws.proofs.Names.{processed, parts_of_id, IsFit, IsRead}
+use Rattle.node_laws.proofs.Lists.{each-append, each-imp, found-has, found, found-is, changed, each-changed}
+use Rattle.node_laws.proofs.Lists.{all-changed, KeepsNames, is-processing}
+use Rattle.node_laws.proofs.NameLists.{names-of-parts}
 use Rattle.node_laws.proofs.Sessions.{Held, Base, Busy, InProcessing, base-of, busy-is}
 use Rattle.node_laws.proofs.KeptTransfers.{held-changed}
-use Rattle.node_laws.proofs.KeptSessions.{moved, moved-fit}
 
 -- a transfer in another phase
 abbrev pub rephased : Phase → Transfer → Transfer
@@ -48,34 +29,10 @@ pub data IsLate : Phase → Type 0 where
 
 -- in each of them the same is said of a transfer
 pub whole-in : (t : Transfer) (p q : Phase) → IsLate p → IsLate q → IsWholeFromTransferred t p → IsWholeFromTransferred t q
-whole-in t p q a b h = to q b (from p a h)
-  where
-    from : (p : Phase) → IsLate p → IsWholeFromTransferred t p → IsWholeFromTransferred t Transferred
-    from Transferring a h = elim a [ ]
-    from Transferred a h = h
-    from BeingProcessed a h = h
-    from Processed a h = h
-
-    to : (q : Phase) → IsLate q → IsWholeFromTransferred t Transferred → IsWholeFromTransferred t q
-    to Transferring b h = elim b [ ]
-    to Transferred b h = h
-    to BeingProcessed b h = h
-    to Processed b h = h
+whole-in t p q a b h = grind arith
 
 read-in : (read : Reading) (t : Transfer) (p q : Phase) → IsLate p → IsLate q → IsRead read t p → IsRead read t q
-read-in read t p q a b h = to q b (from p a h)
-  where
-    from : (p : Phase) → IsLate p → IsRead read t p → IsRead read t Transferred
-    from Transferring a h = elim a [ ]
-    from Transferred a h = h
-    from BeingProcessed a h = h
-    from Processed a h = h
-
-    to : (q : Phase) → IsLate q → IsRead read t Transferred → IsRead read t q
-    to Transferring b h = elim b [ ]
-    to Transferred b h = h
-    to BeingProcessed b h = h
-    to Processed b h = h
+read-in read t p q a b h = grind arith
 
 -- the transfers with one of them in another late phase
 module _ (s : NodeState) (client id : ℕ) (u : Transfer) (p : Phase) (q : Phase) (e : found client id s.transfers ≡ Some u) (phase : u.header.phase ≡ p) (a : IsLate p) (b : IsLate q) where
@@ -109,13 +66,7 @@ some-units (part ∷ parts) h =
 -- a unit that isn't the last
 pub more-fit : (read : Reading) (s : NodeState) (x : Session) (id : ℕ) → IsFit read s → Busy (record s { status = Processing }) (record x { processing = Some id }) → nat_lt (x.units_done + 1) (all_units (parts_of_id s x id)) ≡ true
     → IsFit read (record s { status = Processing; session = Some (record x { processing = Some id; units_done = x.units_done + 1 }) })
-more-fit read s x id fit v more =
-    moved-fit read s (record x { processing = Some id; units_done = x.units_done + 1 }) Processing s.running fit (base-of s fit.consistent).running
-    (moved s (record x { processing = Some id }) Processing Processing s.running (x.units_done + 1) x.verified x.outcome v v.due v.runs v.changes.not_empty v.working (go (transfer_of s x.owner id) v.unfinished more) v.leaves v.outcome v.names)
-  where
-    go : (o : Option Transfer) → IsSomeAnd o (λ t. x.units_done < all_units t.parts) → nat_lt (x.units_done + 1) (all_units (parts_of o)) ≡ true → IsSomeAnd o (λ t. x.units_done + 1 < all_units t.parts)
-    go None h k = absurd h
-    go (Some t) h k = ltb-true _ _ k
+more-fit read s x id fit v more = grind arith
 
 filter-none : {X : Type 0} (p : X → Bool) (xs : List X) → AllByRecursion (λ x. p x ≡ false) xs → filter p xs ≡ []
 filter-none p [] h = refl
@@ -130,53 +81,23 @@ each-changes_of P id [] f = tt
 each-changes_of P id (part ∷ parts) f = (f part, each-changes_of P id parts f)
 
 -- the parts of changes
-parts-of-changes : (id : ℕ) (parts : List (Part Bytes)) → map (λ change. change.part) (changes_of id parts) ≡ parts
+pub parts-of-changes : (id : ℕ) (parts : List (Part Bytes)) → map (λ change. change.part) (changes_of id parts) ≡ parts
 parts-of-changes id [] = refl
 parts-of-changes id (part ∷ parts) = ap (λ ps. part ∷ ps) (parts-of-changes id parts)
-
-pub names-of-parts : (changes : List (Change Bytes)) → map cluster_of (map (λ change. change.part) changes) ≡ changed_names changes
-names-of-parts [] = refl
-names-of-parts (c ∷ cs) = ap (λ ns. cluster_of c.part ∷ ns) (names-of-parts cs)
 
 -- a processed transfer isn't the one in processing
 not-planned : (id n : ℕ) (ts : List Transfer) → InProcessing (Some id) ts → is_processed ts n ≡ true → (n == id) ≡ false
 not-planned id n [] h k = absurd (cc)
-not-planned id n (t ∷ ts) h k = go ((t.header.id == n) && is_in Processed t.header) refl k (not-planned id n ts h.1)
-  where
-    other : (p : Phase) → (phase_code p == 3) ≡ true → (phase_code p == 2) ≡ (id == t.header.id) → t.header.id ≡ n → (n == id) ≡ false
-    other Processed a b e = grind (arith, nat_tests, e, b)
-    other Transferring a b e = absurd (cc)
-    other Transferred a b e = absurd (cc)
-    other BeingProcessed a b e = absurd (cc)
-
-    go : (b : Bool) → ((t.header.id == n) && is_in Processed t.header) ≡ b → (b || is_processed ts n) ≡ true → (is_processed ts n ≡ true → (n == id) ≡ false) → (n == id) ≡ false
-    go true q m rec = let own = and_parts (t.header.id == n) (is_in Processed t.header) q in other t.header.phase own.1 h.0 (eqb-true _ _ own.0)
-    go false q m rec = rec m
+not-planned id n (t ∷ ts) h k = grind (arith, eqb-true, not-planned id n ts h.1)
 
 -- a test that holds stays so where it does at each transfer
 any-still : (p : Transfer → Bool) (g : Transfer → Transfer) (ts : List Transfer) → AllByRecursion (λ t. p t ≡ true → p (g t) ≡ true) ts → list_any p ts ≡ true → list_any p (map g ts) ≡ true
 any-still p g [] h k = k
-any-still p g (t ∷ ts) h k = go (p t) refl k (any-still p g ts h.1)
-  where
-    or-right : (a b : Bool) → b ≡ true → (a || b) ≡ true
-    or-right true b m = refl
-    or-right false b m = m
-
-    go : (b : Bool) → p t ≡ b → (b || list_any p ts) ≡ true → (list_any p ts ≡ true → list_any p (map g ts) ≡ true) → (p (g t) || list_any p (map g ts)) ≡ true
-    go true q m rec = ap (λ b. b || list_any p (map g ts)) (h.0 q)
-    go false q m rec = or-right (p (g t)) _ (rec m)
+any-still p g (t ∷ ts) h k = grind (arith, any-still p g ts h.1)
 
 any-found : (p q : Transfer → Bool) (g : Transfer → Transfer) (ts : List Transfer) (u : Transfer) → find q ts ≡ Some u → p (g u) ≡ true → list_any p (map g ts) ≡ true
 any-found p q g [] u e h = absurd (cc)
-any-found p q g (t ∷ ts) u e h = go (q t) e (λ k. any-found p q g ts u k h)
-  where
-    or-right : (a b : Bool) → b ≡ true → (a || b) ≡ true
-    or-right true b m = refl
-    or-right false b m = m
-
-    go : (b : Bool) → cond b (Some t) (find q ts) ≡ Some u → (find q ts ≡ Some u → list_any p (map g ts) ≡ true) → (p (g t) || list_any p (map g ts)) ≡ true
-    go true k rec = let same : t ≡ u = cc k in ap (λ v. p (g v) || list_any p (map g ts)) same ∙ ap (λ b. b || list_any p (map g ts)) h
-    go false k rec = or-right (p (g t)) _ (rec k)
+any-found p q g (t ∷ ts) u e h = grind (arith, any-found p q g ts u)
 
 -- the session after the last unit of a package
 abbrev later : Session → ℕ → List (Part Bytes) → Session
@@ -225,20 +146,15 @@ last-fit read s x id u fit v e = record {
     own-id = eq-eqb _ _ (found-is x.owner id s.transfers u e).0
 
     other-id : (t : Transfer) → (t.header.id == id) ≡ false → (id == t.header.id) ≡ false
-    other-id t n = grind (arith, nat_tests, n)
+    other-id t n = grind arith
 
     same : map (λ change. change.part) x.changes ++ parts_of (found x.owner id s.transfers) ≡ map (λ change. change.part) (x.changes ++ changes_of id u.parts) ++ []
-    same =
-        ap (λ o. map (λ (change : Change Bytes). change.part) x.changes ++ parts_of o) e
-        ∙ (ap (λ ps. map (λ (change : Change Bytes). change.part) x.changes ++ ps) (sym (parts-of-changes id u.parts))
-        ∙ (sym (map-append (λ (change : Change Bytes). change.part) x.changes (changes_of id u.parts)) ∙ sym (append-nil _)))
+    same = grind (arith, parts_of, parts-of-changes, map-append, changes_of, append-nil)
 
     still : (t : Transfer) (p : Phase) → (t.header.id == id) ≡ false → IsPlannedWhole x t p → IsPlannedWhole (later x id u.parts) t p
     still t Processed n h =
         (h.0, filter-append _ x.changes _ ∙ (ap (λ cs. filter (λ change. change.transfer == t.header.id) x.changes ++ cs) (filter-none _ _ (each-changes_of (λ change. (change.transfer == t.header.id) ≡ false) id u.parts (λ _. other-id t n))) ∙ (append-nil _ ∙ h.1)))
-    still t Transferring n h = tt
-    still t Transferred n h = tt
-    still t BeingProcessed n h = tt
+    still t _ n h = tt
 
     now : IsPlannedWhole (later x id u.parts) (rephased Processed u) Processed
     now =

@@ -1,27 +1,20 @@
 -- The four calls on transfers leave a state fit.
-use Rattle.std.proofs.Common.{◌≡◌, refl, sym, subst, ap, ◌∙◌, ℕ, ◌+◌, ◌<◌, ◌≤◌, Bool, true, false, List, [], ◌∷◌, ◌++◌, length, length-append, arith, lit≤}
-use Rattle.std.specs.Prelude.{◌==◌, ◌||◌, not, nat_lt, nat_le, map, Option, Some, None, Ok, Err}
-use Rattle.std.specs.Option.{option_map_or, option_or}
-use Rattle.std.proofs.lemmas.Bool.{leb-false, ltb-false}
-use Rattle.std.proofs.lemmas.Bool.Decides.{nat_tests}
-use Rattle.std.proofs.lemmas.List.{map-append, length-map}
-use Rattle.ucm_base.specs.Limits.{client_limit, package_limit, block_limit, transfer_limit, last_id}
-use Rattle.ucm_base.specs.Names.{all_differ}
-use Rattle.pm_types.specs.declared.transfers.Header.{Header}
-use Rattle.pm_types.specs.declared.status.Phase.{Phase}
-use Rattle.pm_types.specs.declared.status.Phase.TheVariants.{Transferring, Transferred, Processing as BeingProcessed, Processed}
-use Rattle.pm_types.specs.NodeState.{NodeState, Transfer, is_in, some_passes, phase_code}
-use Rattle.pm_types.specs.Clusters.{cluster_of}
-use Rattle.pm_types.specs.Refusals.{first_refusal}
-use Rattle.pm_types.specs.Transfers.{Verdict, transfer_of, header_of, parts_read, verdict_refusal, fresh, grown, in_phase, started, with_block, exited, deleted, start_refusals, data_refusals, exit_refusals, delete_refusals}
-use Rattle.pm_types.specs.Histories.{Reading}
-use Rattle.pm_types.specs.Validity.{IsSound, IsWholeFromTransferred, numbers_rise}
-use Rattle.node_laws.specs.Fit.{IsFit, IsRead, IsReading}
-use Rattle.node_laws.proofs.Lists.{each-append, each-imp, each-map, each-filter, length-filter, rise-append, rise-filter}
-use Rattle.node_laws.proofs.Changed.{ids, found, changed, all-changed, KeepsNames, ids-changed}
-use Rattle.node_laws.proofs.Refusals.{rows-clear, both-none, neither, not-false, some-header, is-transferring}
+use Rattle.node_laws.proofs.Names.{◌≡◌, refl, sym, subst, ap, ◌∙◌, ℕ, ◌+◌, ◌<◌, ◌≤◌, Bool, true, false, List, [], ◌∷◌}
+use Rattle.node_laws.proofs.Names.{◌++◌, length, length-append, arith, lit≤, ◌==◌, ◌||◌, not, nat_lt, nat_le, map}
+use Rattle.node_laws.proofs.Names.{Option, Some, None, Ok, Err, option_map_or, option_or, leb-false, ltb-false}
+use Rattle.node_laws.proofs.Names.{map-append, length-map, client_limit, package_limit, block_limit, transfer_limit}
+use Rattle.node_laws.proofs.Names.{last_id, all_differ, Header, Phase, Transferring, Transferred, BeingProcessed}
+use Rattle.node_laws.proofs.Names.{Processed, NodeState, Transfer, is_in, some_passes, phase_code, cluster_of}
+use Rattle.node_laws.proofs.Names.{first_refusal, Verdict, transfer_of, header_of, parts_read, verdict_refusal, fresh}
+use Rattle.node_laws.proofs.Names.{grown, in_phase, started, with_block, exited, deleted, start_refusals, data_refusals}
+use Rattle.node_laws.proofs.Names.{exit_refusals, delete_refusals, Reading, IsSound, numbers_rise, IsFit, IsRead}
+use Rattle.node_laws.proofs.Names.{IsReading}
+use Rattle.node_laws.proofs.Lists.{each-append, each-imp, each-map, each-filter, length-filter, rise-append}
+use Rattle.node_laws.proofs.Lists.{rise-filter, ids, found, changed, all-changed, KeepsNames, ids-changed, rows-clear}
+use Rattle.node_laws.proofs.Lists.{both-none, neither, not-false, some-header, is-transferring}
 use Rattle.node_laws.proofs.Sessions.{Held, base-of}
-use Rattle.node_laws.proofs.Quiet.{IsEarly, transferring, transferred, quiet-consistent, quiet-started, quiet-changed, quiet-deleted}
+use Rattle.node_laws.proofs.Quiet.{IsEarly, transferring, transferred, quiet-consistent, quiet-started, quiet-changed}
+use Rattle.node_laws.proofs.Quiet.{quiet-deleted}
 
 -- a transfer more
 held-started : (next client size : ℕ) (ts : List Transfer) → client < client_limit → Held next ts → nat_lt package_limit size ≡ false → nat_le transfer_limit (length ts) ≡ false → (next == last_id) ≡ false
@@ -29,7 +22,7 @@ held-started : (next client size : ℕ) (ts : List Transfer) → client < client
 held-started next client size ts low h small few room = record {
   each = each-append _ ts _ (each-imp _ _ later ts h.each) (own, tt);
   rise = ap numbers_rise (map-append (λ (t : Transfer). t.header.id) ts _) ∙ rise-append (ids ts) next h.rise (each-map _ _ ts (each-imp _ _ (λ t k. k.id.1) ts h.each));
-  next_id = (omega arith, grind (arith, nat_tests, h.next_id.1));
+  next_id = (omega arith, grind arith);
   few = rw (length-append ts) (omega (arith, leb-false _ _ few));
   sizes = each-append _ ts _ h.sizes ((ltb-false _ _ small, low), tt);
 }
@@ -54,13 +47,7 @@ start-fit read s client size low fit r =
 -- a changed transfer is sound, and the others stay so
 pub held-changed : (next client id : ℕ) (ts : List Transfer) (u : Transfer) (f : Transfer → Transfer) → Held next ts → KeepsNames f → found client id ts ≡ Some u
     → ((t : Transfer) → (f t).header.size ≡ t.header.size) → (IsSound next u → IsSound next (f u)) → Held next (map (changed id f) ts)
-held-changed next client id ts u f h k e size sound = record {
-  each = all-changed _ _ client id f ts u h.rise e h.each (λ t _ p. p) sound;
-  rise = ap numbers_rise (ids-changed id f k ts) ∙ h.rise;
-  next_id = h.next_id;
-  few = rw length-map h.few;
-  sizes = all-changed _ _ client id f ts u h.rise e h.sizes (λ t _ p. p) (λ p. (rw (size u) p.0, rw (k.client u) p.1));
-}
+held-changed next client id ts u f h k e size sound = grind (arith, all-changed, ids-changed, length-map)
 
 pub changed-fit : (read : Reading) (s : NodeState) (client id : ℕ) (u : Transfer) (f : Transfer → Transfer) → IsFit read s → KeepsNames f → ((t : Transfer) → (f t).header.size ≡ t.header.size) → transfer_of s client id ≡ Some u
     → IsEarly u.header.phase → IsEarly (f u).header.phase → (IsSound s.next_id u → IsSound s.next_id (f u)) → IsRead read (f u) (f u).header.phase → IsFit read (record s { transfers = map (changed id f) s.transfers })
@@ -96,13 +83,7 @@ data-fit read s client id counter bytes fit r =
     (sound u.0 phase size some) (subst (IsRead read (block bytes u.0)) (sym phase) tt)
   where
     sound : (u : Transfer) → u.header.phase ≡ Transferring → u.header.received + length bytes ≤ u.header.size → (length bytes == 0) ≡ false → IsSound s.next_id u → IsSound s.next_id (block bytes u)
-    sound u phase size some k = record {
-      bytes = rw (length-append u.bytes) (ap (λ n. n + length bytes) k.bytes);
-      size = size;
-      counter = (omega arith, grind (arith, nat_tests, k.counter.1, some));
-      whole = subst (IsWholeFromTransferred (block bytes u)) (sym phase) (subst (IsWholeFromTransferred u) phase k.whole);
-      id = k.id;
-    }
+    sound u phase size some k = grind (arith, length-append)
 
 -- the bytes are whole, and a package
 pub exit-fit : (read : Reading) (s : NodeState) (client id : ℕ) (v : Verdict) → IsReading read → IsFit read s → v ≡ read (option_map_or (λ t. t.bytes) (transfer_of s client id) [])
@@ -122,13 +103,7 @@ exit-fit read s client id v reading fit is r =
     accepted bytes (Err refusal) q e = absurd (cc)
 
     sound : (u : Transfer) → u.header.size ≤ u.header.received → (0 < length (parts_read v)) × (all_differ (map cluster_of (parts_read v)) ≡ true) → IsSound s.next_id u → IsSound s.next_id (whole v u)
-    sound u there some k = record {
-      bytes = k.bytes;
-      size = k.size;
-      counter = k.counter;
-      whole = (omega (arith, k.size), some.0, some.1);
-      id = k.id;
-    }
+    sound u there some k = grind (arith)
 
 pub delete-fit : (read : Reading) (s : NodeState) (client id : ℕ) → IsFit read s → first_refusal (delete_refusals (header_of (transfer_of s client id))) ≡ None → IsFit read (deleted s id)
 delete-fit read s client id fit r =
@@ -151,10 +126,4 @@ delete-fit read s client id fit r =
     }
   where
     unprocessed : (h : Header) → (is_in BeingProcessed h || is_in Processed h) ≡ false → IsEarly h.phase
-    unprocessed h e = go h.phase e
-      where
-        go : (p : Phase) → ((phase_code p == 2) || (phase_code p == 3)) ≡ false → IsEarly p
-        go Transferring q = transferring
-        go Transferred q = transferred
-        go BeingProcessed q = absurd (cc)
-        go Processed q = absurd (cc)
+    unprocessed h e = grind (arith, phase_code, transferring, transferred)

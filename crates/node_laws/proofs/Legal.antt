@@ -1,13 +1,7 @@
 -- The history that calls make is legal.
-use Rattle.std.proofs.Common.{◌≡◌, ◌++◌, ◌∙◌, [], ◌∷◌, Option, Some, None, refl, ap}
-use Rattle.std.specs.declared.cmp.Ordering.{Ordering}
-use Rattle.std.specs.declared.cmp.Ordering.TheVariants.{Less, Equal, Greater}
-use Rattle.pm_types.specs.declared.replies.Reached.{Reached}
-use Rattle.pm_types.specs.declared.state.Kept.{Kept}
-use Rattle.pm_types.specs.NodeState.{NodeState, of_client}
-use Rattle.pm_types.specs.Steps.{by_last, by_order, call_no_cmp, executed}
-use Rattle.pm_types.specs.Histories.{Reading, IsLegal, verdict_for}
-use Rattle.node_laws.specs.Runs.{MakesLegal, entries_of, entry_of}
+use Rattle.node_laws.proofs.Names.{◌≡◌, ◌++◌, ◌∙◌, [], ◌∷◌, Option, Some, None, refl, ap, Ordering, Greater, Reached}
+use Rattle.node_laws.proofs.Names.{Kept, NodeState, of_client, by_last, by_order, call_no_cmp, executed, Reading}
+use Rattle.node_laws.proofs.Names.{IsLegal, verdict_for, MakesLegal, entries_of, entry_of}
 
 module _ (read : Reading) where
   pub makes-legal : MakesLegal read
@@ -30,7 +24,6 @@ module _ (read : Reading) where
       by_kept (Some kept) e rest = by_order_of (call_no_cmp a.no kept.no) refl
         where
           by_order_of : (o : Ordering) → call_no_cmp a.no kept.no ≡ o → Legal (by_order s done kept o)
-          by_order_of Less f = rest s
-          by_order_of Equal f = rest s
           by_order_of Greater f =
               ((clients.0, ap (λ k. (by_last s done a.no k).1) e ∙ ap (λ o. (by_order s done kept o).1) f), rest done.0)
+          by_order_of _ f = rest s

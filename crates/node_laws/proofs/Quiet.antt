@@ -1,25 +1,15 @@
 -- A change of transfers that touches none in processing and none processed.
-use Rattle.std.proofs.Common.{◌≡◌, refl, sym, subst, ap, ◌∙◌, ℕ, ◌<◌, ◌≤◌, Bool, true, false, List, [], ◌∷◌, ◌++◌, length, arith}
-use Rattle.std.specs.Prelude.{◌==◌, ◌&&◌, not, if◌then◌else◌, filter, map, option_map, IfSome, IsSomeAnd, Option, Some, None}
-use Rattle.std.specs.Option.{option_or, option_map_or}
-use Rattle.std.specs.List.{AllByRecursion}
-use Rattle.std.proofs.lemmas.Bool.{and_parts, eqb-true, eq-eqb}
-use Rattle.std.proofs.lemmas.Bool.Decides.{nat_tests}
-use Rattle.std.proofs.lemmas.List.Folds.{find-append}
-use Rattle.ucm_base.specs.Limits.{cluster_limit}
-use Rattle.ucm_base.specs.Parts.{Bytes}
-use Rattle.pm_types.specs.declared.transfers.Header.{Header}
-use Rattle.pm_types.specs.declared.status.Phase.{Phase}
-use Rattle.pm_types.specs.declared.status.Phase.TheVariants.{Transferring, Transferred, Processing as BeingProcessed, Processed}
-use Rattle.pm_types.specs.NodeState.{NodeState, Session, Transfer, is_in, some_passes, phase_code}
-use Rattle.pm_types.specs.Clusters.{all_units}
-use Rattle.pm_types.specs.Sessions.{names_among}
-use Rattle.pm_types.specs.Transfers.{is_of, parts_of}
-use Rattle.pm_types.specs.Validity.{IsConsistent, IsPlannedWhole, is_processed, PartsApply, parts_in}
-use Rattle.pm_types.specs.Work.{parts_of_id}
+use Rattle.node_laws.proofs.Names.{◌≡◌, refl, sym, ap, ◌∙◌, ℕ, ◌<◌, Bool, true, false, List, [], ◌∷◌, ◌++◌, arith, ◌==◌}
+use Rattle.node_laws.proofs.Names.{◌&&◌, not, if◌then◌else◌, filter, map, option_map, IfSome, IsSomeAnd, Option, Some}
+use Rattle.node_laws.proofs.Names.{None, AllByRecursion, and_parts, eqb-true, find-append, cluster_limit, Header, Phase}
+use Rattle.node_laws.proofs.Names.{Transferring, Transferred, BeingProcessed, Processed, NodeState, Session, Transfer}
+use Rattle.node_laws.proofs.Names.{is_in, some_passes, names_among, is_of, IsConsistent, IsPlannedWhole, is_processed}
+use Rattle.node_laws.proofs.Names.{parts_in}
 use Rattle.node_laws.proofs.Lists.{each-append, each-imp, each-filter, found-has, find-filter, any-filter, any-more}
-use Rattle.node_laws.proofs.Changed.{found, found-is, only, changed, each-changed, all-changed, any-changed, KeepsNames, found-changed}
-use Rattle.node_laws.proofs.Sessions.{Held, Base, Busy, InProcessing, IsUnfinished, base-of, busy-of, busy-is, free-of, free-is, by-session}
+use Rattle.node_laws.proofs.Lists.{found, found-is, only, changed, each-changed, all-changed, any-changed, KeepsNames}
+use Rattle.node_laws.proofs.Lists.{found-changed}
+use Rattle.node_laws.proofs.Sessions.{Held, Base, Busy, InProcessing, IsUnfinished, base-of, busy-of, busy-is, free-of}
+use Rattle.node_laws.proofs.Sessions.{free-is, by-session}
 
 -- a phase before processing
 pub data IsEarly : Phase → Type 0 where
@@ -27,31 +17,13 @@ pub data IsEarly : Phase → Type 0 where
   transferred : IsEarly Transferred
 
 pub early-not_processed : (h : Header) → IsEarly h.phase → is_in Processed h ≡ false
-early-not_processed h e = go h.phase e
-  where
-    go : (p : Phase) → IsEarly p → (phase_code p == 3) ≡ false
-    go Transferring e = refl
-    go Transferred e = refl
-    go BeingProcessed e = elim e [ ]
-    go Processed e = elim e [ ]
+early-not_processed h e = grind arith
 
 pub early-not_processing : (h : Header) → IsEarly h.phase → is_in BeingProcessed h ≡ false
-early-not_processing h e = go h.phase e
-  where
-    go : (p : Phase) → IsEarly p → (phase_code p == 2) ≡ false
-    go Transferring e = refl
-    go Transferred e = refl
-    go BeingProcessed e = elim e [ ]
-    go Processed e = elim e [ ]
+early-not_processing h e = grind arith
 
 pub early-whole : (x : Session) (t : Transfer) → IsEarly t.header.phase → IsPlannedWhole x t t.header.phase
-early-whole x t e = go t.header.phase e
-  where
-    go : (p : Phase) → IsEarly p → IsPlannedWhole x t p
-    go Transferring e = tt
-    go Transferred e = tt
-    go BeingProcessed e = elim e [ ]
-    go Processed e = elim e [ ]
+early-whole x t e = grind arith
 
 -- what such a change keeps
 pub record Quiet (next : ℕ) (ts us : List Transfer) : Type 0 where
@@ -70,20 +42,7 @@ pub record Processes (next owner n : ℕ) (ts : List Transfer) (P : Transfer →
   pub has : P transfer
 
 pub processes : (next owner n : ℕ) (ts : List Transfer) (P : Transfer → Type 0) → Held next ts → InProcessing (Some n) ts → IsSomeAnd (found owner n ts) P → Processes next owner n ts P
-processes next owner n ts P h k some = go (found owner n ts) refl some
-  where
-    go : (o : Option Transfer) → found owner n ts ≡ o → IsSomeAnd o P → Processes next owner n ts P
-    go None e m = absurd m
-    go (Some t) e m =
-        let id : t.header.id ≡ n = (found-is owner n ts t e).0 in
-        let low = (found-has (λ t. is_of owner n t.header) _ ts t h.each e).1 in
-        record {
-          transfer = t;
-          is = e;
-          in_processing = (found-has (λ t. is_of owner n t.header) _ ts t k e).1 ∙ eq-eqb _ _ (sym id);
-          below = omega (arith, low.id.1);
-          has = m;
-        }
+processes next owner n ts P h k some = grind (arith, found-is, found-has)
 
 module _ (s : NodeState) (next : ℕ) (us : List Transfer) (quiet : Quiet s.next_id s.transfers us) (held : Held next us) where
   abbrev after : NodeState
@@ -99,58 +58,26 @@ module _ (s : NodeState) (next : ℕ) (us : List Transfer) (quiet : Quiet s.next
       quiet.found_still owner n p.transfer p.is p.in_processing ∙ sym p.is
 
   still-unfinished : (owner done : ℕ) (o : Option ℕ) → Held s.next_id s.transfers → InProcessing o s.transfers → IfSome o (IsUnfinished owner done s.transfers) → IfSome o (IsUnfinished owner done us)
-  still-unfinished owner done None h k m = tt
-  still-unfinished owner done (Some n) h k m = subst (λ o. IsSomeAnd o (λ t. done < all_units t.parts)) (sym (same-found owner done n h k m)) m
+  still-unfinished owner x y h k m = grind (arith, same-found)
 
   below-next : (owner done : ℕ) (o : Option ℕ) → Held s.next_id s.transfers → InProcessing o s.transfers → IfSome o (IsUnfinished owner done s.transfers) → IfSome o (λ n. n < s.next_id)
   below-next owner done None h k m = tt
   below-next owner done (Some n) h k m = (processes s.next_id owner n s.transfers _ h k m).below
 
   same-parts : (x : Session) → Held s.next_id s.transfers → InProcessing x.processing s.transfers → IfSome x.processing (IsUnfinished x.owner x.units_done s.transfers) → parts_in after x ≡ parts_in s x
-  same-parts x h k m = ap (λ parts. map (λ change. change.part) x.changes ++ parts) (go x.processing k m)
-    where
-      go : (o : Option ℕ) → InProcessing o s.transfers → IfSome o (IsUnfinished x.owner x.units_done s.transfers) → option_map_or (parts_of_id after x) o [] ≡ option_map_or (parts_of_id s x) o []
-      go None k m = refl
-      go (Some n) k m = ap parts_of (same-found x.owner x.units_done n h k m)
+  same-parts x h k m = grind (arith, same-found)
 
   busy-quiet : (x : Session) → Base s → Busy s x → Busy after x
-  busy-quiet x b v =
-      let same = same-parts x b.held v.each v.unfinished in
-      record {
-        due = v.due;
-        runs = v.runs;
-        changes = record { differ = v.changes.differ; whole = quiet.whole x v.changes.whole; processed = each-imp _ _ (λ change. quiet.processed change.transfer) x.changes v.changes.processed; not_empty = v.changes.not_empty };
-        applies = subst (PartsApply x.saved) (sym same) v.applies;
-        each = quiet.each x.processing (below-next x.owner x.units_done x.processing b.held v.each v.unfinished) v.each;
-        working = v.working;
-        unfinished = still-unfinished x.owner x.units_done x.processing b.held v.each v.unfinished;
-        leaves = v.leaves;
-        outcome = v.outcome;
-        names = subst (λ parts. length (names_among {D = Bytes} (s.running ++ x.saved) [] parts) ≤ cluster_limit) (sym same) v.names;
-        saved = v.saved;
-      }
+  busy-quiet x b v = grind (arith, same-parts, each-imp, below-next, still-unfinished, names_among, cluster_limit)
 
   -- a consistent state stays so
   pub quiet-consistent : IsConsistent s → IsConsistent after
-  quiet-consistent v =
-      let b = base-of s v in
-      by-session s (λ o. IsConsistent (record after { session = o }))
-      (λ e. let f = free-of s e v in free-is after (base-quiet b) (record { idle = f.idle; changes = quiet.unprocessed f.changes; each = quiet.each None tt f.each; names = f.names }))
-      (λ x e. busy-is after x (base-quiet b) (busy-quiet x b (busy-of s x e v)))
+  quiet-consistent v = grind (arith, base-of, by-session, free-of, free-is, base-quiet, busy-is, busy-quiet, busy-of)
 
 -- a transfer more
 pub quiet-started : (next : ℕ) (ts : List Transfer) (t : Transfer) → t.header.id ≡ next → IsEarly t.header.phase → Quiet next ts (ts ++ t ∷ [])
-quiet-started next ts t e early = record {
-  unprocessed = λ h. each-append _ ts _ h (early-not_processed t.header early, tt);
-  whole = λ x h. each-append _ ts _ h (early-whole x t early, tt);
-  processed = λ n. any-more _ ts _;
-  each = λ o low h. each-append _ ts _ h (early-not_processing t.header early ∙ not-that o low, tt);
-  found_still = λ owner n u k p. find-append _ ts _ ∙ ap (λ o. option_or o (found owner n (t ∷ []))) k;
-}
-  where
-    not-that : (o : Option ℕ) → IfSome o (λ n. n < next) → false ≡ some_passes (λ n. n == t.header.id) o
-    not-that None low = refl
-    not-that (Some n) low = grind (arith, nat_tests, low)
+quiet-started next ts t e early =
+    grind (arith, each-append, early-whole, any-more, early-not_processing, find-append, found)
 
 -- a transfer's header or bytes, before processing
 pub quiet-changed : (next client id : ℕ) (ts : List Transfer) (u : Transfer) (f : Transfer → Transfer) → Held next ts → KeepsNames f → found client id ts ≡ Some u → IsEarly u.header.phase → IsEarly (f u).header.phase → Quiet next ts (map (changed id f) ts)
@@ -165,17 +92,14 @@ quiet-changed next client id ts u f h k e early later = record {
 }
   where
     never : (a b : Bool) → (a && false) ≡ (b && false)
-    never true true = refl
-    never true false = refl
-    never false true = refl
-    never false false = refl
+    never a b = grind arith
 
     stays : (owner n : ℕ) (t : Transfer) → found owner n ts ≡ Some t → is_in BeingProcessed t.header ≡ true → (b : Bool) → (t.header.id == id) ≡ b → (if b then f t else t) ≡ t
     stays owner n t m p false q = refl
     stays owner n t m p true q =
         let same : t ≡ u = (found-has (λ v. is_of owner n v.header) _ ts t (only client id ts u h.rise e) m).1 q in
         let z : is_in BeingProcessed t.header ≡ false = ap (λ (v : Transfer). is_in BeingProcessed v.header) same ∙ early-not_processing u.header early in
-        absurd (let w : ⊥ = cc in w)
+        absurd (cc)
 
 -- a transfer less, before processing
 pub quiet-deleted : (next client id : ℕ) (ts : List Transfer) (u : Transfer) → Held next ts → found client id ts ≡ Some u → IsEarly u.header.phase → Quiet next ts (filter (λ t. not (t.header.id == id)) ts)
@@ -195,14 +119,7 @@ quiet-deleted next client id ts u h e early = record {
         go true q =
             let same = (found-has (λ v. is_of owner n v.header) _ ts t (only client id ts u h.rise e) m).1 (ap (λ i. i == id) (found-is owner n ts t m).0 ∙ q) in
             let z : is_in BeingProcessed t.header ≡ false = ap (λ (v : Transfer). is_in BeingProcessed v.header) same ∙ early-not_processing u.header early in
-            absurd (let w : ⊥ = cc in w)
+            absurd (cc)
 
     passes : (n : ℕ) (t : Transfer) → ((t.header.id == id) ≡ true → t ≡ u) → ((t.header.id == n) && is_in Processed t.header) ≡ true → not (t.header.id == id) ≡ true
-    passes n t k p = go (t.header.id == id) refl
-      where
-        go : (b : Bool) → (t.header.id == id) ≡ b → not b ≡ true
-        go false q = refl
-        go true q =
-            let own = (and_parts (t.header.id == n) (is_in Processed t.header) p).1 in
-            let z : is_in Processed t.header ≡ false = ap (λ (v : Transfer). is_in Processed v.header) (k q) ∙ early-not_processed u.header early in
-            absurd (let w : ⊥ = cc in w)
+    passes n t k p = grind (arith, not, and_parts, is_in, early-not_processed)

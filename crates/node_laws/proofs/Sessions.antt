@@ -1,20 +1,13 @@
 -- A consistent state, by whether it has a session.
-use Rattle.std.proofs.Common.{◌≡◌, refl, sym, subst, ap, ℕ, ◌-◌, ◌<◌, ◌≤◌, true, false, List, [], ◌++◌, length}
-use Rattle.std.specs.Prelude.{◌==◌, min, option_and_then, Option, Some, None, IfSome, IsSomeAnd, is_some, find, map}
-use Rattle.std.specs.Option.{option_map_or}
-use Rattle.std.specs.List.{AllByRecursion}
-use Rattle.ucm_base.specs.Limits.{client_limit, cluster_limit, transfer_limit, package_limit, last_id, line_limit}
-use Rattle.ucm_base.specs.Names.{names_rise}
-use Rattle.ucm_base.specs.Parts.{Bytes}
-use Rattle.pm_types.specs.declared.status.Status.{Status}
-use Rattle.pm_types.specs.declared.status.Status.TheVariants.{Idle, Ready, Processing, Activating, Verifying, Activated, RollingBack, RolledBack, CleaningUp}
-use Rattle.pm_types.specs.declared.status.Phase.TheVariants.{Processing as BeingProcessed, Processed}
-use Rattle.pm_types.specs.NodeState.{NodeState, Session, Transfer, is_in, has_status, some_passes}
-use Rattle.pm_types.specs.Clusters.{all_units}
-use Rattle.pm_types.specs.Sessions.{names_among}
-use Rattle.pm_types.specs.Transfers.{is_of}
-use Rattle.pm_types.specs.Validity.{IsConsistent, SessionIsDue, should_run, ChangesAreOf, ChangesAreDue, PartsApply, parts_in, LeavesOneToVerify, IsSound, numbers_rise, places_from}
-use Rattle.node_laws.proofs.Planned.{names_of}
+use Rattle.node_laws.proofs.Names.{arith, ◌≡◌, refl, subst, ℕ, ◌-◌, ◌<◌, ◌≤◌, true, false, List, [], ◌++◌, length, ◌==◌}
+use Rattle.node_laws.proofs.Names.{min, option_and_then, Option, Some, None, IfSome, IsSomeAnd, is_some, find, map}
+use Rattle.node_laws.proofs.Names.{option_map_or, AllByRecursion, client_limit, cluster_limit, transfer_limit}
+use Rattle.node_laws.proofs.Names.{package_limit, last_id, line_limit, names_rise, Bytes, Status, Idle, Processing}
+use Rattle.node_laws.proofs.Names.{CleaningUp, BeingProcessed, Processed, NodeState, Session, Transfer, is_in}
+use Rattle.node_laws.proofs.Names.{has_status, some_passes, all_units, names_among, is_of, IsConsistent, SessionIsDue}
+use Rattle.node_laws.proofs.Names.{should_run, ChangesAreOf, ChangesAreDue, PartsApply, parts_in, LeavesOneToVerify}
+use Rattle.node_laws.proofs.Names.{IsSound, numbers_rise, places_from}
+use Rattle.node_laws.proofs.NameLists.{names_of}
 
 -- the transfers, where ids below the next one were given
 pub record Held (next : ℕ) (ts : List Transfer) : Type 0 where
@@ -62,37 +55,13 @@ pub record Free (s : NodeState) : Type 0 where
   pub names : length (names_among {D = Bytes} {E = Bytes} s.running [] []) ≤ cluster_limit
 
 pub base-of : (s : NodeState) → IsConsistent s → Base s
-base-of s v = record {
-  held = record { each = v.transfers.each; rise = v.transfers.rise; next_id = v.transfers.next_id; few = v.limits.transfers; sizes = v.limits.sizes };
-  running = v.limits.running;
-  clients = v.limits.clients;
-  lines = v.limits.lines;
-  places = v.limits.places;
-}
+base-of s v = grind arith
 
 pub busy-is : (s : NodeState) (x : Session) → Base s → Busy s x → IsConsistent (record s { session = Some x })
-busy-is s x b v = record {
-  session = v.due;
-  running = v.runs;
-  changes = record { differ = v.changes.differ; whole = v.changes.whole; processed = v.changes.processed; not_empty = v.changes.not_empty };
-  applying = v.applies;
-  processing = record { each = v.each; status = v.working; unfinished = v.unfinished };
-  verdicts = (v.leaves, v.outcome);
-  transfers = record { each = b.held.each; rise = b.held.rise; next_id = b.held.next_id };
-  limits = record { names = v.names; running = b.running; saved = v.saved; transfers = b.held.few; sizes = b.held.sizes; clients = b.clients; lines = b.lines; places = b.places };
-}
+busy-is s x b v = grind arith
 
 pub free-is : (s : NodeState) → Base s → Free s → IsConsistent (record s { session = None })
-free-is s b v = record {
-  session = subst (λ st. SessionIsDue st None) (sym v.idle) tt;
-  running = tt;
-  changes = v.changes;
-  applying = tt;
-  processing = record { each = v.each; status = ap (λ st. has_status Processing (record s { status = st })) (sym v.idle); unfinished = tt };
-  verdicts = tt;
-  transfers = record { each = b.held.each; rise = b.held.rise; next_id = b.held.next_id };
-  limits = record { names = v.names; running = b.running; saved = tt; transfers = b.held.few; sizes = b.held.sizes; clients = b.clients; lines = b.lines; places = b.places };
-}
+free-is s b v = grind arith
 
 pub busy-of : (s : NodeState) (x : Session) → s.session ≡ Some x → IsConsistent s → Busy s x
 busy-of s x e v = record {
@@ -119,19 +88,8 @@ free-of s e v = record {
   where
     idle : (st : Status) → SessionIsDue st None → st ≡ Idle
     idle Idle h = refl
-    idle Ready h = absurd h
-    idle Processing h = absurd h
-    idle Activating h = absurd h
-    idle Verifying h = absurd h
-    idle Activated h = absurd h
-    idle RollingBack h = absurd h
-    idle RolledBack h = absurd h
-    idle CleaningUp h = absurd h
+    idle _ h = absurd h
 
 -- a fact of the state without a session, and of the state with one
 pub by-session : (s : NodeState) (P : Option Session → Type 0) → (s.session ≡ None → P None) → ((x : Session) → s.session ≡ Some x → P (Some x)) → P s.session
-by-session s P none some = go s.session refl
-  where
-    go : (o : Option Session) → s.session ≡ o → P o
-    go None e = none e
-    go (Some x) e = some x e
+by-session s P none some = grind arith

@@ -60,3 +60,12 @@ position-none {X} p xs none = by-test (nat_lt (position_or_len p xs) (length xs)
 pub position-passes : {X : Type 0} (p : X → Bool) (xs : List X) (o : Option ℕ) → o ≡ position p xs → IfSome o (λ i. (d : X) → p (get_or xs i d) ≡ true)
 position-passes p xs None is = tt
 position-passes p xs (Some i) is = λ d. (position-Some p xs i d (sym is)).1
+
+-- where a search finds none, none passes
+pub none-passes : {X : Type 0} (p : X → Bool) (xs : List X) → find p xs ≡ None → AllByRecursion (λ x. p x ≡ false) xs
+none-passes p [] e = tt
+none-passes {X} p (x ∷ xs) e = by-test (p x) refl e (none-passes p xs)
+  where
+    by-test : (b : Bool) → p x ≡ b → cond b (Some x) (find p xs) ≡ None → (find p xs ≡ None → AllByRecursion (λ y. p y ≡ false) xs) → AllByRecursion (λ y. p y ≡ false) (x ∷ xs)
+    by-test true q some rest = absurd (cc some)
+    by-test false q none rest = (q, rest none)

@@ -92,7 +92,7 @@ module _ (id : ℕ) (change : StoredTransfer → StoredTransfer) where
   changed : StoredTransfer → StoredTransfer
   changed t = if t.header.id == id then change t else t
 
-  others-stand : (ts : List StoredTransfer) → is_free (map id_of ts) id ≡ true → map (λ t. if t.header.id == id then change t else t) ts ≡ ts
+  pub others-stand : (ts : List StoredTransfer) → is_free (map id_of ts) id ≡ true → map (λ t. if t.header.id == id then change t else t) ts ≡ ts
   others-stand [] free = refl
   others-stand (t ∷ ts) free =
       let parts = and_parts (not (t.header.id == id)) (is_free (map id_of ts) id) free in

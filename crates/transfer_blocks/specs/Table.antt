@@ -7,6 +7,7 @@ use Rattle.pm_types.specs.declared.replies.Refusal.{Refusal}
 use Rattle.pm_types.specs.declared.replies.Reply.{Reply}
 use Rattle.pm_types.specs.declared.replies.Reply.TheVariants.{Refused}
 use Rattle.pm_types.specs.declared.state.StoredTransfer.{StoredTransfer}
+use Rattle.pm_types.specs.declared.status.Phase.{Phase}
 use Rattle.pm_types.specs.declared.status.Phase.TheVariants.{Transferred}
 use Rattle.pm_types.specs.declared.transfers.ExitVerdict.{ExitVerdict}
 use Rattle.pm_types.specs.declared.transfers.ExitVerdict.TheVariants.{Good, Bad}
@@ -72,6 +73,10 @@ received size t = record t { header = grown size t.header }
 
 abbrev pub whole : List (Part ℕ) → StoredTransfer → StoredTransfer
 whole parts t = record t { header = in_phase Transferred t.header; contents = parts }
+
+-- in another phase
+abbrev pub moved : Phase → StoredTransfer → StoredTransfer
+moved phase t = record t { header = in_phase phase t.header }
 
 -- the transfer of this id gone
 abbrev pub without : ℕ → Table → Table

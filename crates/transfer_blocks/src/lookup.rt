@@ -16,6 +16,13 @@ pub(crate) fn place_of(all: &[StoredTransfer], client: ClientId, id: u32) -> Opt
         .position(|t| t.header.id == id && t.header.client == client)
 }
 
+/// The place of the transfer of this id.
+pub(crate) fn place_of_id(all: &[StoredTransfer], id: u32) -> Option<usize>
+    ensures { result ≡ position (λ t. t.header.id == id) all.now }
+{
+    all.iter().position(|t| t.header.id == id)
+}
+
 /// Whether no transfer has the slot.
 fn is_free(all: &[StoredTransfer], slot: u8) -> bool
     ensures { result ≡ list_all (λ t. not (t.slot == slot)) all.now }

@@ -1,15 +1,15 @@
 // The transfers of a node, with the next id.
-ghost use Rattle.std.specs.Prelude.{◌≡◌, ◌<◌, ℕ, None, Some, IfSome, length, slice_index_or};
+ghost use Rattle.std.specs.Prelude.{◌≡◌, ◌<◌, ℕ, None, Some, IfSome, length, map, option_map, slice_index_or, true};
 ghost use Rattle.std.specs.Option.{option_or};
 ghost use Rattle.pm_types.specs.declared.state.StoredTransfer.{StoredTransfer as stored};
 ghost use Rattle.pm_types.specs.Refusals.{first_refusal};
 ghost use Rattle.pm_types.specs.Steps.{refused_or};
 ghost use Rattle.pm_types.specs.Transfers.{start_refusals, data_refusals, exit_refusals, delete_refusals};
-ghost use Rattle.transfer_blocks.specs.Table.{IsTable, bad_refusal, found_of, good_parts, received, stored_header, stored_ids, stored_of, unless_refused, whole, with_fresh, with_stored, without};
+ghost use Rattle.transfer_blocks.specs.Table.{IsTable, bad_refusal, found_of, good_parts, is_free, moved, received, stored_header, stored_ids, stored_of, unless_refused, whole, with_fresh, with_stored, without};
 
 use crate::Found;
 use crate::judge::{data_refusal, delete_refusal, exit_refusal, start_refusal};
-use crate::lookup::{lowest_free, place_of};
+use crate::lookup::{lowest_free, place_of, place_of_id};
 use pm_types::{
     ExitVerdict, Header, IdList, PartList, Phase, Refusal, Reply, StoredTransfer, TransferList,
 };
@@ -185,6 +185,35 @@ impl Transfers {
         }
         self.held.retain(|t| t.header.id != id);
         Reply::Done
+    }
+
+    /// The client's transfer of this id, as it is stored.
+    pub fn stored(&self, client: ClientId, id: u32) -> Option<&StoredTransfer>
+        ensures { option_map (λ t. t.now) result ≡ stored_of self.now.transfers client id }
+    {
+        let place = self.place(client, id)?;
+        Some(&self.held[place])
+    }
+
+    /// The transfer of this id, where it is there, is in this phase.
+    pub fn set_phase(&mut self, id: u32, phase: Phase)
+        ensures table { self.new ≡ with_stored id (moved phase) self.old }
+        ensures form { IsTable self.new }
+    {
+        if let Some(place) = self.place_by_id(id) {
+            self.held[place].header.phase = phase;
+        }
+    }
+
+    // The place of the transfer of this id.
+    fn place_by_id(&self, id: u32) -> Option<usize>
+        ensures place { IfSome result (λ i. i < length self.now.transfers) }
+        ensures id { IfSome result (λ i. (d : stored)
+            → (slice_index_or self.now.transfers i d).header.id ≡ id) }
+        ensures none { result ≡ None
+            → is_free (map (λ t. t.header.id) self.now.transfers) id ≡ true }
+    {
+        place_of_id(self.held.as_slice(), id)
     }
 
     // The place of the client's transfer of this id.

@@ -1,18 +1,9 @@
 -- One more entry of a history, and one more event of the master's list.
-use Rattle.std.proofs.Common.{◌≡◌, refl, sym, ap, subst, ◌∙◌, inl, inr, ℕ, List, [], ◌∷◌, ◌++◌}
-use Rattle.std.specs.Prelude.{option_map, Option, Some, None}
-use Rattle.pm_types.specs.declared.history.Entry.{Entry}
-use Rattle.pm_types.specs.NodeState.{NodeState}
-use Rattle.pm_types.specs.Histories.{Reading, after_entry, state_after}
-use Rattle.campaign_core.specs.declared.events.CampaignResult.{CampaignResult}
-use Rattle.campaign_core.specs.declared.events.MasterEvent.{MasterEvent}
-use Rattle.campaign_core.specs.declared.events.MasterEvent.TheVariants.{Start, Begin, PhaseTo, VoteOf, CancelAsked, Decide, EndedAt, Enter}
-use Rattle.campaign_core.specs.declared.fold.Current.{Current}
-use Rattle.campaign_core.specs.declared.fold.Fold.{Fold}
-use Rattle.campaign_core.specs.Campaign.{after_event, campaign_from, campaign, nothing_yet, entered}
-use Rattle.world.specs.Spans.{Spans, span_step, spans_from}
-use Rattle.world.specs.Law.{IsEntered}
-use Rattle.world.proofs.RulesLaw.{InEarlier}
+use Rattle.world.proofs.Names.{arith, ◌≡◌, refl, sym, ap, subst, ◌∙◌, inl, inr, ℕ, List, [], ◌∷◌, ◌++◌, option_map}
+use Rattle.world.proofs.Names.{Option, Some, None, Entry, NodeState, Reading, after_entry, state_after, CampaignResult}
+use Rattle.world.proofs.Names.{MasterEvent, Enter, Current, Fold, after_event, campaign_from, campaign, nothing_yet}
+use Rattle.world.proofs.Names.{entered, Spans, span_step, spans_from, IsEntered}
+use Rattle.world.proofs.Rules.{InEarlier}
 
 pub after-append : (read : Reading) (s : NodeState) (es : List Entry) (e : Entry) → state_after read s (es ++ e ∷ []) ≡ after_entry read (state_after read s es) e
 after-append read s [] e = refl
@@ -41,18 +32,7 @@ in-last e (x ∷ xs) = inr (in-last e xs)
 
 -- an earlier campaign stays one
 stays : (f : Fold) (e : MasterEvent) (x : ℕ × CampaignResult) → InEarlier x f.earlier → InEarlier x (after_event f e).earlier
-stays f (Start epoch) x h = h
-stays f (Begin k named) x h = h
-stays f (PhaseTo p) x h = h
-stays f (VoteOf n v) x h = h
-stays f CancelAsked x h = h
-stays f (Decide d) x h = h
-stays f (EndedAt n o) x h = h
-stays f (Enter r) x h = go f.current
-  where
-    go : (o : Option Current) → InEarlier x (entered f.earlier o r)
-    go None = h
-    go (Some c) = in-more x f.earlier (c.campaign, r) h
+stays f x y h = grind (arith, in-more)
 
 all-stay : (f : Fold) (es : List MasterEvent) (x : ℕ × CampaignResult) → InEarlier x f.earlier → InEarlier x (campaign_from f es).earlier
 all-stay f [] x h = h

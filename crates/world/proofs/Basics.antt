@@ -1,88 +1,42 @@
 -- Laws of the real node: what is kept, what a refusal leaves, Sync, and the calls on a session.
-use Rattle.std.proofs.Common.{◌≡◌, ◌≢◌, ◌⊎◌, inl, inr, ℕ, ◌<◌, List, [], ◌∷◌, length, Option, Some, None, Bool, true, false, refl, sym, ◌∙◌, ap, subst, arith}
-use Rattle.std.specs.Prelude.{◌==◌, not, option_map, option_and_then, map, if◌then◌else◌}
-use Rattle.std.specs.Option.{option_or, option_map_or}
-use Rattle.std.proofs.lemmas.Bool.{eqb-true}
-use Rattle.std.proofs.lemmas.List.{get_or-set_same}
-use Rattle.ucm_base.specs.declared.ids.CallNo.{CallNo}
-use Rattle.ucm_base.specs.Parts.{Bytes}
+use Rattle.world.proofs.Names.{nat_tests, ◌≡◌, ◌⊎◌, inl, inr, ℕ, List, ◌∷◌, Option, Some, None, Bool, true, false, refl}
+use Rattle.world.proofs.Names.{sym, ◌∙◌, ap, arith, ◌==◌, not, option_map, option_and_then, if◌then◌else◌, option_or}
+use Rattle.world.proofs.Names.{option_map_or, eqb-true, get_or-set_same, CallNo, Bytes, SessionMark, Refusal, Cluster}
+use Rattle.world.proofs.Names.{Status, Idle, Kept, NodeState, Session, of_client, first_refusal, Verdict, ids_of, judge}
+use Rattle.world.proofs.Names.{reply_to, refusal, accepted, refused_or, Reading, verdict_for, IsConsistent}
+use Rattle.world.proofs.Names.{SessionIsDue, Call, Shown, Reply, Sync, TransferStart, TransferData, TransferExit}
+use Rattle.world.proofs.Names.{DeleteTransfer, ProcessSwPackage, Activate, Finish, Rollback, Revert, Done, Started}
+use Rattle.world.proofs.Names.{Synced, Refused, is_status}
+use Rattle.world.proofs.Rules.{shown_of as seen_of, shown_session, KeepsSession, KeepsTransfers}
+use Rattle.world.proofs.Instance.{zero_no, last_in, kept_in, tag_if, ended_in, judged_in, kept_after, real}
 use Rattle.pm_types.specs.declared.calls.Call.TheVariants as call
 use Rattle.pm_types.specs.declared.replies.Reply.TheVariants as reply
-use Rattle.pm_types.specs.declared.status.Outcome.TheVariants.{Old}
-use Rattle.pm_types.specs.declared.replies.EndMark.{EndMark}
-use Rattle.pm_types.specs.declared.replies.SessionMark.{SessionMark}
-use Rattle.pm_types.specs.declared.replies.Refusal.{Refusal}
-use Rattle.pm_types.specs.declared.clusters.Change.{Change}
-use Rattle.pm_types.specs.declared.clusters.Cluster.{Cluster}
-use Rattle.pm_types.specs.declared.status.Status.{Status}
-use Rattle.pm_types.specs.declared.status.Status.TheVariants.{Idle, Ready, Processing, Activating, Verifying, Activated, RollingBack, RolledBack, CleaningUp}
-use Rattle.pm_types.specs.declared.state.Kept.{Kept}
-use Rattle.pm_types.specs.NodeState.{NodeState, Session, of_client}
-use Rattle.pm_types.specs.Refusals.{first_refusal}
-use Rattle.pm_types.specs.Sessions.{Goal, To, CleanUp, Resume, status_table, changes_in, arrive, led_by, clean_up, begin_processing, stop_processing}
-use Rattle.pm_types.specs.Transfers.{Verdict, ids_of}
-use Rattle.pm_types.specs.Steps.{judge, reply_to, after_reply, refusal, accepted, refused_or}
-use Rattle.pm_types.specs.Histories.{Reading, verdict_for, formatted}
-use Rattle.pm_types.specs.Validity.{IsConsistent, SessionIsDue}
-use Rattle.pm_types.specs.declared.calls.Call.{Call}
-use Rattle.pm_types.specs.declared.replies.Synced.{Synced as Shown}
-use Rattle.pm_types.specs.declared.replies.Reply.{Reply}
-use Rattle.pm_types.specs.declared.calls.Call.TheVariants.{Sync, TransferStart, TransferData, TransferExit, DeleteTransfer, ProcessSwPackage, Activate, Finish, Rollback, RevertProcessedSwPackages as Revert, Cancel}
-use Rattle.pm_types.specs.declared.replies.Reply.TheVariants.{Done, Started, Synced, Refused}
-use Rattle.world.specs.Messages.{is_status}
-use Rattle.world.proofs.Rules.{shown_of as seen_of, shown_session, KeepsSession, KeepsTransfers}
-use Rattle.world.proofs.Instance.{zero_no, last_in, kept_in, tag_if, mine_in, ended_in, judged_in, kept_after, real}
 
 -- a judgment that is refused, or done
 pub judged-by : (s : NodeState) (client : ℕ) (c : Call) (v : Verdict) (P : NodeState → Type 0) → P s → P (accepted s client c v) → P (judge s client c v).0
-judged-by s client c v P here there = go (reply_to s client c v)
-  where
-    go : (r : Reply) → P (after_reply s client c v r)
-    go reply.Done = there
-    go (reply.Started id) = there
-    go (reply.Synced x) = there
-    go (reply.Refused why) = here
+judged-by s client c v P here there = grind arith
 
 pub refused-leaves : (s : NodeState) (client : ℕ) (c : Call) (v : Verdict) (why : Refusal) → (reply_to s client c v) ≡ Refused why → (judge s client c v).0 ≡ s
-refused-leaves s client c v why e = go (reply_to s client c v) e
-  where
-    go : (r : Reply) → r ≡ Refused why → after_reply s client c v r ≡ s
-    go reply.Done q = absurd (let f : ⊥ = cc q in f)
-    go (reply.Started id) q = absurd (let f : ⊥ = cc q in f)
-    go (reply.Synced x) q = absurd (let f : ⊥ = cc q in f)
-    go (reply.Refused w) q = refl
+refused-leaves s client c v why e = grind arith
 
 pub done-accepted : (s : NodeState) (client : ℕ) (c : Call) (v : Verdict) → (reply_to s client c v) ≡ Done → (judge s client c v).0 ≡ accepted s client c v
-done-accepted s client c v e = go (reply_to s client c v) e
-  where
-    go : (r : Reply) → r ≡ Done → after_reply s client c v r ≡ accepted s client c v
-    go reply.Done q = refl
-    go (reply.Started id) q = absurd (let f : ⊥ = cc q in f)
-    go (reply.Synced x) q = absurd (let f : ⊥ = cc q in f)
-    go (reply.Refused w) q = absurd (let f : ⊥ = cc q in f)
+done-accepted s client c v e = grind arith
 
 pub done-none : (r : Reply) (o : Option Refusal) → (refused_or r o) ≡ Done → o ≡ None
-done-none r None e = refl
-done-none r (Some why) e = absurd (let f : ⊥ = cc e in f)
+done-none r x e = grind arith
 
 pub done-or-refused : (r : Reply) (o : Option Refusal) → r ≡ Done → ((refused_or r o) ≡ Done) ⊎ ((why : Refusal) × ((refused_or r o) ≡ Refused why))
-done-or-refused r None e = inl e
-done-or-refused r (Some why) e = inr (why, refl)
+done-or-refused r x e = grind arith
 
 pub or-none : {A : Type 0} (a b : Option A) → option_or a b ≡ None → (a ≡ None) × (b ≡ None)
-or-none None b e = (refl, e)
-or-none (Some x) b e = absurd (let f : ⊥ = cc e in f)
+or-none x b e = grind arith
 
 pub not-refused : (row : Bool × Refusal) (rows : List (Bool × Refusal)) → first_refusal (row ∷ rows) ≡ None → (row.0 ≡ false) × (first_refusal rows ≡ None)
-not-refused (false, r) rows e = (refl, e)
-not-refused (true, r) rows e = absurd (let f : ⊥ = cc e in f)
+not-refused x rows e = grind arith
 
 -- what is kept
 pub last-kept : (s : NodeState) (at : CallNo) (c : Call) (r : Reply) → IsConsistent s → of_client (kept_after s at c r).last 0 ≡ Some (record { no = at; reply = r })
-last-kept s at c r v =
-    let long : length s.last ≡ 32 = v.limits.clients.0 in
-    let lt : 0 < length s.last = omega (arith, long) in
-    get_or-set_same s.last 0 (Some (record { no = at; reply = r })) None lt
+last-kept s at c r v = grind (arith, get_or-set_same)
 
 pub keep_last : (s : NodeState) (at : CallNo) (c : Call) (r : Reply) → IsConsistent s → last_in (kept_after s at c r) ≡ at
 keep_last s at c r v = ap (λ o. option_map_or (λ (k : Kept). k.no) o zero_no) (last-kept s at c r v)
@@ -97,39 +51,15 @@ mark_of st x = record { owner = x.owner; tag = x.tag; status = st }
 seen : (owner tag : ℕ) (st : Status) (b c : Bool) → (owner == 0) ≡ b → (tag == 0) ≡ c → c ≡ not b → is_status st Idle ≡ false → ◌≡◌ {A = Option SessionMark} (Some (record { owner = owner; tag = tag; status = st })) (seen_of owner st (tag_if b tag))
 seen owner tag st true c p q r i = let z : owner ≡ 0 = eqb-true owner 0 p in ap (λ (n : ℕ). Some (record { owner = n; tag = tag; status = st })) z
 seen owner tag st false true p q r i = let z : tag ≡ 0 = eqb-true tag 0 q in ap (λ (n : ℕ). Some (record { owner = owner; tag = n; status = st })) z ∙ sym (ap (λ (b : Bool). if b then None else Some (record { owner = owner; tag = 0; status = st })) i)
-seen owner tag st false false p q r i = absurd (let f : ⊥ = cc r in f)
+seen owner tag st false false p q r i = absurd (cc r)
 
 session-shown : (o : Option Session) (st : Status) → SessionIsDue st o → option_map (mark_of st) o ≡ seen_of (option_map_or (λ (x : Session). x.owner) o 0) st (option_and_then (λ (x : Session). tag_if (x.owner == 0) x.tag) o)
-session-shown None Idle h = refl
-session-shown (Some x) Idle h = absurd h
-session-shown None Ready h = absurd h
-session-shown None Processing h = absurd h
-session-shown None Activating h = absurd h
-session-shown None Verifying h = absurd h
-session-shown None Activated h = absurd h
-session-shown None RollingBack h = absurd h
-session-shown None RolledBack h = absurd h
-session-shown None CleaningUp h = absurd h
-session-shown (Some x) Ready h = seen x.owner x.tag Ready (x.owner == 0) (x.tag == 0) refl refl h refl
-session-shown (Some x) Processing h = seen x.owner x.tag Processing (x.owner == 0) (x.tag == 0) refl refl h refl
-session-shown (Some x) Activating h = seen x.owner x.tag Activating (x.owner == 0) (x.tag == 0) refl refl h refl
-session-shown (Some x) Verifying h = seen x.owner x.tag Verifying (x.owner == 0) (x.tag == 0) refl refl h refl
-session-shown (Some x) Activated h = seen x.owner x.tag Activated (x.owner == 0) (x.tag == 0) refl refl h refl
-session-shown (Some x) RollingBack h = seen x.owner x.tag RollingBack (x.owner == 0) (x.tag == 0) refl refl h refl
-session-shown (Some x) RolledBack h = seen x.owner x.tag RolledBack (x.owner == 0) (x.tag == 0) refl refl h refl
-session-shown (Some x) CleaningUp h = seen x.owner x.tag CleaningUp (x.owner == 0) (x.tag == 0) refl refl h refl
+session-shown x y h = grind arith
 
 module _ (read : Reading) (clusters : List (Cluster Bytes)) where
   -- a step that leaves the session and the status
   pub keeps-of : (s t : NodeState) → t.session ≡ s.session → t.status ≡ s.status → KeepsSession (real read clusters) s t
-  keeps-of s t e q =
-      record {
-        mine = ap (λ o. option_and_then (λ (x : Session). tag_if (x.owner == 0) x.tag) o) e;
-        status = q;
-        planned = ap (λ o. map (λ (change : Change Bytes). change.part) (option_map_or (λ (x : Session). x.changes) o [])) e;
-        in_process = ap (λ o. option_and_then (λ (x : Session). x.processing) o) e;
-        outcome = ap (λ o. option_and_then (λ (x : Session). x.outcome) o) e;
-      }
+  keeps-of s t e q = grind arith
 
   pub keep_session : (s : NodeState) (at : CallNo) (c : Call) (r : Reply) → KeepsSession (real read clusters) s (kept_after s at c r)
   keep_session s at c r = keeps-of s (kept_after s at c r) refl refl
@@ -137,70 +67,18 @@ module _ (read : Reading) (clusters : List (Cluster Bytes)) where
   pub keep_transfers : (s : NodeState) (at : CallNo) (c : Call) (r : Reply) → KeepsTransfers (real read clusters) s (kept_after s at c r)
   keep_transfers s at c r = record { transfers = refl; received = λ id. refl }
 
-  pub keep_ended : (s : NodeState) (at : CallNo) (c : Call) (r : Reply) → ended_in (kept_after s at c r) ≡ ended_in s
-  keep_ended s at c r = refl
-
-  pub formatted_mine : mine_in (formatted clusters) ≡ None
-  formatted_mine = refl
-
-  pub formatted_transfers : ids_of (formatted clusters) 0 ≡ []
-  formatted_transfers = refl
-
-  pub formatted_last : last_in (formatted clusters) ≡ record { epoch = 0; number = 0 }
-  formatted_last = refl
-
-  -- no call ends a session
-  led-ended : (c : Call) (s : NodeState) → (led_by c s).ended ≡ s.ended
-  led-ended c s = go (status_table s.status c)
-    where
-      resume : (l : List (Change Bytes)) → ◌≡◌ {A = List (Option EndMark)} (elim l as (λ _. NodeState) [ [] ↦ clean_up Old s | change ∷ changes ↦ record s { status = Ready } ]).ended s.ended
-      resume [] = refl
-      resume (x ∷ xs) = refl
-
-      go : (o : Option Goal) → (option_map_or (arrive s) o s).ended ≡ s.ended
-      go None = refl
-      go (Some (To status)) = refl
-      go (Some (CleanUp outcome)) = refl
-      go (Some Resume) = resume (changes_in s)
-
   pub judge_ended : (s : NodeState) (c : Call) → ended_in (judged_in read s c).0 ≡ ended_in s
-  judge_ended s c = ap (λ l. of_client l 0) (judged-by s 0 (c) (verdict_for read s 0 (c)) (λ t. t.ended ≡ s.ended) refl (go c))
-    where
-      go : (d : Call) → (accepted s 0 (d) (verdict_for read s 0 (c))).ended ≡ s.ended
-      go Sync = refl
-      go (TransferStart size) = refl
-      go (TransferData id counter bytes) = refl
-      go (TransferExit id) = refl
-      go (DeleteTransfer id) = refl
-      go (ProcessSwPackage id tag) = led-ended (call.ProcessSwPackage id tag) (begin_processing s 0 id tag)
-      go Activate = led-ended call.Activate s
-      go Finish = led-ended call.Finish s
-      go Rollback = led-ended call.Rollback s
-      go Revert = led-ended call.RevertProcessedSwPackages s
-      go (Cancel id) = led-ended (call.Cancel id) (stop_processing s id)
+  judge_ended s c = grind arith
 
   pub refused : (s : NodeState) (c : Call) (why : Refusal) → (judged_in read s c).1 ≡ Refused why → (judged_in read s c).0 ≡ s
   refused s c why e = refused-leaves s 0 (c) (verdict_for read s 0 (c)) why e
-
-  pub sync_state : (s : NodeState) → (judged_in read s Sync).0 ≡ s
-  sync_state s = refl
 
   pub sync_reply : (s : NodeState) → IsConsistent s → (judged_in read s Sync).1 ≡ Synced (record { session = shown_session (real read clusters) s; ended = ended_in s; transfers = ids_of s 0 })
   sync_reply s v = ap (λ (a : Option SessionMark). Synced (record { session = a; ended = ended_in s; transfers = ids_of s 0 })) (session-shown s.session s.status v.session)
 
   -- each of the six calls is done or refused
   pub six_replies : (s : NodeState) (c : Call) → (c ≡ Activate) ⊎ ((c ≡ Finish) ⊎ ((c ≡ Rollback) ⊎ (c ≡ Revert))) → ((judged_in read s c).1 ≡ Done) ⊎ ((why : Refusal) × ((judged_in read s c).1 ≡ Refused why))
-  six_replies s c h =
-      elim h [
-        | inl e ↦ subst (λ d. ((judged_in read s d).1 ≡ Done) ⊎ ((why : Refusal) × ((judged_in read s d).1 ≡ Refused why))) (sym e) (done-or-refused reply.Done (refusal s 0 call.Activate (verdict_for read s 0 call.Activate)) refl)
-        | inr a ↦ elim a [
-          | inl e ↦ subst (λ d. ((judged_in read s d).1 ≡ Done) ⊎ ((why : Refusal) × ((judged_in read s d).1 ≡ Refused why))) (sym e) (done-or-refused reply.Done (refusal s 0 call.Finish (verdict_for read s 0 call.Finish)) refl)
-          | inr b ↦ elim b [
-            | inl e ↦ subst (λ d. ((judged_in read s d).1 ≡ Done) ⊎ ((why : Refusal) × ((judged_in read s d).1 ≡ Refused why))) (sym e) (done-or-refused reply.Done (refusal s 0 call.Rollback (verdict_for read s 0 call.Rollback)) refl)
-            | inr e ↦ subst (λ d. ((judged_in read s d).1 ≡ Done) ⊎ ((why : Refusal) × ((judged_in read s d).1 ≡ Refused why))) (sym e) (done-or-refused reply.Done (refusal s 0 call.RevertProcessedSwPackages (verdict_for read s 0 call.RevertProcessedSwPackages)) refl)
-          ]
-        ]
-      ]
+  six_replies s c h = grind (arith, nat_tests)
 
   pub process_replies : (s : NodeState) (id tag : ℕ) → ((judged_in read s (ProcessSwPackage id tag)).1 ≡ Done) ⊎ ((why : Refusal) × ((judged_in read s (ProcessSwPackage id tag)).1 ≡ Refused why))
   process_replies s id tag = done-or-refused reply.Done (refusal s 0 (call.ProcessSwPackage id tag) (verdict_for read s 0 (call.ProcessSwPackage id tag))) refl
@@ -219,24 +97,7 @@ module _ (read : Reading) (clusters : List (Cluster Bytes)) where
       go (Some why) = inr (why, refl)
 
   pub synced_only : (s : NodeState) (c : Call) (x : Shown) → (judged_in read s c).1 ≡ Synced x → c ≡ Sync
-  synced_only s c x e = go c e
-    where
-      none : (r : Reply) (o : Option Refusal) → ((y : Shown) → r ≢ Synced y) → (refused_or r o) ≢ Synced x
-      none r None n q = n x q
-      none r (Some why) n q = cc q
-
-      go : (d : Call) → (judged_in read s d).1 ≡ Synced x → d ≡ Sync
-      go Sync q = refl
-      go (TransferStart size) q = absurd (none (reply.Started s.next_id) (refusal s 0 (call.TransferStart size) (verdict_for read s 0 (call.TransferStart size))) (λ y z. cc z) q)
-      go (TransferData id counter bytes) q = absurd (none reply.Done (refusal s 0 (call.TransferData id counter bytes) (verdict_for read s 0 (call.TransferData id counter bytes))) (λ y z. cc z) q)
-      go (TransferExit id) q = absurd (none reply.Done (refusal s 0 (call.TransferExit id) (verdict_for read s 0 (call.TransferExit id))) (λ y z. cc z) q)
-      go (DeleteTransfer id) q = absurd (none reply.Done (refusal s 0 (call.DeleteTransfer id) (verdict_for read s 0 (call.DeleteTransfer id))) (λ y z. cc z) q)
-      go (ProcessSwPackage id tag) q = absurd (none reply.Done (refusal s 0 (call.ProcessSwPackage id tag) (verdict_for read s 0 (call.ProcessSwPackage id tag))) (λ y z. cc z) q)
-      go Activate q = absurd (none reply.Done (refusal s 0 call.Activate (verdict_for read s 0 call.Activate)) (λ y z. cc z) q)
-      go Finish q = absurd (none reply.Done (refusal s 0 call.Finish (verdict_for read s 0 call.Finish)) (λ y z. cc z) q)
-      go Rollback q = absurd (none reply.Done (refusal s 0 call.Rollback (verdict_for read s 0 call.Rollback)) (λ y z. cc z) q)
-      go Revert q = absurd (none reply.Done (refusal s 0 call.RevertProcessedSwPackages (verdict_for read s 0 call.RevertProcessedSwPackages)) (λ y z. cc z) q)
-      go (Cancel id) q = absurd (none reply.Done (refusal s 0 (call.Cancel id) (verdict_for read s 0 (call.Cancel id))) (λ y z. cc z) q)
+  synced_only s c x e = grind arith
 
   -- transfers don't touch the session
   pub start_session : (s : NodeState) (size : ℕ) → KeepsSession (real read clusters) s (judged_in read s (TransferStart size)).0

@@ -1,45 +1,22 @@
 -- From the decision Commit on: a session that is Activated for the campaign ends as New, once.
-use Rattle.std.proofs.Common.{◌≡◌, ◌⊎◌, inl, inr, if◌then◌else◌, ◌&&◌, ◌||◌, ℕ, List, [], ◌∷◌, Option, Some, None, Bool, true, false, refl, sym, ◌∙◌, ap, subst}
-use Rattle.pm_types.specs.declared.status.Outcome.TheVariants.{New}
-use Rattle.pm_types.specs.declared.status.Status.{Status}
-use Rattle.pm_types.specs.declared.status.Status.TheVariants.{Activated, CleaningUp}
-use Rattle.campaign_core.specs.declared.events.Decision.TheVariants.{Commit}
-use Rattle.pm_types.specs.declared.calls.Call.{Call}
-use Rattle.pm_types.specs.declared.calls.Call.TheVariants.{Sync, TransferStart, TransferData, TransferExit, DeleteTransfer, ProcessSwPackage, Activate, Finish, Rollback, RevertProcessedSwPackages as Revert, Cancel}
-use Rattle.world.specs.Messages.{is_status}
-use Rattle.world.proofs.Rules.{NodeRules, NodeLaws, KeepsSession}
-use Rattle.world.specs.Messages.{Message, is_sync}
-use Rattle.world.proofs.RulesWorld.{Move, Delivered, Foreign, Unit_done, after}
-use Rattle.world.specs.Sends.{end_call_at, delete_at}
-use Rattle.world.proofs.RulesLaw.{Spans, spans, begins_span, IsNew}
-use Rattle.world.proofs.Invariant.{Executable}
-use Rattle.world.proofs.NodeLemmas.{refused-or, delivered-cases}
-use Rattle.world.proofs.Events.{above-last}
+use Rattle.world.proofs.Names.{arith, ◌≡◌, ◌⊎◌, inl, inr, if◌then◌else◌, ◌&&◌, ◌||◌, ℕ, List, [], ◌∷◌, Option, Some}
+use Rattle.world.proofs.Names.{Bool, true, false, refl, sym, ◌∙◌, subst, New, Status, Activated, CleaningUp, Commit}
+use Rattle.world.proofs.Names.{Call, Sync, DeleteTransfer, Finish, is_status, Message, is_sync, end_call_at, delete_at}
+use Rattle.world.proofs.Names.{◌≢◌, ◌++◌, ◌≤◌, None, is_some, ap, nat_tests, flat_map, Decision, CampaignResult}
+use Rattle.world.proofs.Names.{Successful, Fold, Current, flag_of, all_ended, is_result_of, IsBelow, Told, InSent}
+use Rattle.world.proofs.Names.{Packages, last_status, last_shown, next_number, MaySend, MaySendBy, MaySendLate, has_tag}
+use Rattle.world.proofs.Rules.{NodeRules, NodeLaws, Move, Delivered, Foreign, Unit_done, after, Spans, spans}
+use Rattle.world.proofs.Rules.{begins_span, IsNew, reached, delivered, NodeWorld, state_of, is_fresh_done, InEarlier}
+use Rattle.world.proofs.Invariant.{Executable, KeptOld, KeptFold, refused-or}
+use Rattle.world.proofs.Events.{above-last, begins-mine}
+use Rattle.world.proofs.Records.{flagged-ended, SameFold, some-inj, in-append}
 
 -- a call that is sent after Commit
 abbrev pub IsCalm : Call → Type 0
 IsCalm call = (call ≡ Sync) ⊎ ((call ≡ Finish) ⊎ ((id : ℕ) × (call ≡ DeleteTransfer id)))
 
 pub late-commit : (call : Call) (o : Option Status) (shown : Option _) → (is_sync call || (end_call_at Commit o call || delete_at shown call)) ≡ true → IsCalm call
-late-commit Sync o shown e = inl refl
-late-commit Finish o shown e = inr (inl refl)
-late-commit (DeleteTransfer id) o shown e = inr (inr (id, refl))
-late-commit (TransferStart size) None shown e = absurd (let g : ⊥ = cc e in g)
-late-commit (TransferStart size) (Some s) shown e = absurd (let g : ⊥ = cc e in g)
-late-commit (TransferData id counter bytes) None shown e = absurd (let g : ⊥ = cc e in g)
-late-commit (TransferData id counter bytes) (Some s) shown e = absurd (let g : ⊥ = cc e in g)
-late-commit (TransferExit id) None shown e = absurd (let g : ⊥ = cc e in g)
-late-commit (TransferExit id) (Some s) shown e = absurd (let g : ⊥ = cc e in g)
-late-commit (ProcessSwPackage id tag) None shown e = absurd (let g : ⊥ = cc e in g)
-late-commit (ProcessSwPackage id tag) (Some s) shown e = absurd (let g : ⊥ = cc e in g)
-late-commit Activate None shown e = absurd (let g : ⊥ = cc e in g)
-late-commit Activate (Some s) shown e = absurd (let g : ⊥ = cc e in g)
-late-commit Rollback None shown e = absurd (let g : ⊥ = cc e in g)
-late-commit Rollback (Some s) shown e = absurd (let g : ⊥ = cc e in g)
-late-commit Revert None shown e = absurd (let g : ⊥ = cc e in g)
-late-commit Revert (Some s) shown e = absurd (let g : ⊥ = cc e in g)
-late-commit (Cancel id) None shown e = absurd (let g : ⊥ = cc e in g)
-late-commit (Cancel id) (Some s) shown e = absurd (let g : ⊥ = cc e in g)
+late-commit x y shown e = grind arith
 
 module _ (N : NodeRules) (laws : NodeLaws N) (k : ℕ) (changes : List N.Change) where
   -- the campaign's session waits for Finish, or is being cleaned up after it
@@ -53,23 +30,8 @@ module _ (N : NodeRules) (laws : NodeLaws N) (k : ℕ) (changes : List N.Change)
     pub is_open : (spans N k moves).is_open ≡ true
     pub none : (spans N k moves).ended ≡ []
 
-  pub waits-keeps : (s t : N.State) → KeepsSession N s t → Waits s → Waits t
-  waits-keeps s t keeps w =
-      record {
-        mine = keeps.mine ∙ w.mine;
-        status = elim w.status [ inl a ↦ inl (keeps.status ∙ a) | inr c ↦ inr (keeps.status ∙ c.0, keeps.outcome ∙ c.1) ];
-        planned = keeps.planned ∙ w.planned;
-      }
-
   pub waits-judge : (s : N.State) (call : Call) → IsCalm call → Waits s → Waits (N.judge s call).0
-  waits-judge s call calm w =
-      elim calm [
-        | inl e ↦ subst (λ c. Waits (N.judge s c).0) (sym e) (subst (λ t. Waits t) (sym (laws.sync_state s)) w)
-        | inr h ↦ elim h [
-          | inl e ↦ subst (λ c. Waits (N.judge s c).0) (sym e) finished
-          | inr d ↦ subst (λ c. Waits (N.judge s c).0) (sym d.1) (waits-keeps s (N.judge s (DeleteTransfer d.0)).0 (laws.delete_session s d.0) w)
-        ]
-      ]
+  waits-judge s call calm w = grind (arith, finished, laws.sync_state, laws.delete_session)
     where
       finished : Waits (N.judge s Finish).0
       finished =
@@ -77,40 +39,22 @@ module _ (N : NodeRules) (laws : NodeLaws N) (k : ℕ) (changes : List N.Change)
           let m = laws.finish_mine s d in
           elim m.2 [
             | inl a ↦ (let o = laws.finish_new.only s k w.mine d a in record { mine = o.0; status = inr (o.1, o.3); planned = o.2 ∙ w.planned })
-            | inr b ↦ absurd (elim w.status [ inl x ↦ (let g : ⊥ = cc (b, x) in g) | inr y ↦ (let g : ⊥ = cc (b, y.0) in g) ])
+            | inr b ↦ absurd (elim w.status [ inl x ↦ (cc (b, x)) | inr y ↦ (cc (b, y.0)) ])
           ])
-
-  pub waiting-foreign : (moves : List (Move N)) (call : N.ForeignCall) → IsWaiting moves → IsWaiting (Foreign call ∷ moves)
-  waiting-foreign moves call w =
-      record { waits = waits-keeps (after N moves) (N.foreign (after N moves) call) (laws.foreign_session (after N moves) call k w.waits.mine) w.waits; is_open = w.is_open; none = w.none }
 
   pub waiting-delivered : (moves : List (Move N)) (m : Message) → (Executable N (after N moves) m → IsCalm m.call) → IsWaiting moves → IsWaiting (Delivered m ∷ moves)
   waiting-delivered moves m calm w =
-      record {
-        waits =
-            delivered-cases N laws (after N moves) m.at m.call (λ t. Waits t) w.waits (λ a b.
-            waits-keeps (N.judge (after N moves) m.call).0 _ (laws.keep_session (N.judge (after N moves) m.call).0 m.at m.call (N.judge (after N moves) m.call).1)
-            (waits-judge (after N moves) m.call (calm (above-last m.at (N.last (after N moves)) a b)) w.waits));
-        is_open = subst (λ b. (b || begins_span N k (after N moves) m) ≡ true) (sym w.is_open) refl;
-        none = w.none;
-      }
+      grind (arith, after, laws.keep_session, waits-judge, above-last, begins_span)
 
   -- a unit goes on waiting, or ends the one span as New
   pub waiting-unit : (moves : List (Move N)) (passed : Bool) → IsWaiting moves → IsWaiting (Unit_done passed ∷ moves) ⊎ IsNew N k changes (Unit_done passed ∷ moves)
   waiting-unit moves passed w = elim w.waits.status [ inl a ↦ inl (waiting a) | inr c ↦ inr (ends c.0 c.1) ]
     where
-      still_spans : (b : Bool) → (spans N k moves).is_open ≡ true → b ≡ false → (z : Spans N) → (if ((spans N k moves).is_open && b) then z else spans N k moves) ≡ spans N k moves
-      still_spans b o e z = subst (λ c. (if ((spans N k moves).is_open && c) then z else spans N k moves) ≡ spans N k moves) (sym e) (subst (λ c. (if (c && false) then z else spans N k moves) ≡ spans N k moves) (sym o) refl)
-
       shut_spans : (b : Bool) → (spans N k moves).is_open ≡ true → b ≡ true → (z : Spans N) → (if ((spans N k moves).is_open && b) then z else spans N k moves) ≡ z
       shut_spans b o e z = subst (λ c. (if ((spans N k moves).is_open && c) then z else spans N k moves) ≡ z) (sym e) (subst (λ c. (if (c && true) then z else spans N k moves) ≡ z) (sym o) refl)
 
       waiting : N.status (after N moves) ≡ Activated → IsWaiting (Unit_done passed ∷ moves)
-      waiting a =
-          let same : N.unit (after N moves) passed ≡ after N moves = laws.unit_still (after N moves) passed (rw a refl) in
-          let no_close : is_status (N.status (after N moves)) CleaningUp ≡ false = rw a refl in
-          let e = still_spans (is_status (N.status (after N moves)) CleaningUp) w.is_open no_close (record { is_open = false; ended = record { outcome = N.outcome (after N moves); before = after N moves; left = N.unit (after N moves) passed } ∷ (spans N k moves).ended }) in
-          record { waits = subst (λ t. Waits t) (sym same) w.waits; is_open = ap (λ y. y.is_open) e ∙ w.is_open; none = ap (λ y. y.ended) e ∙ w.none }
+      waiting a = grind arith
 
       ends : N.status (after N moves) ≡ CleaningUp → N.outcome (after N moves) ≡ Some New → IsNew N k changes (Unit_done passed ∷ moves)
       ends c o =
@@ -138,12 +82,147 @@ module _ (N : NodeRules) (laws : NodeLaws N) (k : ℕ) (changes : List N.Change)
 
   pub new-delivered : (moves : List (Move N)) (m : Message) → begins_span N k (after N moves) m ≡ false → IsNew N k changes moves → IsNew N k changes (Delivered m ∷ moves)
   new-delivered moves m no_begin h =
+      record { span = h.span; only = grind (arith, begins_span, after); outcome = h.outcome; brings = h.brings }
+
+-- What every event keeps of the half for successful campaigns, from the decision Commit on.
+bool-cases : (b : Bool) → (b ≡ true → ⊥) → b ≡ false
+bool-cases true f = absurd (f refl)
+bool-cases false f = refl
+
+has-tag-process : (k : ℕ) (call : Call) → IsCalm call → has_tag k call ≡ false
+has-tag-process k call x = grind arith
+
+module _ (N : NodeRules) (laws : NodeLaws N) (packages : Packages) (n : ℕ) where
+  abbrev pub changes_of : ℕ → List N.Change
+  changes_of k = flat_map N.changes_of (packages k n)
+
+  pub record KeptCommitted (f : Fold) (x : NodeWorld N) : Type 0 where
+    pub calm : (c : Current) → f.current ≡ Some c → c.decision ≡ Some Commit → (m : Message) → InSent m x.sent → Executable N (state_of N x) m → IsCalm m.call
+    pub committed : (c : Current) → f.current ≡ Some c → c.decision ≡ Some Commit → flag_of c.named n ≡ true → IsWaiting N laws c.campaign (changes_of c.campaign) x.moves ⊎ IsNew N c.campaign (changes_of c.campaign) x.moves
+    pub entered : (k : ℕ) → InEarlier (k, Successful) f.earlier → 1 ≤ n → n ≤ 8 → packages k n ≢ [] → IsNew N k (changes_of k) x.moves
+
+  -- an executed delivery was executable
+  fresh-exec : (s : N.State) (m : Message) → is_fresh_done (reached N s m.at m.call) ≡ true → Executable N s m
+  fresh-exec s m e = grind (arith, nat_tests)
+
+  exec-back : (s : N.State) (m m' : Message) → Executable N (delivered N s m.at m.call) m' → Executable N s m'
+  exec-back s m m' = grind (arith, nat_tests)
+
+  calm-begins : (k : ℕ) (s : N.State) (m : Message) → (Executable N s m → IsCalm m.call) → begins_span N k s m ≡ false
+  calm-begins k s m calm = grind arith
+
+  pub committed-deliver : (f : Fold) (x : NodeWorld N) (m : Message) → InSent m x.sent → KeptFold f → KeptOld N f n (record { moves = Delivered m ∷ x.moves; sent = x.sent; told = x.told }) → KeptCommitted f x → KeptCommitted f (record { moves = Delivered m ∷ x.moves; sent = x.sent; told = x.told })
+  committed-deliver f x m sent fold old kept =
       record {
-        span = h.span;
-        only =
-            let with_open : Bool → Spans N = λ b. record { is_open = b; ended = h.span ∷ [] } in
-            let P : Spans N → Type 0 = λ y. ◌≡◌ {A = Spans N} (record { is_open = y.is_open || begins_span N k (after N moves) m; ended = y.ended }) (record { is_open = false; ended = h.span ∷ [] }) in
-            subst P (sym h.only) (ap with_open no_begin);
-        outcome = h.outcome;
-        brings = h.brings;
+        calm = λ c current commit m' h exec. kept.calm c current commit m' h (exec-back (state_of N x) m m' exec);
+        committed = λ c current commit named.
+            elim (kept.committed c current commit named) [
+              | inl w ↦ inl (waiting-delivered N laws c.campaign (changes_of c.campaign) x.moves m (kept.calm c current commit m sent) w)
+              | inr h ↦ inr (new-delivered N laws c.campaign (changes_of c.campaign) x.moves m (calm-begins c.campaign (state_of N x) m (kept.calm c current commit m sent)) h)
+            ];
+        entered = λ k earlier low high named.
+            new-delivered N laws k (changes_of k) x.moves m
+            (bool-cases (begins_span N k (state_of N x) m) (λ e.
+            let p = old.session k (begins-mine N laws f n k (state_of N x) m.at m.call e) in
+            fold.above p.0 p.1 k Successful earlier p.4))
+            (kept.entered k earlier low high named);
       }
+
+  pub committed-foreign : (f : Fold) (x : NodeWorld N) (call : N.ForeignCall) → KeptCommitted f x → KeptCommitted f (record { moves = Foreign call ∷ x.moves; sent = x.sent; told = x.told })
+  committed-foreign f x call kept =
+      record {
+        calm = λ c current commit m h exec. kept.calm c current commit m h (subst (λ l. IsBelow l m.at) (laws.foreign_last (state_of N x) call).0 exec);
+        committed = λ c current commit named. grind (arith, new-foreign);
+        entered = λ k earlier low high named. new-foreign N laws k (changes_of k) x.moves call (kept.entered k earlier low high named);
+      }
+
+  pub committed-unit : (f : Fold) (x : NodeWorld N) (passed : Bool) → KeptCommitted f x → KeptCommitted f (record { moves = Unit_done passed ∷ x.moves; sent = x.sent; told = x.told })
+  committed-unit f x passed kept =
+      record {
+        calm = λ c current commit m h exec. kept.calm c current commit m h (subst (λ l. IsBelow l m.at) (laws.unit_last (state_of N x) passed).0 exec);
+        committed = λ c current commit named.
+            elim (kept.committed c current commit named) [
+              | inl w ↦ waiting-unit N laws c.campaign (changes_of c.campaign) x.moves passed w
+              | inr h ↦ inr (new-unit N laws c.campaign (changes_of c.campaign) x.moves passed h)
+            ];
+        entered = λ k earlier low high named. new-unit N laws k (changes_of k) x.moves passed (kept.entered k earlier low high named);
+      }
+
+  pub committed-send : (f : Fold) (x : NodeWorld N) (c : Current) (call : Call) → f.current ≡ Some c → MaySend packages f.epoch n c x.told x.sent call → KeptCommitted f x → KeptCommitted f (record { moves = x.moves; sent = record { at = next_number f.epoch x.sent; call = call; campaign = c.campaign; decided = is_some c.decision } ∷ x.sent; told = x.told })
+  committed-send f x c call current may kept =
+      record {
+        calm = λ c' current' commit m h exec.
+            elim h [
+              | inl e ↦
+                  (let same : c' ≡ c = some-inj c' c (sym current' ∙ current) in
+                  let w : c.decision ≡ Some Commit = sym (ap (λ y. y.decision) same) ∙ commit in
+                  let late : MaySendLate f.epoch n c Commit x.told call = subst (λ o. MaySendBy packages f.epoch n c o x.told x.sent call) w may.by in
+                  subst (λ y. IsCalm y) (sym (ap (λ y. y.call) e)) (late-commit call (last_status c.campaign f.epoch x.told) (last_shown c.campaign f.epoch x.told) late.allowed))
+              | inr h' ↦ kept.calm c' current' commit m h' exec
+            ];
+        committed = kept.committed;
+        entered = kept.entered;
+      }
+
+  pub committed-told : (f : Fold) (x : NodeWorld N) (told : List Told) → KeptCommitted f x → KeptCommitted f (record { moves = x.moves; sent = x.sent; told = told })
+  committed-told f x told kept = record { calm = kept.calm; committed = kept.committed; entered = kept.entered }
+
+  pub committed-same : (f g : Fold) (x : NodeWorld N) → SameFold n f g → KeptCommitted f x → KeptCommitted g x
+  committed-same f g x same kept =
+      record {
+        calm = λ d current commit. let b = same.back d current in kept.calm b.0 b.1 (sym b.2.decision ∙ commit);
+        committed = λ d current commit named. grind arith;
+        entered = λ k earlier low high named. kept.entered k (subst (λ l. InEarlier (k, Successful) l) same.earlier earlier) low high named;
+      }
+
+  pub committed-ended : (f : Fold) (x : NodeWorld N) (c d : Current) → f.current ≡ Some c → d.campaign ≡ c.campaign → d.named ≡ c.named → d.decision ≡ c.decision → KeptCommitted f x → KeptCommitted (record f { current = Some d }) x
+  committed-ended f x c d e campaign named decision kept =
+      record {
+        calm = λ y current commit. kept.calm c e (sym decision ∙ (ap (λ z. z.decision) (some-inj d y current) ∙ commit));
+        committed = λ y current commit flag.
+            let same = some-inj d y current in
+            subst (λ k. IsWaiting N laws k (changes_of k) x.moves ⊎ IsNew N k (changes_of k) x.moves) (sym campaign ∙ ap (λ z. z.campaign) same)
+            (kept.committed c e (sym decision ∙ (ap (λ z. z.decision) same ∙ commit)) (sym (ap (λ z. flag_of z n) named) ∙ (ap (λ z. flag_of z.named n) same ∙ flag)));
+        entered = kept.entered;
+      }
+
+  -- what is owed at the decision: each named node is Activated for the campaign and nothing is executable there
+  pub record IsReadyToCommit (c : Current) (x : NodeWorld N) : Type 0 where
+    pub waiting : flag_of c.named n ≡ true → IsWaiting N laws c.campaign (changes_of c.campaign) x.moves
+    pub quiet : (m : Message) → InSent m x.sent → Executable N (state_of N x) m → ⊥
+
+  pub committed-decide : (f : Fold) (x : NodeWorld N) (c : Current) (d : Decision) → f.current ≡ Some c → (d ≡ Commit → IsReadyToCommit c x) → KeptCommitted f x → KeptCommitted (record { epoch = f.epoch; earlier = f.earlier; current = Some (record c { decision = Some d }) }) x
+  committed-decide f x c d current ready kept =
+      record {
+        calm = λ c' current' commit m h exec. absurd ((ready (is_commit c' current' commit)).quiet m h exec);
+        committed = λ c' current' commit named. grind (arith, some-inj);
+        entered = kept.entered;
+      }
+    where
+      is_commit : (c' : Current) → Some (record c { decision = Some d }) ≡ Some c' → c'.decision ≡ Some Commit → d ≡ Commit
+      is_commit c' e commit = let q : Some d ≡ Some Commit = ap (λ y. y.decision) (some-inj (record c { decision = Some d }) c' e) ∙ commit in cc q
+
+  pub committed-enter : (f : Fold) (x : NodeWorld N) (c : Current) (r : CampaignResult) → f.current ≡ Some c → (1 ≤ n → n ≤ 8 → packages c.campaign n ≢ [] → flag_of c.named n ≡ true) → all_ended c ≡ true → is_result_of c.decision r ≡ true → KeptOld N f n x → KeptCommitted f x → KeptCommitted (record { epoch = f.epoch; earlier = f.earlier ++ (c.campaign, r) ∷ []; current = None }) x
+  committed-enter f x c r current names ended result old kept =
+      record {
+        calm = λ c' current'. absurd (cc current');
+        committed = λ c' current'. absurd (cc current');
+        entered = λ k earlier low high named.
+            elim (in-append (k, Successful) f.earlier (c.campaign, r) earlier) [
+              | inl h ↦ kept.entered k h low high named
+              | inr e ↦
+                  (let k_is : k ≡ c.campaign = ap (λ y. y.0) e in
+                  let r_is : Successful ≡ r = ap (λ y. y.1) e in
+                  let flag = names low high (subst (λ j. packages j n ≢ []) k_is named) in
+                  let commit = success c.decision (subst (λ y. is_result_of c.decision y ≡ true) (sym r_is) result) in
+                  subst (λ j. IsNew N j (changes_of j) x.moves) (sym k_is)
+                  (elim (kept.committed c current commit flag) [ inl w ↦ absurd (waits_no_more w) | inr h ↦ h ]))
+            ];
+      }
+    where
+      success : (o : Option Decision) → is_result_of o Successful ≡ true → o ≡ Some Commit
+      success (Some Commit) e = refl
+      success _ e = absurd (cc e)
+
+      waits_no_more : IsWaiting N laws c.campaign (changes_of c.campaign) x.moves → ⊥
+      waits_no_more w = grind (arith, flagged-ended)

@@ -1,103 +1,39 @@
 -- Before the decision: what each event at a node keeps.
-use Rattle.std.proofs.Common.{◌≡◌, ◌≢◌, ◌⊎◌, inl, inr, if◌then◌else◌, ◌&&◌, ◌||◌, not, ◌+◌, ℕ, zero, suc, ◌<◌, List, [], ◌∷◌, Option, Some, None, Bool, true, false, is_some, nat_eq, refl, sym, ◌∙◌, ap, subst, arith}
-use Rattle.std.proofs.lemmas.Bool.{eqb-true, eq-eqb}
-use Rattle.ucm_base.specs.declared.ids.CallNo.{CallNo}
-use Rattle.pm_types.specs.declared.status.Status.{Status}
-use Rattle.pm_types.specs.declared.status.Status.TheVariants.{Activated, CleaningUp}
-use Rattle.ucm_base.specs.declared.ids.NodeSet.{NodeSet}
-use Rattle.campaign_core.specs.declared.events.Vote.{Vote}
-use Rattle.campaign_core.specs.declared.fold.Fold.{Fold}
-use Rattle.campaign_core.specs.declared.fold.Current.{Current}
-use Rattle.campaign_core.specs.Nodes.{flag_of}
-use Rattle.campaign_core.specs.Campaign.{vote_of, all_yes, all_below, begun}
-use Rattle.world.proofs.Parts.{part-none, flagged-yes}
-use Rattle.pm_types.specs.declared.calls.Call.{Call}
-use Rattle.pm_types.specs.declared.replies.Reply.{Reply}
-use Rattle.pm_types.specs.declared.calls.Call.TheVariants.{Sync, TransferStart, TransferData, TransferExit, DeleteTransfer, ProcessSwPackage, Activate, Finish, Rollback, RevertProcessedSwPackages as Revert, Cancel}
-use Rattle.pm_types.specs.declared.replies.Reached.TheVariants.{Stale, Again, Done as Fresh}
-use Rattle.world.specs.Messages.{IsBelow, no_lt, no_eq, is_status}
-use Rattle.world.proofs.Rules.{NodeRules, NodeLaws, reached, delivered}
-use Rattle.world.specs.Rounds.{Over}
-use Rattle.world.specs.Messages.{Message, Told, Answered, Showed, InSent, InTold, is_sync, is_told}
-use Rattle.world.proofs.RulesWorld.{Delivered, Foreign, Unit_done, NodeWorld, state_of}
-use Rattle.world.specs.Sends.{Packages, is_end_sync, activate_done, showed_after_activate, may_follow, MaySend, MaySendBy, MaySendEarly, next_number}
-use Rattle.world.specs.Evidence.{EndEvidence}
-use Rattle.world.proofs.RulesLaw.{spans}
+use Rattle.world.proofs.Names.{and_parts, ◌≡◌, ◌≢◌, ◌⊎◌, inl, inr, ◌&&◌, ◌||◌, not, ℕ, List, [], ◌∷◌, Option, Some}
+use Rattle.world.proofs.Names.{None, Bool, true, false, is_some, nat_eq, refl, sym, ◌∙◌, ap, subst, arith, eqb-true}
+use Rattle.world.proofs.Names.{eq-eqb, Status, Activated, NodeSet, Vote, Fold, Current, flag_of, vote_of, all_yes}
+use Rattle.world.proofs.Names.{all_below, begun, Call, Reply, Sync, IsBelow, is_status, Message, Told, Answered, Showed}
+use Rattle.world.proofs.Names.{InSent, InTold, is_sync, is_told, Over, Packages, is_end_sync, activate_done}
+use Rattle.world.proofs.Names.{showed_after_activate, may_follow, MaySend, MaySendBy, MaySendEarly, next_number}
+use Rattle.world.proofs.Names.{EndEvidence}
+use Rattle.world.proofs.Records.{flagged-yes, some-inj, none-some}
+use Rattle.world.proofs.Rules.{NodeRules, NodeLaws, Delivered, Foreign, Unit_done, NodeWorld, state_of, spans}
 use Rattle.world.proofs.Invariant.{Executable, InPresent, IsFresh, KeptOld, Falling}
-use Rattle.world.proofs.EarlyFacts.{ClientEntry, with_entry, round_entries, InEntries, stage_after, IsAt, Activates, EarlyAt, KeptEarly, KeptLive}
-use Rattle.world.proofs.Events.{below-trans, eq-tests, span-ended, is-cleaning}
+use Rattle.world.proofs.EarlyFacts.{ClientEntry, with_entry, round_entries, InEntries, stage_after, IsAt, Activates}
+use Rattle.world.proofs.EarlyFacts.{EarlyAt, KeptEarly, KeptLive}
+use Rattle.node_laws.proofs.NameLists.{or-right}
+use Rattle.world.proofs.Events.{below-trans, span-ended, is-cleaning, open-mine}
 use Rattle.world.proofs.Sends.{next-above, next-epoch}
-use Rattle.world.proofs.Records.{some-inj, none-some, and-both}
-use Rattle.world.proofs.CommittedEvents.{IsReadyToCommit}
-use Rattle.world.proofs.AtRounds.{at-not_cleaning}
-use Rattle.world.proofs.EarlyNode.{judged-cases, is-next, over-none, showed-done, all-answered, early-judged, early-foreign, early-unit, early-answered, early-showed, early-sent}
-use Rattle.world.proofs.OpenSpans.{open-mine}
+use Rattle.world.proofs.Committed.{IsReadyToCommit}
+use Rattle.world.proofs.EarlyNode.{judged-cases, is-next, over-none, showed-done, all-answered, early-judged}
+use Rattle.world.proofs.EarlyNode.{early-foreign, early-unit, early-answered, early-showed, early-sent}
 
 pub in-current : (f : Fold) (n : ℕ) (k : ℕ) (c : Current) → f.current ≡ Some c → InPresent f n (λ y. k ≡ y.campaign) → k ≡ c.campaign
 in-current f n k c current h = h.4 ∙ ap (λ y. y.campaign) (some-inj h.0 c (sym h.1 ∙ current))
 
-or-right : (a b : Bool) → b ≡ true → (a || b) ≡ true
-or-right true b e = refl
-or-right false b e = e
-
 sync-is : (call : Call) → is_sync call ≡ true → call ≡ Sync
-sync-is Sync e = refl
-sync-is (TransferStart size) e = absurd (let g : ⊥ = cc e in g)
-sync-is (TransferData id counter bytes) e = absurd (let g : ⊥ = cc e in g)
-sync-is (TransferExit id) e = absurd (let g : ⊥ = cc e in g)
-sync-is (DeleteTransfer id) e = absurd (let g : ⊥ = cc e in g)
-sync-is (ProcessSwPackage id tag) e = absurd (let g : ⊥ = cc e in g)
-sync-is Activate e = absurd (let g : ⊥ = cc e in g)
-sync-is Finish e = absurd (let g : ⊥ = cc e in g)
-sync-is Rollback e = absurd (let g : ⊥ = cc e in g)
-sync-is Revert e = absurd (let g : ⊥ = cc e in g)
-sync-is (Cancel id) e = absurd (let g : ⊥ = cc e in g)
+sync-is x e = grind arith
 
 -- what the message before a new one of an undecided campaign is
 told-before : (a b d e g : Bool) → a ≡ true → d ≡ true → g ≡ false → (not a || (b || (not d || (e && g)))) ≡ true → b ≡ true
 told-before a true d e g p q r h = refl
-told-before a false d e g p q r h = absurd (last e (subst (λ x. (false || (false || (e && x))) ≡ true) r (subst (λ x. (false || (false || (not x || (e && g)))) ≡ true) q (subst (λ x. (not x || (false || (not d || (e && g)))) ≡ true) p h))))
-  where
-    last : (x : Bool) → (x && false) ≡ true → ⊥
-    last true z = cc z
-    last false z = cc z
+told-before a false d e g p q r h = grind arith
 
 module _ (N : NodeRules) (laws : NodeLaws N) (packages : Packages) (numbers : List ℕ) where
-  -- the number of a delivered message that was not Stale is the last one
-  pub last-facts : (s : N.State) (m : Message) (r : Reply) → (reached N s m.at m.call ≡ Again r) ⊎ (reached N s m.at m.call ≡ Fresh r) → m.at ≡ N.last (delivered N s m.at m.call)
-  last-facts s m r h = go (no_lt m.at (N.last s)) (no_eq m.at (N.last s)) refl refl h
-    where
-      join : (a b : CallNo) → a.epoch ≡ b.epoch → a.number ≡ b.number → a ≡ b
-      join a b p q = no-join a.epoch a.number b.epoch b.number p q
-        where
-          no-join : (e n e' n' : ℕ) → e ≡ e' → n ≡ n' → ◌≡◌ {A = CallNo} (record { epoch = e; number = n }) (record { epoch = e'; number = n' })
-          no-join e n e' n' p' q' = cc
-
-      go : (a b : Bool) → no_lt m.at (N.last s) ≡ a → no_eq m.at (N.last s) ≡ b → ((if a then Stale (N.last s) else (if b then Again (N.kept s) else Fresh (N.judge s m.call).1)) ≡ Again r) ⊎ ((if a then Stale (N.last s) else (if b then Again (N.kept s) else Fresh (N.judge s m.call).1)) ≡ Fresh r) → m.at ≡ N.last (if a then s else (if b then s else N.keep (N.judge s m.call).0 m.at m.call (N.judge s m.call).1))
-      go true b p q h' = absurd (elim h' [ inl e ↦ (let g : ⊥ = cc e in g) | inr e ↦ (let g : ⊥ = cc e in g) ])
-      go false true p q h' = let same = eq-tests m.at.epoch m.at.number (N.last s).epoch (N.last s).number p q in join m.at (N.last s) same.0 same.1
-      go false false p q h' = sym (laws.keep_last (N.judge s m.call).0 m.at m.call (N.judge s m.call).1)
-
   module _ (n : ℕ) where
     -- the last number is below the next
     pub next-exec : (f : Fold) (x : NodeWorld N) → KeptOld N f n x → KeptLive N f n x → IsBelow (N.last (state_of N x)) (next_number f.epoch x.sent)
-    next-exec f x old live =
-        elim live.last_sent [
-          | inl e ↦ subst (λ y. IsBelow y (next_number f.epoch x.sent)) (sym e) (first f.epoch x.sent)
-          | inr h ↦ subst (λ y. IsBelow y (next_number f.epoch x.sent)) h.2 (next-above f.epoch x.sent old.falling old.epochs h.0 h.1)
-        ]
-      where
-        positive : (b : Bool) (i : ℕ) → 0 < (if b then i + 1 else 1)
-        positive true i = omega arith
-        positive false i = omega arith
-
-        above : (e i : ℕ) → 0 < i → IsBelow (record { epoch = 0; number = 0 }) (record { epoch = e; number = i })
-        above zero i h = inr (refl, h)
-        above (suc e) i h = inl (omega arith)
-
-        first : (e : ℕ) (sent : List Message) → IsBelow (record { epoch = 0; number = 0 }) (next_number e sent)
-        first e [] = above e 1 (omega arith)
-        first e (m ∷ ms) = above e (if nat_eq m.at.epoch e then m.at.number + 1 else 1) (positive (nat_eq m.at.epoch e) m.at.number)
+    next-exec f x old live = grind (arith, next-above, nat_eq)
 
     -- what always holds
     pub live-deliver : (f : Fold) (x : NodeWorld N) (m : Message) → InSent m x.sent → KeptOld N f n x → KeptLive N f n x → KeptLive N f n (record { moves = Delivered m ∷ x.moves; sent = x.sent; told = x.told })
@@ -128,26 +64,13 @@ module _ (N : NodeRules) (laws : NodeLaws N) (packages : Packages) (numbers : Li
                   | inl q ↦ (subst (λ y. InSent y x.sent) (sym (ap (λ z. z.message) q)) sent, ap (λ z. z.message.campaign) q ∙ eqb-true m.campaign k p)
                   | inr h' ↦ live.entry_sent k e h'
                 ]
-            entry k e true false p h = live.entry_sent k e h
-            entry k e false b p h = live.entry_sent k e h
+            entry k e _ _ p h = live.entry_sent k e h
 
     pub live-foreign : (f : Fold) (x : NodeWorld N) (call : N.ForeignCall) → KeptLive N f n x → KeptLive N f n (record { moves = Foreign call ∷ x.moves; sent = x.sent; told = x.told })
-    live-foreign f x call live =
-        let l = (laws.foreign_last (state_of N x) call).0 in
-        record {
-          last_sent = elim live.last_sent [ inl e ↦ inl (l ∙ e) | inr h ↦ inr (h.0, h.1, h.2 ∙ sym l) ];
-          live = λ y h not_sync from. live.live y h not_sync (subst (λ z. (IsBelow z y.at) ⊎ (y.at ≡ z)) l from);
-          entry_sent = live.entry_sent;
-        }
+    live-foreign f x call live = grind arith
 
     pub live-unit : (f : Fold) (x : NodeWorld N) (passed : Bool) → KeptLive N f n x → KeptLive N f n (record { moves = Unit_done passed ∷ x.moves; sent = x.sent; told = x.told })
-    live-unit f x passed live =
-        let l = (laws.unit_last (state_of N x) passed).0 in
-        record {
-          last_sent = elim live.last_sent [ inl e ↦ inl (l ∙ e) | inr h ↦ inr (h.0, h.1, h.2 ∙ sym l) ];
-          live = λ y h not_sync from. live.live y h not_sync (subst (λ z. (IsBelow z y.at) ⊎ (y.at ≡ z)) l from);
-          entry_sent = live.entry_sent;
-        }
+    live-unit f x passed live = grind arith
 
     pub live-told : (f : Fold) (x : NodeWorld N) (told : List Told) → KeptLive N f n x → KeptLive N f n (record { moves = x.moves; sent = x.sent; told = told })
     live-told f x told live = record { last_sent = live.last_sent; live = live.live; entry_sent = live.entry_sent }
@@ -156,11 +79,7 @@ module _ (N : NodeRules) (laws : NodeLaws N) (packages : Packages) (numbers : Li
     live-send f x m exec old live =
         record {
           last_sent = elim live.last_sent [ inl e ↦ inl e | inr h ↦ inr (h.0, inr h.1, h.2) ];
-          live = λ y h not_sync from.
-              elim h [
-                | inl e ↦ old.present y (inl e) (subst (λ z. IsBelow (N.last (state_of N x)) z.at) (sym e) exec)
-                | inr h' ↦ live.live y h' not_sync from
-              ];
+          live = λ y h not_sync from. grind (arith, state_of);
           entry_sent = λ k e h. let q = live.entry_sent k e h in (inr q.0, q.1);
         }
 
@@ -173,7 +92,7 @@ module _ (N : NodeRules) (laws : NodeLaws N) (packages : Packages) (numbers : Li
         record { last_sent = live.last_sent; live = λ y h not_sync from. absurd (go x.sent evidence old.falling (λ m r t. (old.told_sent m r t).1) y h not_sync from); entry_sent = live.entry_sent }
       where
         is-sync : (m : Message) → is_end_sync c.campaign f.epoch m ≡ true → m.call ≡ Sync
-        is-sync m e = sync-is m.call (and-both (is_sync m.call) (m.decided && (nat_eq m.campaign c.campaign && nat_eq m.at.epoch f.epoch)) e).0
+        is-sync m e = sync-is m.call (and_parts (is_sync m.call) (m.decided && (nat_eq m.campaign c.campaign && nat_eq m.at.epoch f.epoch)) e).0
 
         go : (sent : List Message) → EndEvidence f.epoch c x.told sent → Falling sent → ((m : Message) (r : Reply) → InTold (Answered m r) x.told → IsBelow (N.last (state_of N x)) m.at → ⊥) → (y : Message) → InSent y sent → y.call ≢ Sync → (IsBelow (N.last (state_of N x)) y.at) ⊎ (y.at ≡ N.last (state_of N x)) → ⊥
         go [] e falling known y h not_sync from = h
@@ -221,11 +140,7 @@ module _ (N : NodeRules) (laws : NodeLaws N) (packages : Packages) (numbers : Li
       where
         stays : (c : Current) → IsAt N (state_of N x) c.campaign (packages c.campaign n) (stage_after (packages c.campaign n) (round_entries N c.campaign x.moves)) → (spans N c.campaign x.moves).ended ≡ [] → (spans N c.campaign (Unit_done passed ∷ x.moves)).ended ≡ []
         stays c at none =
-            elim (span-ended N laws f n (spans N c.campaign x.moves) (is_status (N.status (state_of N x)) CleaningUp) (record { outcome = N.outcome (state_of N x); before = state_of N x; left = N.unit (state_of N x) passed } ∷ (spans N c.campaign x.moves).ended)) [
-              | inl e ↦ e ∙ none
-              | inr h ↦ absurd
-                  (at-not_cleaning N laws (state_of N x) c.campaign c.campaign (packages c.campaign n) (stage_after (packages c.campaign n) (round_entries N c.campaign x.moves)) at (old.open_span c.campaign h.0) (is-cleaning N laws f n (N.status (state_of N x)) h.1))
-            ]
+            grind (arith, span-ended, spans, is_status, state_of, stage_after, round_entries, is-cleaning)
 
     pub early-answered-event : (f : Fold) (x : NodeWorld N) (m : Message) (r : Reply) → InSent m x.sent → m.at ≡ N.last (state_of N x) → N.kept (state_of N x) ≡ r → KeptLive N f n x → KeptEarly N packages f n x → KeptEarly N packages f n (record { moves = x.moves; sent = x.sent; told = Answered m r ∷ x.told })
     early-answered-event f x m r sent at kept live early =
@@ -246,13 +161,7 @@ module _ (N : NodeRules) (laws : NodeLaws N) (packages : Packages) (numbers : Li
 
     pub early-send : (f : Fold) (x : NodeWorld N) (c : Current) (call : Call) → f.current ≡ Some c → MaySend packages f.epoch n c x.told x.sent call → KeptOld N f n x → KeptLive N f n x → KeptEarly N packages f n x → KeptEarly N packages f n (record { moves = x.moves; sent = record { at = next_number f.epoch x.sent; call = call; campaign = c.campaign; decided = is_some c.decision } ∷ x.sent; told = x.told })
     early-send f x c call current may old live early =
-        record {
-          at = λ c' current' undecided quiet.
-              let same = some-inj c' c (sym current' ∙ current) in
-              subst (λ y. EarlyAt N f.epoch y.campaign (packages y.campaign n) (state_of N x) (round_entries N y.campaign x.moves) (spans N y.campaign x.moves).ended (record { at = next_number f.epoch x.sent; call = call; campaign = c.campaign; decided = is_some c.decision } ∷ x.sent) x.told) (sym same)
-              (here (sym (ap (λ y. y.decision) same) ∙ undecided) (sym (ap (λ y. y.restart) same) ∙ quiet));
-          yes = early.yes;
-        }
+        grind (arith, here, some-inj, state_of, round_entries, spans, next_number, is_some)
       where
         here : c.decision ≡ None → c.restart ≡ false → EarlyAt N f.epoch c.campaign (packages c.campaign n) (state_of N x) (round_entries N c.campaign x.moves) (spans N c.campaign x.moves).ended (record { at = next_number f.epoch x.sent; call = call; campaign = c.campaign; decided = is_some c.decision } ∷ x.sent) x.told
         here undecided quiet =
@@ -271,16 +180,7 @@ module _ (N : NodeRules) (laws : NodeLaws N) (packages : Packages) (numbers : Li
 
     -- the records
     pub early-fold : (f g : Fold) (x : NodeWorld N) → g.epoch ≡ f.epoch → ((d : Current) → g.current ≡ Some d → (c : Current) × (f.current ≡ Some c) × (d.campaign ≡ c.campaign) × (d.decision ≡ c.decision) × (d.restart ≡ c.restart) × (vote_of d n ≡ Some Vote.Yes → (vote_of c n ≡ Some Vote.Yes) ⊎ (showed_after_activate Activated x.told ≡ true))) → KeptEarly N packages f n x → KeptEarly N packages g n x
-    early-fold f g x epoch back early =
-        record {
-          at = λ d current undecided quiet.
-              let b = back d current in
-              subst (λ e. EarlyAt N e d.campaign (packages d.campaign n) (state_of N x) (round_entries N d.campaign x.moves) (spans N d.campaign x.moves).ended x.sent x.told) (sym epoch)
-              (subst (λ k. EarlyAt N f.epoch k (packages k n) (state_of N x) (round_entries N k x.moves) (spans N k x.moves).ended x.sent x.told) (sym b.2) (early.at b.0 b.1 (sym b.3 ∙ undecided) (sym b.4 ∙ quiet)));
-          yes = λ d current undecided quiet voted.
-              let b = back d current in
-              elim (b.5 voted) [ inl y ↦ early.yes b.0 b.1 (sym b.3 ∙ undecided) (sym b.4 ∙ quiet) y | inr s ↦ s ];
-        }
+    early-fold f g x epoch back early = grind arith
 
     pub early-no : (g : Fold) (x : NodeWorld N) → ((d : Current) → g.current ≡ Some d → d.decision ≡ None → d.restart ≡ false → ⊥) → KeptEarly N packages g n x
     early-no g x never = record { at = λ d current undecided quiet. absurd (never d current undecided quiet); yes = λ d current undecided quiet. absurd (never d current undecided quiet) }
@@ -306,12 +206,10 @@ module _ (N : NodeRules) (laws : NodeLaws N) (packages : Packages) (numbers : Li
                 last = λ e h. absurd h;
                 told_entry = λ e h. absurd h;
                 is_on = inr (free (N.mine (state_of N x)) refl, old.fresh k is_fresh);
-                over = λ d. absurd (let z : ⊥ = cc d in z);
-                activated = λ d. absurd (let z : ⊥ = cc d in z);
+                over = λ d. absurd (cc d);
+                activated = λ d. absurd (cc d);
               }));
-          yes = λ c current undecided quiet voted.
-              let same = some-inj (begun k named) c current in
-              absurd (let z = part-none {A = Vote} 8 n in let w = ap (λ y. vote_of y n) same ∙ voted in let f : ⊥ = cc in f);
+          yes = λ c current undecided quiet voted. grind (arith, some-inj);
         }
       where
         is_fresh : IsFresh f k
@@ -334,7 +232,7 @@ module _ (N : NodeRules) (laws : NodeLaws N) (packages : Packages) (numbers : Li
         let showed = early.yes c current undecided quiet voted in
         let over = h.over (showed-done Activated x.told showed) in
         elim h.is_on [
-          | inl e ↦ absurd (let z : ⊥ = cc (over, e) in z)
+          | inl e ↦ absurd (cc (over, e))
           | inr p ↦ (over, h.activated showed, subst (λ y. IsAt N (state_of N x) c.campaign (packages c.campaign n) y) over p.0, p.1)
         ]
 

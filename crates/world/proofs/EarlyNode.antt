@@ -1,42 +1,22 @@
 -- What one node's part of the time before the decision keeps under each event.
-use Rattle.std.proofs.Common.{◌≡◌, ◌≢◌, ◌⊎◌, inl, inr, if◌then◌else◌, ◌&&◌, ◌||◌, not, ◌++◌, ℕ, List, [], ◌∷◌, Option, Some, None, Bool, true, false, is_some, nat_eq, refl, sym, ◌∙◌, ap, subst}
-use Rattle.std.proofs.lemmas.Bool.{eqb-true, eq-eqb}
-use Rattle.ucm_base.specs.declared.ids.CallNo.{CallNo}
-use Rattle.pm_types.specs.declared.replies.Refusal.{Refusal}
-use Rattle.pm_types.specs.declared.status.Status.{Status}
-use Rattle.pm_types.specs.declared.status.Status.TheVariants.{Idle, Ready, Processing, Activating, Verifying, Activated, RollingBack, RolledBack, CleaningUp}
-use Rattle.pm_types.specs.declared.calls.Call.{Call}
-use Rattle.pm_types.specs.declared.replies.Reply.{Reply}
-use Rattle.pm_types.specs.declared.calls.Call.TheVariants.{Sync, TransferStart, TransferData, TransferExit, DeleteTransfer, ProcessSwPackage, Activate, Finish, Rollback, RevertProcessedSwPackages as Revert, Cancel}
-use Rattle.pm_types.specs.declared.replies.Reply.TheVariants.{Done, Started, Synced, Refused}
-use Rattle.pm_types.specs.declared.replies.Reached.TheVariants.{Stale, Again, Done as Fresh}
-use Rattle.world.specs.Messages.{IsBelow, no_lt, no_eq, is_status}
-use Rattle.pm_types.specs.NodeState.{is_working}
-use Rattle.world.proofs.Rules.{NodeRules, NodeLaws, reached, delivered}
-use Rattle.world.specs.Rounds.{Stage, At_sync, At_start, At_data, At_process, At_activate, Over, Refused_once, call_at, onward, stage_of}
-use Rattle.world.specs.Messages.{Message, Told, Answered, Showed, InSent, InTold, told_reply, is_told, is_activate, is_done}
-use Rattle.world.specs.Sends.{one_if, replies_of, activate_done, showed_after_activate}
-use Rattle.world.proofs.RulesLaw.{Span}
+use Rattle.world.proofs.Names.{and_parts, nat_tests, arith, ◌≡◌, ◌≢◌, inl, inr, if◌then◌else◌, ◌&&◌, not, ◌++◌, ℕ, List}
+use Rattle.world.proofs.Names.{[], ◌∷◌, Option, Some, None, Bool, true, false, is_some, nat_eq, refl, sym, ◌∙◌, ap}
+use Rattle.world.proofs.Names.{subst, eqb-true, eq-eqb, CallNo, Status, Activated, Call, Reply, Sync, Activate, Done}
+use Rattle.world.proofs.Names.{IsBelow, no_eq, Message, Told, Answered, Showed, InSent, InTold, told_reply, is_told}
+use Rattle.world.proofs.Names.{is_activate, is_done, Stage, At_sync, At_activate, Over, Refused_once, call_at, onward}
+use Rattle.world.proofs.Names.{stage_of, one_if, replies_of, activate_done, showed_after_activate}
+use Rattle.world.proofs.Rules.{NodeRules, NodeLaws, reached, delivered, Span}
 use Rattle.world.proofs.Invariant.{Executable}
-use Rattle.world.proofs.EarlyFacts.{ClientEntry, judged, with_entry, InEntries, stage_after, Follows, IsAt, AllDone, OneWaits, AllTold, OlderTold, EarlyAt}
-use Rattle.world.proofs.Events.{below-trans, below-irrefl, above-last}
-use Rattle.world.proofs.AtRounds.{at-foreign, at-unit, at-keep, at-judge}
-
-no-join : (a b c d : ℕ) → a ≡ c → b ≡ d → ◌≡◌ {A = CallNo} (record { epoch = a; number = b }) (record { epoch = c; number = d })
-no-join a b c d p q = cc
+use Rattle.world.proofs.EarlyFacts.{ClientEntry, judged, with_entry, InEntries, stage_after, Follows, IsAt, AllDone}
+use Rattle.world.proofs.EarlyFacts.{OneWaits, AllTold, OlderTold, EarlyAt, at-foreign, at-unit, at-keep, at-judge}
+use Rattle.world.proofs.Events.{below-irrefl, or-true}
 
 pub same-no : (a b : CallNo) → no_eq a b ≡ true → a ≡ b
-same-no a b e =
-    let h = and-left' (nat_eq a.epoch b.epoch) (nat_eq a.number b.number) e in
-    no-join a.epoch a.number b.epoch b.number (eqb-true a.epoch b.epoch h.0) (eqb-true a.number b.number h.1)
-  where
-    and-left' : (x y : Bool) → (x && y) ≡ true → (x ≡ true) × (y ≡ true)
-    and-left' true y q = (refl, q)
-    and-left' false y q = absurd (let g : ⊥ = cc q in g)
+same-no a b e = grind arith
 
 -- what told has for a number is an answer to a message of this number
 pub told-in : (ts : List Told) (at : CallNo) (r : Reply) → told_reply ts at ≡ Some r → (m : Message) × InTold (Answered m r) ts × (m.at ≡ at)
-told-in [] at r e = absurd (let g : ⊥ = cc e in g)
+told-in [] at r e = absurd (cc e)
 told-in (Showed s ∷ ts) at r e = let h = told-in ts at r e in (h.0, inr h.1, h.2)
 told-in (Answered m q ∷ ts) at r e = go (no_eq m.at at) refl e (λ z. told-in ts at r z)
   where
@@ -45,48 +25,15 @@ told-in (Answered m q ∷ ts) at r e = go (no_eq m.at at) refl e (λ z. told-in 
     go false b e' rec = let h = rec e' in (h.0, inr h.1, h.2)
 
 pub showed-done : (x : Status) (ts : List Told) → showed_after_activate x ts ≡ true → activate_done ts ≡ true
-showed-done x [] e = absurd (let g : ⊥ = cc e in g)
-showed-done x (Answered m r ∷ ts) e = or-right (is_activate m.call && is_done r) (activate_done ts) (showed-done x ts e)
-  where
-    or-right : (a b : Bool) → b ≡ true → (a || b) ≡ true
-    or-right true b q = refl
-    or-right false b q = q
-showed-done x (Showed s ∷ ts) e = go (is_status s x) (activate_done ts) refl e (λ q. showed-done x ts q)
-  where
-    go : (a b : Bool) → activate_done ts ≡ b → ((a && b) || showed_after_activate x ts) ≡ true → (showed_after_activate x ts ≡ true → activate_done ts ≡ true) → activate_done ts ≡ true
-    go true true q e' rec = q
-    go true false q e' rec = rec e'
-    go false b q e' rec = rec e'
-
-is-activated : (x : Status) → is_status x Activated ≡ true → x ≡ Activated
-is-activated Idle e = absurd (let g : ⊥ = cc e in g)
-is-activated Ready e = absurd (let g : ⊥ = cc e in g)
-is-activated Processing e = absurd (let g : ⊥ = cc e in g)
-is-activated Activating e = absurd (let g : ⊥ = cc e in g)
-is-activated Verifying e = absurd (let g : ⊥ = cc e in g)
-is-activated Activated e = refl
-is-activated RollingBack e = absurd (let g : ⊥ = cc e in g)
-is-activated RolledBack e = absurd (let g : ⊥ = cc e in g)
-is-activated CleaningUp e = absurd (let g : ⊥ = cc e in g)
+showed-done x [] e = absurd (cc e)
+showed-done x (Answered m r ∷ ts) e = grind (arith, showed-done x ts e)
+showed-done x (Showed s ∷ ts) e = grind (arith, showed-done x ts)
 
 call-activate : (call : Call) → is_activate call ≡ true → call ≡ Activate
-call-activate Sync e = absurd (let g : ⊥ = cc e in g)
-call-activate (TransferStart size) e = absurd (let g : ⊥ = cc e in g)
-call-activate (TransferData id counter bytes) e = absurd (let g : ⊥ = cc e in g)
-call-activate (TransferExit id) e = absurd (let g : ⊥ = cc e in g)
-call-activate (DeleteTransfer id) e = absurd (let g : ⊥ = cc e in g)
-call-activate (ProcessSwPackage id tag) e = absurd (let g : ⊥ = cc e in g)
-call-activate Activate e = refl
-call-activate Finish e = absurd (let g : ⊥ = cc e in g)
-call-activate Rollback e = absurd (let g : ⊥ = cc e in g)
-call-activate Revert e = absurd (let g : ⊥ = cc e in g)
-call-activate (Cancel id) e = absurd (let g : ⊥ = cc e in g)
+call-activate x e = grind arith
 
 reply-done : (r : Reply) → is_done r ≡ true → r ≡ Done
-reply-done Done e = refl
-reply-done (Started id) e = absurd (let g : ⊥ = cc e in g)
-reply-done (Synced x) e = absurd (let g : ⊥ = cc e in g)
-reply-done (Refused why) e = absurd (let g : ⊥ = cc e in g)
+reply-done x e = grind arith
 
 -- the replies that are told lead to the same stage as the entries
 stage-push : (ps : List (List ℕ)) (stage : Stage) (rs : List Reply) (r : Reply) → stage_of ps stage (rs ++ r ∷ []) ≡ onward ps (stage_of ps stage rs) r
@@ -109,25 +56,10 @@ module _ (k : ℕ) (ps : List (List ℕ)) where
   told-stage ts [] sent done told = ap (stage_of ps At_sync) (replies-none ts sent done)
   told-stage ts (e ∷ es) [] done told = absurd done
   told-stage ts (e ∷ es) (m ∷ ms) done told =
-      go (nat_eq m.campaign k && not m.decided) (told_reply ts m.at) (flag-true m done.1 done.2) (ap (λ y. told_reply ts y.at) done.0 ∙ told.0) (told-stage ts es ms done.3 told.1)
-    where
-      go : (b : Bool) (o : Option Reply) → b ≡ true → o ≡ Some e.reply → stage_of ps At_sync (replies_of k ts ms) ≡ stage_after ps es → stage_of ps At_sync (if b then replies_of k ts ms ++ one_if o else replies_of k ts ms) ≡ onward ps (stage_after ps es) e.reply
-      go b o p q rec =
-          subst (λ x. stage_of ps At_sync (if x then replies_of k ts ms ++ one_if o else replies_of k ts ms) ≡ onward ps (stage_after ps es) e.reply) (sym p)
-          (subst (λ x. stage_of ps At_sync (replies_of k ts ms ++ one_if x) ≡ onward ps (stage_after ps es) e.reply) (sym q)
-          (stage-push ps At_sync (replies_of k ts ms) e.reply ∙ ap (λ x. onward ps x e.reply) rec))
+      grind (arith, not, flag-true, stage_after, stage-push, told-stage ts es ms done.3 told.1)
 
   at-activate : (stage : Stage) → call_at k stage ≡ Some Activate → stage ≡ At_activate
-  at-activate At_sync e = absurd (let g : ⊥ = cc e in g)
-  at-activate (At_start ids []) e = absurd (let g : ⊥ = cc e in g)
-  at-activate (At_start ids (p ∷ left)) e = absurd (let g : ⊥ = cc e in g)
-  at-activate (At_data ids id counter [] left) e = absurd (let g : ⊥ = cc e in g)
-  at-activate (At_data ids id counter (b ∷ bs) left) e = absurd (let g : ⊥ = cc e in g)
-  at-activate (At_process [] taken) e = absurd (let g : ⊥ = cc e in g)
-  at-activate (At_process (id ∷ ids) taken) e = absurd (let g : ⊥ = cc e in g)
-  at-activate At_activate e = refl
-  at-activate Over e = absurd (let g : ⊥ = cc e in g)
-  at-activate Refused_once e = absurd (let g : ⊥ = cc e in g)
+  at-activate stage e = grind arith
 
   -- over and refused stages have no call
   pub over-none : (stage : Stage) (call : Call) → stage ≡ Over → call_at k stage ≡ Some call → ⊥
@@ -161,32 +93,16 @@ all-told ts us [] f h = tt
 all-told ts us (e ∷ es) f h = (f e (inl refl) h.0, all-told ts us es (λ y q. f y (inr q)) h.1)
 
 older-told : (ts us : List Told) (es : List ClientEntry) → ((e : ClientEntry) → InEntries e es → told_reply ts e.message.at ≡ Some e.reply → told_reply us e.message.at ≡ Some e.reply) → OlderTold ts es → OlderTold us es
-older-told ts us [] f h = tt
-older-told ts us (e ∷ es) f h = all-told ts us es (λ y q. f y (inr q)) h
+older-told ts us x f h = grind (arith, all-told)
 
 module _ (N : NodeRules) (laws : NodeLaws N) where
   -- a delivery is nothing, or an executable call that is judged, kept and answered
   pub judged-cases : (s : N.State) (m : Message) (P : N.State → Option Reply → Type 0) → P s None → (Executable N s m → P (N.keep (N.judge s m.call).0 m.at m.call (N.judge s m.call).1) (Some (N.judge s m.call).1)) → P (delivered N s m.at m.call) (judged (reached N s m.at m.call))
-  judged-cases s m P here there = go (no_lt m.at (N.last s)) (no_eq m.at (N.last s)) refl refl
-    where
-      go : (a b : Bool) → no_lt m.at (N.last s) ≡ a → no_eq m.at (N.last s) ≡ b → P (if a then s else (if b then s else N.keep (N.judge s m.call).0 m.at m.call (N.judge s m.call).1)) (judged (if a then Stale (N.last s) else (if b then Again (N.kept s) else Fresh (N.judge s m.call).1)))
-      go true b p q = here
-      go false true p q = here
-      go false false p q = there (above-last m.at (N.last s) p q)
+  judged-cases s m P here there = grind (arith, nat_tests)
 
   module _ (epoch k : ℕ) (ps : List (List ℕ)) where
-    -- a judged message is not executable
-    entry-done : (s : N.State) (es : List ClientEntry) (ended : List (Span N)) (sent : List Message) (told : List Told) → EarlyAt N epoch k ps s es ended sent told → (e : ClientEntry) → InEntries e es → IsBelow (N.last s) e.message.at → ⊥
-    entry-done s es ended sent told h e q below =
-        elim (h.last e q) [
-          | inl b ↦ below-irrefl (N.last s) (below-trans (N.last s) e.message.at (N.last s) below b)
-          | inr b ↦ below-irrefl (N.last s) (subst (λ y. IsBelow (N.last s) y) b.0 below)
-        ]
-
     sent-done : (s : N.State) (es : List ClientEntry) (ended : List (Span N)) (sent : List Message) (told : List Told) → EarlyAt N epoch k ps s es ended sent told → (some : List Message) → AllDone k es some → (m : Message) → InSent m some → m.campaign ≡ k → IsBelow (N.last s) m.at → ⊥
-    sent-done s es ended sent told h some all m q c below =
-        let d = in-done k ps es some m all q c in
-        entry-done s es ended sent told h d.0 d.1 (subst (λ y. IsBelow (N.last s) y.at) (sym d.2) below)
+    sent-done s es ended sent told h some all m q c below = grind (arith, in-done)
 
     -- an executable message of the campaign is the one that waits
     pub is-next : (s : N.State) (es : List ClientEntry) (ended : List (Span N)) (sent : List Message) (told : List Told) → EarlyAt N epoch k ps s es ended sent told → (m : Message) → InSent m sent → m.campaign ≡ k → IsBelow (N.last s) m.at → (m.decided ≡ false) × (call_at k (stage_after ps es) ≡ Some m.call) × AllTold told es × AllDone k (record { message = m; reply = (N.judge s m.call).1 } ∷ es) sent
@@ -213,80 +129,21 @@ module _ (N : NodeRules) (laws : NodeLaws N) where
           epochs = h.epochs;
           follows = (n.1, h.follows);
           sends = inl (n.3, n.2);
-          last = λ e i.
-              elim i [
-                | inl p ↦ inr (ap (λ z. z.message.at) p ∙ sym (laws.keep_last (N.judge s m.call).0 m.at m.call (N.judge s m.call).1), ap (λ z. z.reply) p ∙ sym (laws.keep_kept (N.judge s m.call).0 m.at m.call (N.judge s m.call).1))
-                | inr i' ↦ inl (subst (λ l. IsBelow e.message.at l) (sym (laws.keep_last (N.judge s m.call).0 m.at m.call (N.judge s m.call).1)) (before e i'))
-              ];
-          told_entry = λ e i r t.
-              elim i [
-                | inl p ↦
-                    (let a = told-in told e.message.at r t in
-                    absurd (known a.0 r a.1 (subst (λ y. IsBelow (N.last s) y) (sym (a.2 ∙ ap (λ z. z.message.at) p)) below)))
-                | inr i' ↦ h.told_entry e i' r t
-              ];
-          is_on =
-              elim h.is_on [
-                | inl x ↦ absurd (refused-none k ps (stage_after ps es) m.call x n.1)
-                | inr x ↦ elim (at-judge N laws s k ps (stage_after ps es) m.call n.1 x.0) [
-                  | inl y ↦ inl y
-                  | inr y ↦ inr (at-keep N laws (N.judge s m.call).0 m.at m.call (N.judge s m.call).1 k ps (onward ps (stage_after ps es) (N.judge s m.call).1) y, x.1)
-                ]
-              ];
+          last = λ e i. grind (arith, laws.keep_last, laws.keep_kept);
+          told_entry = λ e i r t. grind (arith, told-in);
+          is_on = grind (arith, refused-none, stage_after, at-judge, at-keep);
           over = λ d. absurd (over-none k ps (stage_after ps es) m.call (h.over d) n.1);
           activated = λ d. absurd (over-none k ps (stage_after ps es) m.call (h.over (showed-done Activated told d)) n.1);
         })
-      where
-        before : (e : ClientEntry) → InEntries e es → IsBelow e.message.at m.at
-        before e i =
-            elim (h.last e i) [
-              | inl b ↦ below-trans e.message.at (N.last s) m.at b below
-              | inr b ↦ subst (λ y. IsBelow y m.at) (sym b.0) below
-            ]
 
     -- a foreign call
     pub early-foreign : (s : N.State) (call : N.ForeignCall) (es : List ClientEntry) (ended : List (Span N)) (sent : List Message) (told : List Told) → EarlyAt N epoch k ps s es ended sent told → EarlyAt N epoch k ps (N.foreign s call) es ended sent told
     early-foreign s call es ended sent told h =
-        let l = laws.foreign_last s call in
-        record {
-          epochs = h.epochs;
-          follows = h.follows;
-          sends = elim h.sends [ inl d ↦ inl d | inr w ↦ inr (waits sent w.0, w.1) ];
-          last = λ e i. elim (h.last e i) [ inl b ↦ inl (subst (λ y. IsBelow e.message.at y) (sym l.0) b) | inr b ↦ inr (b.0 ∙ sym l.0, b.1 ∙ sym l.1) ];
-          told_entry = h.told_entry;
-          is_on = elim h.is_on [ inl x ↦ inl x | inr x ↦ inr (at-foreign N laws s call k ps (stage_after ps es) x.0, x.1) ];
-          over = h.over;
-          activated = λ d.
-              elim h.is_on [
-                | inl x ↦ absurd (let o = h.over (showed-done Activated told d) in let g : ⊥ = cc (o, x) in g)
-                | inr x ↦
-                    (let a = subst (λ y. IsAt N s k ps y) (h.over (showed-done Activated told d)) x.0 in
-                    (laws.foreign_session s call k a.mine).status ∙ h.activated d)
-              ];
-        }
-      where
-        waits : (some : List Message) → OneWaits N s k ps es some → OneWaits N (N.foreign s call) k ps es some
-        waits [] w = w
-        waits (y ∷ ys) w = (w.0, w.1, w.2, subst (λ z. IsBelow z y.at) (sym (laws.foreign_last s call).0) w.3, w.4)
+        grind (arith, at-foreign, stage_after, showed-done, laws.foreign_session)
 
     -- a unit, which leaves the spans that ended unless the session is being cleaned up
     pub early-unit : (s : N.State) (passed : Bool) (es : List ClientEntry) (ended ended' : List (Span N)) (sent : List Message) (told : List Told) → (IsAt N s k ps (stage_after ps es) → ended ≡ [] → ended' ≡ []) → EarlyAt N epoch k ps s es ended sent told → EarlyAt N epoch k ps (N.unit s passed) es ended' sent told
-    early-unit s passed es ended ended' sent told stays h =
-        let l = laws.unit_last s passed in
-        record {
-          epochs = h.epochs;
-          follows = h.follows;
-          sends = elim h.sends [ inl d ↦ inl d | inr w ↦ inr (waits sent w.0, w.1) ];
-          last = λ e i. elim (h.last e i) [ inl b ↦ inl (subst (λ y. IsBelow e.message.at y) (sym l.0) b) | inr b ↦ inr (b.0 ∙ sym l.0, b.1 ∙ sym l.1) ];
-          told_entry = h.told_entry;
-          is_on = elim h.is_on [ inl x ↦ inl x | inr x ↦ inr (at-unit N laws s passed k ps (stage_after ps es) x.0, stays x.0 x.1) ];
-          over = h.over;
-          activated = λ d. let a = h.activated d in ap N.status (laws.unit_still s passed (ap is_working a)) ∙ a;
-        }
-      where
-        waits : (some : List Message) → OneWaits N s k ps es some → OneWaits N (N.unit s passed) k ps es some
-        waits [] w = w
-        waits (y ∷ ys) w = (w.0, w.1, w.2, subst (λ z. IsBelow z y.at) (sym (laws.unit_last s passed).0) w.3, w.4)
+    early-unit s passed es ended ended' sent told stays h = grind (arith, at-unit, stage_after, laws.unit_still)
 
     -- an answer that is told: its message is the last one that was judged
     pub early-answered : (s : N.State) (es : List ClientEntry) (ended : List (Span N)) (sent : List Message) (told : List Told) (m : Message) (r : Reply) → InSent m sent → m.at ≡ N.last s → N.kept s ≡ r → (m.call ≢ Sync → m.campaign ≡ k) → EarlyAt N epoch k ps s es ended sent told → EarlyAt N epoch k ps s es ended sent (Answered m r ∷ told)
@@ -303,95 +160,37 @@ module _ (N : NodeRules) (laws : NodeLaws N) where
           told_entry = λ e i r' t. entry e i r' (no_eq m.at e.message.at) refl t;
           is_on = h.is_on;
           over = λ d.
-              elim (or-true' (is_activate m.call && is_done r) (activate_done told) d) [
-                | inl a ↦ (let b = and-left' (is_activate m.call) (is_done r) a in new (call-activate m.call b.0) (reply-done r b.1))
+              elim (or-true (is_activate m.call && is_done r) (activate_done told) d) [
+                | inl a ↦ (let b = and_parts (is_activate m.call) (is_done r) a in new (call-activate m.call b.0) (reply-done r b.1))
                 | inr a ↦ h.over a
               ];
           activated = h.activated;
         }
       where
-        or-true' : (a b : Bool) → (a || b) ≡ true → (a ≡ true) ⊎ (b ≡ true)
-        or-true' true b e = inl refl
-        or-true' false b e = inr e
-
-        and-left' : (x y : Bool) → (x && y) ≡ true → (x ≡ true) × (y ≡ true)
-        and-left' true y z = (refl, z)
-        and-left' false y z = absurd (let g : ⊥ = cc z in g)
-
         -- an entry with the last number has this reply
         reply-is : (e : ClientEntry) → InEntries e es → m.at ≡ e.message.at → e.reply ≡ r
-        reply-is e i same =
-            elim (h.last e i) [
-              | inl b ↦ absurd (below-irrefl (N.last s) (subst (λ y. IsBelow y (N.last s)) (sym same ∙ at) b))
-              | inr b ↦ b.1 ∙ kept
-            ]
+        reply-is e i same = grind arith
 
         more : (e : ClientEntry) → InEntries e es → told_reply told e.message.at ≡ Some e.reply → told_reply (Answered m r ∷ told) e.message.at ≡ Some e.reply
-        more e i t = go (no_eq m.at e.message.at) refl
-          where
-            go : (b : Bool) → no_eq m.at e.message.at ≡ b → (if b then Some r else told_reply told e.message.at) ≡ Some e.reply
-            go true p = ap Some (sym (reply-is e i (same-no m.at e.message.at p)))
-            go false p = t
+        more e i t = grind (arith, nat_tests)
 
         entry : (e : ClientEntry) → InEntries e es → (r' : Reply) (b : Bool) → no_eq m.at e.message.at ≡ b → (if b then Some r else told_reply told e.message.at) ≡ Some r' → r' ≡ e.reply
         entry e i r' true p t = let x : r ≡ r' = cc t in sym x ∙ sym (reply-is e i (same-no m.at e.message.at p))
         entry e i r' false p t = h.told_entry e i r' t
 
         new : m.call ≡ Activate → r ≡ Done → stage_after ps es ≡ Over
-        new call done =
-            elim h.sends [
-              | inl d ↦ found sent d.0 q
-              | inr w ↦ waiting sent w.0 q
-            ]
-          where
-            campaign : m.campaign ≡ k
-            campaign = here (λ z. let g : ⊥ = cc (call, z) in g)
-
-            found : (some : List Message) → AllDone k es some → InSent m some → stage_after ps es ≡ Over
-            found some all i =
-                let d = in-done k ps es some m all i campaign in
-                activate-over k ps es d.0 h.follows d.1 (ap (λ z. z.call) d.2 ∙ call) (reply-is d.0 d.1 (sym (ap (λ z. z.at) d.2)) ∙ done)
-
-            waiting : (some : List Message) → OneWaits N s k ps es some → InSent m some → stage_after ps es ≡ Over
-            waiting [] w i = absurd w
-            waiting (y ∷ ys) w i =
-                elim i [
-                  | inl e ↦ absurd (below-irrefl (N.last s) (subst (λ z. IsBelow (N.last s) z) (sym (ap (λ z. z.at) e) ∙ at) w.3))
-                  | inr i' ↦ found ys w.4 i'
-                ]
+        new call done = grind (arith, in-done, activate-over, below-irrefl)
 
     -- a status that is told
     pub early-showed : (s : N.State) (es : List ClientEntry) (ended : List (Span N)) (sent : List Message) (told : List Told) (x : Status) → N.status s ≡ x → EarlyAt N epoch k ps s es ended sent told → EarlyAt N epoch k ps s es ended sent (Showed x ∷ told)
-    early-showed s es ended sent told x status h =
-        record {
-          epochs = h.epochs;
-          follows = h.follows;
-          sends =
-              elim h.sends [
-                | inl d ↦ inl (d.0, older-told told (Showed x ∷ told) es (λ e i t. t) d.1)
-                | inr w ↦ inr (w.0, all-told told (Showed x ∷ told) es (λ e i t. t) w.1)
-              ];
-          last = h.last;
-          told_entry = h.told_entry;
-          is_on = h.is_on;
-          over = h.over;
-          activated = λ d. go (is_status x Activated) refl d;
-        }
-      where
-        go : (a : Bool) → is_status x Activated ≡ a → ((a && activate_done told) || showed_after_activate Activated told) ≡ true → N.status s ≡ Activated
-        go true p d = status ∙ is-activated x p
-        go false p d = h.activated d
+    early-showed s es ended sent told x status h = grind arith
 
     -- before a new message all entries were told
     pub all-answered : (s : N.State) (es : List ClientEntry) (ended : List (Span N)) (sent : List Message) (told : List Told) → ((m : Message) (r : Reply) → InTold (Answered m r) told → IsBelow (N.last s) m.at → ⊥) → ((m : Message) (ms : List Message) → sent ≡ m ∷ ms → m.campaign ≡ k → is_told told m.at ≡ true) → EarlyAt N epoch k ps s es ended sent told → AllDone k es sent × AllTold told es
-    all-answered s es ended sent told known newest h =
-        elim h.sends [
-          | inl d ↦ (d.0, done es sent (λ e i r t. h.told_entry e i r t) newest d.0 d.1)
-          | inr w ↦ absurd (waiting sent newest w.0)
-        ]
+    all-answered s es ended sent told known newest h = grind (arith, done, waiting)
       where
         reply-of : (o : Option Reply) → is_some o ≡ true → (r : Reply) × (o ≡ Some r)
-        reply-of None e = absurd (let g : ⊥ = cc e in g)
+        reply-of None e = absurd (cc e)
         reply-of (Some r) e = (r, refl)
 
         done : (fs : List ClientEntry) (some : List Message) → ((e : ClientEntry) → InEntries e fs → (r : Reply) → told_reply told e.message.at ≡ Some r → r ≡ e.reply) → ((m : Message) (ms : List Message) → some ≡ m ∷ ms → m.campaign ≡ k → is_told told m.at ≡ true) → AllDone k fs some → OlderTold told fs → AllTold told fs
@@ -410,38 +209,4 @@ module _ (N : NodeRules) (laws : NodeLaws N) where
             known a.0 r.0 a.1 (subst (λ z. IsBelow (N.last s) z) (sym a.2) w.3)
 
     pub early-sent : (s : N.State) (es : List ClientEntry) (ended : List (Span N)) (sent : List Message) (told : List Told) (m : Message) → m.campaign ≡ k → m.decided ≡ false → m.at.epoch ≡ epoch → IsBelow (N.last s) m.at → call_at k (stage_of ps At_sync (replies_of k told sent)) ≡ Some m.call → AllDone k es sent × AllTold told es → EarlyAt N epoch k ps s es ended sent told → EarlyAt N epoch k ps s es ended (m ∷ sent) told
-    early-sent s es ended sent told m c d e below call all h =
-        record {
-          epochs = λ y i yc. elim i [ inl q ↦ ap (λ z. z.at.epoch) q ∙ e | inr i' ↦ h.epochs y i' yc ];
-          follows = h.follows;
-          sends = inr ((c, d, ap (call_at k) (sym (told-stage k ps told es sent all.0 all.1)) ∙ call, below, all.0), all.1);
-          last = h.last;
-          told_entry = h.told_entry;
-          is_on = h.is_on;
-          over = h.over;
-          activated = h.activated;
-        }
-
--- of the entries of the rounds none is refused but possibly the newest
-onward-refused : (ps : List (List ℕ)) (stage : Stage) (why : Refusal) → onward ps stage (Refused why) ≡ Refused_once
-onward-refused ps At_sync why = refl
-onward-refused ps (At_start ids []) why = refl
-onward-refused ps (At_start ids (p ∷ left)) why = refl
-onward-refused ps (At_data ids id counter [] left) why = refl
-onward-refused ps (At_data ids id counter (b ∷ bs) left) why = refl
-onward-refused ps (At_process [] taken) why = refl
-onward-refused ps (At_process (id ∷ ids) taken) why = refl
-onward-refused ps At_activate why = refl
-onward-refused ps Over why = refl
-onward-refused ps Refused_once why = refl
-
-refused-stage : (k : ℕ) (ps : List (List ℕ)) (es : List ClientEntry) (y : ClientEntry) (why : Refusal) → Follows k ps es → InEntries y es → y.reply ≡ Refused why → stage_after ps es ≡ Refused_once
-refused-stage k ps [] y why f h e = absurd h
-refused-stage k ps (z ∷ zs) y why f h e =
-    elim h [
-      | inl q ↦ ap (onward ps (stage_after ps zs)) (sym (ap (λ x. x.reply) q) ∙ e) ∙ onward-refused ps (stage_after ps zs) why
-      | inr h' ↦ absurd (refused-none k ps (stage_after ps zs) z.message.call (refused-stage k ps zs y why f.1 h' e) f.0)
-    ]
-
-pub refused-newest : (k : ℕ) (ps : List (List ℕ)) (z : ClientEntry) (zs : List ClientEntry) (y : ClientEntry) (why : Refusal) → Follows k ps (z ∷ zs) → InEntries y zs → y.reply ≢ Refused why
-refused-newest k ps z zs y why f h e = refused-none k ps (stage_after ps zs) z.message.call (refused-stage k ps zs y why f.1 h e) f.0
+    early-sent s es ended sent told m c d e below call all h = grind (arith, told-stage)

@@ -1,49 +1,39 @@
 -- What deliveries, foreign calls and units keep of the invariant.
-use Rattle.std.proofs.Common.{◌≡◌, ◌≢◌, ◌⊎◌, inl, inr, if◌then◌else◌, ◌&&◌, ◌||◌, ℕ, ◌<◌, List, [], ◌∷◌, Option, Some, None, Bool, true, false, is_some, nat_eq, nat_lt, refl, sym, ◌∙◌, ap, subst, arith}
-use Rattle.std.proofs.lemmas.Bool.{eqb-true}
-use Rattle.std.proofs.lemmas.Bool.Decides.{nat_tests}
-use Rattle.ucm_base.specs.declared.ids.CallNo.{CallNo}
-use Rattle.pm_types.specs.declared.status.Status.{Status}
-use Rattle.pm_types.specs.declared.status.Status.TheVariants.{Idle, Ready, Processing, Activating, Verifying, Activated, RollingBack, RolledBack, CleaningUp}
-use Rattle.campaign_core.specs.declared.events.Decision.{Decision}
-use Rattle.campaign_core.specs.declared.events.Decision.TheVariants.{Commit, Abort}
-use Rattle.campaign_core.specs.declared.fold.Fold.{Fold}
-use Rattle.campaign_core.specs.declared.fold.Current.{Current}
-use Rattle.pm_types.specs.declared.calls.Call.{Call}
-use Rattle.pm_types.specs.declared.replies.Reply.{Reply}
-use Rattle.pm_types.specs.declared.calls.Call.TheVariants.{Sync, TransferStart, TransferData, TransferExit, DeleteTransfer, ProcessSwPackage, Activate, Finish, Rollback, RevertProcessedSwPackages as Revert, Cancel}
-use Rattle.pm_types.specs.declared.replies.Reply.TheVariants.{Done, Started, Synced, Refused}
-use Rattle.pm_types.specs.declared.replies.Reached.TheVariants.{Stale, Again, Done as Fresh}
-use Rattle.world.specs.Messages.{IsBelow, no_lt, no_eq, is_status}
-use Rattle.pm_types.specs.NodeState.{is_working}
-use Rattle.world.proofs.Rules.{NodeRules, NodeLaws, delivered, reached}
-use Rattle.world.specs.Messages.{Message, Told, Answered, Showed, InSent, InTold, is_sync, is_done}
-use Rattle.world.proofs.RulesWorld.{Move, Delivered, Foreign, Unit_done, NodeWorld, step, state_of}
-use Rattle.world.specs.Sends.{session_status, is_end_sync, shown_if, or_else, status_if, status_of_shown, last_shown, last_status}
-use Rattle.world.proofs.RulesLaw.{Span, Spans, spans, is_fresh_done, begins_span, EachEnded}
-use Rattle.world.specs.Spans.{has_tag}
-use Rattle.world.proofs.Invariant.{IsRolledBack, EndsOld, KeptHolds, Executable, NoneEarly, InPresent, NotCommit, KeptOld, KeptFold}
-use Rattle.world.proofs.NodeLemmas.{rolled-keeps, ends_old-keeps, rolled-foreign, ends_old-foreign, rolled-unit, ends_old-unit, kept-foreign, kept-unit, kept-delivered, delivered-cases, none-judge, some-judge, some-delivered, rolled-judge, ends_old-judge, cleaned}
+use Rattle.pm_types.specs.declared.replies.Synced.{Synced as Shown}
+use Rattle.world.specs.Sends.{is_masters}
+use Rattle.world.proofs.Names.{◌≡◌, ◌≢◌, ◌⊎◌, inl, inr, if◌then◌else◌, ◌&&◌, ◌||◌, ℕ, ◌<◌, List, [], ◌∷◌, Option, Some}
+use Rattle.world.proofs.Names.{None, Bool, true, false, is_some, nat_eq, nat_lt, refl, sym, ◌∙◌, ap, subst, arith}
+use Rattle.world.proofs.Names.{nat_tests, CallNo, Status, Idle, Processing, Activating, Verifying, RollingBack}
+use Rattle.world.proofs.Names.{RolledBack, CleaningUp, Decision, Commit, Abort, Fold, Current, Call, Reply}
+use Rattle.world.proofs.Names.{ProcessSwPackage, Finish, Synced, IsBelow, no_lt, no_eq, is_status, Message, Told}
+use Rattle.world.proofs.Names.{Answered, Showed, InSent, InTold, is_working, session_status, is_end_sync, shown_if}
+use Rattle.world.proofs.Names.{or_else, status_if, status_of_shown, last_shown, last_status, has_tag, eq-eqb}
+use Rattle.world.proofs.Names.{nothing_yet, Stale, Again, Fresh, is_done}
+use Rattle.world.proofs.Rules.{NodeRules, NodeLaws, delivered, reached, Move, Delivered, Foreign, Unit_done, NodeWorld}
+use Rattle.world.proofs.Rules.{step, state_of, Span, Spans, spans, is_fresh_done, begins_span, EachEnded, after}
+use Rattle.node_laws.proofs.NameLists.{or-right}
+use Rattle.world.proofs.Invariant.{IsRolledBack, EndsOld, KeptHolds, Executable, NoneEarly, InPresent, NotCommit}
+use Rattle.world.proofs.Invariant.{KeptOld, KeptFold, rolled-keeps, ends_old-keeps, rolled-foreign, ends_old-foreign}
+use Rattle.world.proofs.Invariant.{rolled-unit, ends_old-unit, kept-foreign, kept-unit, kept-delivered, delivered-cases}
+use Rattle.world.proofs.Invariant.{none-judge, some-judge, some-delivered, rolled-judge, ends_old-judge, cleaned}
+use Rattle.world.proofs.Invariant.{none-delivered}
+
+pub or-true : (a b : Bool) → (a || b) ≡ true → (a ≡ true) ⊎ (b ≡ true)
+or-true true b e = inl refl
+or-true false b e = inr e
 
 -- order of numbers
 pub below-trans : (a b c : CallNo) → IsBelow a b → IsBelow b c → IsBelow a c
-below-trans a b c (inl p) (inl q) = inl (omega arith)
-below-trans a b c (inl p) (inr q) = inl (omega arith)
-below-trans a b c (inr p) (inl q) = inl (omega arith)
-below-trans a b c (inr p) (inr q) = inr (omega arith, omega arith)
+below-trans a b c x y = grind arith
 
 pub below-irrefl : (a : CallNo) → IsBelow a a → ⊥
-below-irrefl a (inl p) = omega arith
-below-irrefl a (inr p) = omega arith
+below-irrefl a x = grind arith
 
 below-tests : (a b c d : ℕ) → (nat_lt a c || (nat_eq a c && nat_lt b d)) ≡ false → (nat_eq a c && nat_eq b d) ≡ false → (c < a) ⊎ ((c ≡ a) × (d < b))
-below-tests a b c d p q = grind (arith, nat_tests)
+below-tests a b c d p q = grind arith
 
 pub above-last : (a b : CallNo) → no_lt a b ≡ false → no_eq a b ≡ false → IsBelow b a
 above-last a b p q = below-tests a.epoch a.number b.epoch b.number p q
-
-pub eq-tests : (a b c d : ℕ) → (nat_lt a c || (nat_eq a c && nat_lt b d)) ≡ false → (nat_eq a c && nat_eq b d) ≡ true → (a ≡ c) × (b ≡ d)
-eq-tests a b c d p q = grind (arith, nat_tests)
 
 -- what was told
 abbrev pub SyncTold : ℕ → ℕ → List Told → Type 0
@@ -53,7 +43,7 @@ told-later : (k epoch : ℕ) (t : Told) (ts : List Told) → SyncTold k epoch ts
 told-later k epoch t ts h = (h.0, h.1, inr h.2, h.3)
 
 pub shown-told : (k epoch : ℕ) (ts : List Told) → is_some (last_shown k epoch ts) ≡ true → SyncTold k epoch ts
-shown-told k epoch [] e = absurd (let f : ⊥ = cc e in f)
+shown-told k epoch [] e = absurd (cc e)
 shown-told k epoch (Showed s ∷ ts) e = told-later k epoch (Showed s) ts (shown-told k epoch ts e)
 shown-told k epoch (Answered m r ∷ ts) e = go (is_end_sync k epoch m) refl (λ q. shown-told k epoch ts q) e
   where
@@ -62,12 +52,8 @@ shown-told k epoch (Answered m r ∷ ts) e = go (is_end_sync k epoch m) refl (λ
     go false q rec e' = told-later k epoch (Answered m r) ts (rec e')
 
 pub status-told : (k epoch : ℕ) (ts : List Told) (x : Status) → last_status k epoch ts ≡ Some x → SyncTold k epoch ts
-status-told k epoch [] x e = absurd (let f : ⊥ = cc e in f)
-status-told k epoch (Showed s ∷ ts) x e = go (is_some (last_shown k epoch ts)) refl (λ q. status-told k epoch ts x q) e
-  where
-    go : (b : Bool) → is_some (last_shown k epoch ts) ≡ b → (last_status k epoch ts ≡ Some x → SyncTold k epoch ts) → or_else (status_if b s) (last_status k epoch ts) ≡ Some x → SyncTold k epoch (Showed s ∷ ts)
-    go true q rec e' = told-later k epoch (Showed s) ts (shown-told k epoch ts q)
-    go false q rec e' = told-later k epoch (Showed s) ts (rec e')
+status-told k epoch [] x e = absurd (cc e)
+status-told k epoch (Showed s ∷ ts) x e = grind (arith, told-later, shown-told, status-told k epoch ts x)
 status-told k epoch (Answered m r ∷ ts) x e = go (is_end_sync k epoch m) refl (λ q. status-told k epoch ts x q) e
   where
     go : (b : Bool) → is_end_sync k epoch m ≡ b → (last_status k epoch ts ≡ Some x → SyncTold k epoch ts) → or_else (status_of_shown (shown_if b r)) (last_status k epoch ts) ≡ Some x → SyncTold k epoch (Answered m r ∷ ts)
@@ -75,13 +61,7 @@ status-told k epoch (Answered m r ∷ ts) x e = go (is_end_sync k epoch m) refl 
     go false q rec e' = told-later k epoch (Answered m r) ts (rec e')
 
 pub end-sync-decided : (k epoch : ℕ) (m : Message) → is_end_sync k epoch m ≡ true → (m.decided ≡ true) × (m.campaign ≡ k)
-end-sync-decided k epoch m e = go (is_sync m.call) m.decided (nat_eq m.campaign k) refl refl e
-  where
-    go : (a b c : Bool) → m.decided ≡ b → nat_eq m.campaign k ≡ c → (a && (b && (c && nat_eq m.at.epoch epoch))) ≡ true → (m.decided ≡ true) × (m.campaign ≡ k)
-    go true true true p q e' = (p, eqb-true m.campaign k q)
-    go true true false p q e' = absurd (let f : ⊥ = cc e' in f)
-    go true false c p q e' = absurd (let f : ⊥ = cc e' in f)
-    go false b c p q e' = absurd (let f : ⊥ = cc e' in f)
+end-sync-decided k epoch m e = grind arith
 
 module _ (N : NodeRules) (laws : NodeLaws N) (f : Fold) (n : ℕ) where
   -- after an answer to a message of the decided campaign nothing from before the decision is executable
@@ -134,13 +114,8 @@ module _ (N : NodeRules) (laws : NodeLaws N) (f : Fold) (n : ℕ) where
         ends_old = steps.ends_old;
         session = steps.session;
         open_span = steps.open_span;
-        old_so_far = λ c current d.
-            elim (steps.ended c.campaign) [
-              | inl e ↦ subst (λ l. EachEnded N (λ y. N.Leaves y.before y.left) l) (sym e) (kept.old_so_far c current d)
-              | inr h ↦ (let c_is : h.0 ≡ c = (let e : Some h.0 ≡ Some c = sym h.1 ∙ current in cc e) in h.3 (subst (λ y. NotCommit y.decision) (sym c_is) d))
-            ];
-        fresh = λ k is_fresh.
-            elim (steps.ended k) [ inl e ↦ e ∙ kept.fresh k is_fresh | inr h ↦ absurd (is_fresh.other h.0 h.1 (sym h.2)) ];
+        old_so_far = λ c current d. grind arith;
+        fresh = λ k is_fresh. grind arith;
         entered = λ k result earlier r.
             elim (steps.ended k) [
               | inl e ↦ subst (λ l. EachEnded N (λ y. N.Leaves y.before y.left) l) (sym e) (kept.entered k result earlier r)
@@ -152,11 +127,7 @@ module _ (N : NodeRules) (laws : NodeLaws N) (f : Fold) (n : ℕ) where
   event-foreign x call fold kept = kept-step x (Foreign call) fold kept steps
     where
       mine-back : (tag : ℕ) → N.mine (N.foreign (state_of N x) call) ≡ Some tag → N.mine (state_of N x) ≡ Some tag
-      mine-back tag e = go (N.mine (state_of N x)) refl
-        where
-          go : (o : Option ℕ) → N.mine (state_of N x) ≡ o → N.mine (state_of N x) ≡ Some tag
-          go None q = absurd (let g : ⊥ = cc (laws.foreign_none (state_of N x) call q, e) in g)
-          go (Some t) q = sym (laws.foreign_session (state_of N x) call t q).mine ∙ e
+      mine-back tag e = grind arith
 
       steps : Steps x (Foreign call)
       steps =
@@ -179,51 +150,21 @@ module _ (N : NodeRules) (laws : NodeLaws N) (f : Fold) (n : ℕ) where
       same x i w = ap N.mine (laws.unit_still s passed (ap is_working i ∙ w)) ∙ e
 
       at_status : (x : Status) → N.status s ≡ x → (N.mine (N.unit s passed) ≡ Some tag) ⊎ ((N.status s ≡ CleaningUp) × (N.mine (N.unit s passed) ≡ None))
-      at_status Idle i = inl (same Idle i refl)
-      at_status Ready i = inl (same Ready i refl)
       at_status Processing i = let id = laws.processing_id s tag e i in inl (laws.unit_processing s passed tag id.0 e i id.1).0
       at_status Activating i = inl (laws.unit_activating s passed tag e i).0
       at_status Verifying i = inl (laws.unit_verifying s passed tag e i).0
-      at_status Activated i = inl (same Activated i refl)
       at_status RollingBack i = inl (laws.unit_rolling s passed tag e i).0
-      at_status RolledBack i = inl (same RolledBack i refl)
       at_status CleaningUp i = inr (i, cleaned N laws s passed tag e i)
+      at_status x i = inl (same x i refl)
 
   pub unit-back : (s : N.State) (passed : Bool) (tag : ℕ) → N.mine (N.unit s passed) ≡ Some tag → N.mine s ≡ Some tag
-  unit-back s passed tag e = go (N.mine s) refl
-    where
-      go : (o : Option ℕ) → N.mine s ≡ o → N.mine s ≡ Some tag
-      go None q = absurd (let g : ⊥ = cc ((laws.unit_none s passed q).0, e) in g)
-      go (Some t) q =
-          elim (unit-mine s passed t q) [ inl h ↦ q ∙ (sym h ∙ e) | inr h ↦ absurd (let g : ⊥ = cc (h.1, e) in g) ]
+  unit-back s passed tag e = grind (arith, unit-mine)
 
   pub is-cleaning : (x : Status) → is_status x CleaningUp ≡ true → x ≡ CleaningUp
-  is-cleaning Idle e = absurd (let g : ⊥ = cc e in g)
-  is-cleaning Ready e = absurd (let g : ⊥ = cc e in g)
-  is-cleaning Processing e = absurd (let g : ⊥ = cc e in g)
-  is-cleaning Activating e = absurd (let g : ⊥ = cc e in g)
-  is-cleaning Verifying e = absurd (let g : ⊥ = cc e in g)
-  is-cleaning Activated e = absurd (let g : ⊥ = cc e in g)
-  is-cleaning RollingBack e = absurd (let g : ⊥ = cc e in g)
-  is-cleaning RolledBack e = absurd (let g : ⊥ = cc e in g)
-  is-cleaning CleaningUp e = refl
-
-  -- a span under a unit
-  still-open : (y : Spans N) (b : Bool) (z : List (Span N)) → (if (y.is_open && b) then record { is_open = false; ended = z } else y).is_open ≡ true → (y.is_open ≡ true) × (b ≡ false)
-  still-open y b z e = go y.is_open b refl refl e
-    where
-      go : (o c : Bool) → y.is_open ≡ o → b ≡ c → (if (o && c) then record { is_open = false; ended = z } else y).is_open ≡ true → (y.is_open ≡ true) × (b ≡ false)
-      go true true p q e' = absurd (let g : ⊥ = cc e' in g)
-      go true false p q e' = (p, q)
-      go false c p q e' = absurd (let g : ⊥ = cc (p, e') in g)
+  is-cleaning x e = grind arith
 
   pub span-ended : (y : Spans N) (b : Bool) (z : List (Span N)) → ((if (y.is_open && b) then record { is_open = false; ended = z } else y).ended ≡ y.ended) ⊎ ((y.is_open ≡ true) × (b ≡ true) × ((if (y.is_open && b) then record { is_open = false; ended = z } else y).ended ≡ z))
-  span-ended y b z = go y.is_open b refl refl
-    where
-      go : (o c : Bool) → y.is_open ≡ o → b ≡ c → ((if (o && c) then record { is_open = false; ended = z } else y).ended ≡ y.ended) ⊎ ((y.is_open ≡ true) × (b ≡ true) × ((if (o && c) then record { is_open = false; ended = z } else y).ended ≡ z))
-      go true true p q = inr (p, q, refl)
-      go true false p q = inl refl
-      go false c p q = inl refl
+  span-ended y b z = grind arith
 
   pub event-unit : (x : NodeWorld N) (passed : Bool) → KeptFold f → KeptOld N f n x → KeptOld N f n (record { moves = Unit_done passed ∷ x.moves; sent = x.sent; told = x.told })
   event-unit x passed fold kept = kept-step x (Unit_done passed) fold kept steps
@@ -237,13 +178,7 @@ module _ (N : NodeRules) (laws : NodeLaws N) (f : Fold) (n : ℕ) where
             kept_holds = kept-unit N laws (state_of N x) passed kept.kept_holds;
             ends_old = λ c current d. ends_old-unit N laws (state_of N x) passed (kept.ends_old c current d);
             session = λ tag e. kept.session tag (unit-back (state_of N x) passed tag e);
-            open_span = λ k e.
-                let h = still-open (spans N k x.moves) (is_status (N.status (state_of N x)) CleaningUp) _ e in
-                let mine = kept.open_span k h.0 in
-                elim (unit-mine (state_of N x) passed k mine) [
-                  | inl q ↦ q
-                  | inr q ↦ absurd (let t : is_status (N.status (state_of N x)) CleaningUp ≡ true = rw q.0 refl in let g : ⊥ = cc (t, h.1) in g)
-                ];
+            open_span = λ k e. grind (arith, spans, state_of, unit-mine);
             ended = λ k.
                 elim (span-ended (spans N k x.moves) (is_status (N.status (state_of N x)) CleaningUp) (record { outcome = N.outcome (state_of N x); before = state_of N x; left = N.unit (state_of N x) passed } ∷ (spans N k x.moves).ended)) [
                   | inl e ↦ inl e
@@ -264,60 +199,8 @@ module _ (N : NodeRules) (laws : NodeLaws N) (f : Fold) (n : ℕ) where
                 ];
           }
 
-  -- a delivery
-  pub done-is : (r : Reply) → is_done r ≡ true → r ≡ Done
-  done-is Done e = refl
-  done-is (Started _) e = absurd (let g : ⊥ = cc e in g)
-  done-is (Synced _) e = absurd (let g : ⊥ = cc e in g)
-  done-is (Refused _) e = absurd (let g : ⊥ = cc e in g)
-
-  pub is-idle : (x : Status) → is_status x Idle ≡ true → x ≡ Idle
-  is-idle Idle e = refl
-  is-idle Ready e = absurd (let g : ⊥ = cc e in g)
-  is-idle Processing e = absurd (let g : ⊥ = cc e in g)
-  is-idle Activating e = absurd (let g : ⊥ = cc e in g)
-  is-idle Verifying e = absurd (let g : ⊥ = cc e in g)
-  is-idle Activated e = absurd (let g : ⊥ = cc e in g)
-  is-idle RollingBack e = absurd (let g : ⊥ = cc e in g)
-  is-idle RolledBack e = absurd (let g : ⊥ = cc e in g)
-  is-idle CleaningUp e = absurd (let g : ⊥ = cc e in g)
-
-  pub and-left : (a b : Bool) → (a && b) ≡ true → (a ≡ true) × (b ≡ true)
-  and-left true b e = (refl, e)
-  and-left false b e = absurd (let g : ⊥ = cc e in g)
-
-  idle-none : (s : N.State) → N.status s ≡ Idle → N.mine s ≡ None
-  idle-none s i = go (N.mine s) refl
-    where
-      go : (o : Option ℕ) → N.mine s ≡ o → N.mine s ≡ None
-      go None e = e
-      go (Some tag) e = absurd (laws.session_status s tag e i)
-
   pub begins-mine : (k : ℕ) (s : N.State) (at : CallNo) (call : Call) → (has_tag k call && (is_status (N.status s) Idle && is_fresh_done (reached N s at call))) ≡ true → N.mine (delivered N s at call) ≡ Some k
-  begins-mine k s at Sync e = absurd (let g : ⊥ = cc e in g)
-  begins-mine k s at (TransferStart size) e = absurd (let g : ⊥ = cc e in g)
-  begins-mine k s at (TransferData id counter bytes) e = absurd (let g : ⊥ = cc e in g)
-  begins-mine k s at (TransferExit id) e = absurd (let g : ⊥ = cc e in g)
-  begins-mine k s at (DeleteTransfer id) e = absurd (let g : ⊥ = cc e in g)
-  begins-mine k s at (ProcessSwPackage id tag) e = go (no_lt at (N.last s)) (no_eq at (N.last s)) (and-left (is_status (N.status s) Idle) (is_fresh_done (reached N s at (ProcessSwPackage id tag))) (and-left (nat_eq tag k) (is_status (N.status s) Idle && is_fresh_done (reached N s at (ProcessSwPackage id tag))) e).1).1
-    where
-      go : (a b : Bool) → is_fresh_done (if a then Stale (N.last s) else (if b then Again (N.kept s) else Fresh (N.judge s (ProcessSwPackage id tag)).1)) ≡ true → N.mine (if a then s else (if b then s else N.keep (N.judge s (ProcessSwPackage id tag)).0 at (ProcessSwPackage id tag) (N.judge s (ProcessSwPackage id tag)).1)) ≡ Some k
-      go true b q = absurd (let g : ⊥ = cc q in g)
-      go false true q = absurd (let g : ⊥ = cc q in g)
-      go false false q =
-          let st : N.status s ≡ Idle = is-idle (N.status s) (and-left (is_status (N.status s) Idle) (is_fresh_done (reached N s at (ProcessSwPackage id tag))) (and-left (nat_eq tag k) (is_status (N.status s) Idle && is_fresh_done (reached N s at (ProcessSwPackage id tag))) e).1).0 in
-          let tg : tag ≡ k = eqb-true tag k (and-left (nat_eq tag k) (is_status (N.status s) Idle && is_fresh_done (reached N s at (ProcessSwPackage id tag))) e).0 in
-          let d = laws.process_idle s id tag (idle-none s st) (done-is (N.judge s (ProcessSwPackage id tag)).1 q) in
-          (laws.keep_session (N.judge s (ProcessSwPackage id tag)).0 at (ProcessSwPackage id tag) (N.judge s (ProcessSwPackage id tag)).1).mine ∙ (d.1 ∙ ap Some tg)
-  begins-mine k s at Activate e = absurd (let g : ⊥ = cc e in g)
-  begins-mine k s at Finish e = absurd (let g : ⊥ = cc e in g)
-  begins-mine k s at Rollback e = absurd (let g : ⊥ = cc e in g)
-  begins-mine k s at Revert e = absurd (let g : ⊥ = cc e in g)
-  begins-mine k s at (Cancel id) e = absurd (let g : ⊥ = cc e in g)
-
-  pub or-true : (a b : Bool) → (a || b) ≡ true → (a ≡ true) ⊎ (b ≡ true)
-  or-true true b e = inl refl
-  or-true false b e = inr e
+  begins-mine k s at x e = grind arith
 
   pub event-deliver : (x : NodeWorld N) (m : Message) → InSent m x.sent → KeptFold f → KeptOld N f n x → KeptOld N f n (record { moves = Delivered m ∷ x.moves; sent = x.sent; told = x.told })
   event-deliver x m sent fold kept = kept-step x (Delivered m) fold kept steps
@@ -330,14 +213,10 @@ module _ (N : NodeRules) (laws : NodeLaws N) (f : Fold) (n : ℕ) where
       no_process early a b id tag e = early m sent (kept.tags m sent id tag e).1 (fresh_exec a b)
 
       back : (m' : Message) → InSent m' x.sent → Executable N (delivered N (state_of N x) m.at m.call) m' → Executable N (state_of N x) m'
-      back m' s' exec =
-          delivered-cases N laws (state_of N x) m.at m.call (λ t. Executable N t m' → Executable N (state_of N x) m') (λ e. e) (λ a b e.
-          below-trans (N.last (state_of N x)) m.at m'.at (fresh_exec a b) (subst (λ l. IsBelow l m'.at) (laws.keep_last (N.judge (state_of N x) m.call).0 m.at m.call (N.judge (state_of N x) m.call).1) e)) exec
+      back m' s' exec = grind (arith, nat_tests)
 
       none : NoneEarly N (state_of N x) x.sent → N.mine (state_of N x) ≡ None → N.mine (delivered N (state_of N x) m.at m.call) ≡ None
-      none early e =
-          delivered-cases N laws (state_of N x) m.at m.call (λ t. N.mine t ≡ None) e (λ a b.
-          (laws.keep_session (N.judge (state_of N x) m.call).0 m.at m.call (N.judge (state_of N x) m.call).1).mine ∙ none-judge N laws (state_of N x) m.call (no_process early a b) e)
+      none early e = grind (arith, delivered-cases, state_of, laws.keep_session, none-judge, no_process)
 
       rolled : NoneEarly N (state_of N x) x.sent → IsRolledBack N (state_of N x) → IsRolledBack N (delivered N (state_of N x) m.at m.call)
       rolled early r =
@@ -373,18 +252,9 @@ module _ (N : NodeRules) (laws : NodeLaws N) (f : Fold) (n : ℕ) where
           of_call (ProcessSwPackage id t) q none' e' =
               elim (laws.process_replies (state_of N x) id t) [
                 | inl d ↦ (id, t, refl, (let g : Some t ≡ Some tag = sym (laws.process_idle (state_of N x) id t none' d).1 ∙ e' in cc g))
-                | inr r ↦ absurd (let g : ⊥ = cc (ap N.mine (laws.refused (state_of N x) (ProcessSwPackage id t) r.0 r.1), none', e') in g)
+                | inr r ↦ absurd (cc (ap N.mine (laws.refused (state_of N x) (ProcessSwPackage id t) r.0 r.1), none', e'))
               ]
-          of_call Sync q none' e' = absurd (let g : ⊥ = cc (none-judge N laws (state_of N x) Sync (λ i t z. cc) none', e') in g)
-          of_call (TransferStart size) q none' e' = absurd (let g : ⊥ = cc (none-judge N laws (state_of N x) (TransferStart size) (λ i t z. cc) none', e') in g)
-          of_call (TransferData id counter bytes) q none' e' = absurd (let g : ⊥ = cc (none-judge N laws (state_of N x) (TransferData id counter bytes) (λ i t z. cc) none', e') in g)
-          of_call (TransferExit id) q none' e' = absurd (let g : ⊥ = cc (none-judge N laws (state_of N x) (TransferExit id) (λ i t z. cc) none', e') in g)
-          of_call (DeleteTransfer id) q none' e' = absurd (let g : ⊥ = cc (none-judge N laws (state_of N x) (DeleteTransfer id) (λ i t z. cc) none', e') in g)
-          of_call Activate q none' e' = absurd (let g : ⊥ = cc (none-judge N laws (state_of N x) Activate (λ i t z. cc) none', e') in g)
-          of_call Finish q none' e' = absurd (let g : ⊥ = cc (none-judge N laws (state_of N x) Finish (λ i t z. cc) none', e') in g)
-          of_call Rollback q none' e' = absurd (let g : ⊥ = cc (none-judge N laws (state_of N x) Rollback (λ i t z. cc) none', e') in g)
-          of_call Revert q none' e' = absurd (let g : ⊥ = cc (none-judge N laws (state_of N x) Revert (λ i t z. cc) none', e') in g)
-          of_call (Cancel id) q none' e' = absurd (let g : ⊥ = cc (none-judge N laws (state_of N x) (Cancel id) (λ i t z. cc) none', e') in g)
+          of_call y q none' e' = absurd (cc (none-judge N laws (state_of N x) y (λ i t z. cc) none', e'))
 
           at_mine : (o : Option ℕ) → N.mine (state_of N x) ≡ o → InPresent f n (λ c. tag ≡ c.campaign)
           at_mine (Some old) q =
@@ -411,79 +281,81 @@ module _ (N : NodeRules) (laws : NodeLaws N) (f : Fold) (n : ℕ) where
             ends_old = ends_old;
             session = session;
             open_span = λ k e.
-                elim (or-true (spans N k x.moves).is_open (begins_span N k (state_of N x) m) e) [
-                  | inl o ↦ some-delivered N laws (state_of N x) m.at m.call k (kept.open_span k o)
-                  | inr o ↦ begins-mine k (state_of N x) m.at m.call o
-                ];
+                grind (arith, or-true, spans, begins_span, state_of, some-delivered, begins-mine);
             ended = λ k. inl refl;
           }
+
+  -- what is told anew leaves the rest
+  retold : (x : NodeWorld N) (told : List Told) → KeptOld N f n x
+      → ((m : Message) (r : Reply) → InTold (Answered m r) told → InSent m x.sent × (Executable N (state_of N x) m → ⊥))
+      → ((m : Message) (y : Shown) → InTold (Answered m (Synced y)) told → m.decided ≡ true → (c : Current) → f.current ≡ Some c → m.campaign ≡ c.campaign → is_masters y.session ≡ false → N.mine (state_of N x) ≡ None)
+      → ((c : Current) → f.current ≡ Some c → last_status c.campaign f.epoch told ≡ Some RolledBack → IsRolledBack N (state_of N x))
+      → KeptOld N f n (record { moves = x.moves; sent = x.sent; told = told })
+  retold x told kept told_sent told_none told_rolled = grind arith
 
   -- an answer that is told: it is the node's kept reply, and its message is executed
   pub event-answered : (x : NodeWorld N) (m : Message) (r : Reply) → InSent m x.sent → (Executable N (state_of N x) m → ⊥) → N.kept (state_of N x) ≡ r → KeptOld N f n x → KeptOld N f n (record { moves = x.moves; sent = x.sent; told = Answered m r ∷ x.told })
   event-answered x m r sent done kept_is kept =
-      record {
-        falling = kept.falling;
-        epochs = kept.epochs;
-        tags = kept.tags;
-        early = kept.early;
-        decided = kept.decided;
-        ordered = kept.ordered;
-        begun = kept.begun;
-        present = kept.present;
-        told_sent = λ m' r' told.
-            elim told [
-              | inl e ↦ (let e' : Answered m' r' ≡ Answered m r = e in let q : m' ≡ m = cc e' in (subst (λ y. InSent y x.sent) (sym q) sent, subst (λ y. Executable N (state_of N x) y → ⊥) (sym q) done))
-              | inr h ↦ kept.told_sent m' r' h
-            ];
-        told_none = λ m' y told d c current campaign free.
-            elim told [
-              | inl e ↦ (let e' : Answered m' (Synced y) ≡ Answered m r = e in let q : Synced y ≡ r = cc e' in kept.kept_holds.none y (kept_is ∙ sym q) free)
-              | inr h ↦ kept.told_none m' y h d c current campaign free
-            ];
-        told_rolled = λ c current e. rolled c current (is_end_sync c.campaign f.epoch m) r kept_is e;
-        kept_holds = kept.kept_holds;
-        finish = kept.finish;
-        ends_old = kept.ends_old;
-        session = kept.session;
-        open_span = kept.open_span;
-        old_so_far = kept.old_so_far;
-        fresh = kept.fresh;
-        entered = kept.entered;
-      }
+      retold x (Answered m r ∷ x.told) kept
+      (λ m' r' told. elim told [ inl e ↦ newest m' r' e | inr h ↦ kept.told_sent m' r' h ])
+      (λ m' y told d c current campaign free. elim told [ inl e ↦ shown m' y e free | inr h ↦ kept.told_none m' y h d c current campaign free ])
+      (λ c current e. rolled c current (is_end_sync c.campaign f.epoch m) r kept_is e)
     where
+      newest : (m' : Message) (r' : Reply) → Answered m' r' ≡ Answered m r → InSent m' x.sent × (Executable N (state_of N x) m' → ⊥)
+      newest m' r' e = let q : m' ≡ m = cc e in (subst (λ y. InSent y x.sent) (sym q) sent, subst (λ y. Executable N (state_of N x) y → ⊥) (sym q) done)
+
+      shown : (m' : Message) (y : Shown) → Answered m' (Synced y) ≡ Answered m r → is_masters y.session ≡ false → N.mine (state_of N x) ≡ None
+      shown m' y e free = let q : Synced y ≡ r = cc e in kept.kept_holds.none y (kept_is ∙ sym q) free
+
       rolled : (c : Current) → f.current ≡ Some c → (b : Bool) (r' : Reply) → N.kept (state_of N x) ≡ r' → or_else (status_of_shown (shown_if b r')) (last_status c.campaign f.epoch x.told) ≡ Some RolledBack → IsRolledBack N (state_of N x)
       rolled c current true (Synced y) k e = kept.kept_holds.rolled y k (let e' : Some (session_status y.session) ≡ Some RolledBack = e in cc e')
-      rolled c current true Done k e = kept.told_rolled c current e
-      rolled c current true (Started id) k e = kept.told_rolled c current e
-      rolled c current true (Refused why) k e = kept.told_rolled c current e
-      rolled c current false r' k e = kept.told_rolled c current e
+      rolled c current _ _ k e = kept.told_rolled c current e
 
   -- a status that is told
   pub event-showed : (x : NodeWorld N) (s : Status) → N.status (state_of N x) ≡ s → KeptOld N f n x → KeptOld N f n (record { moves = x.moves; sent = x.sent; told = Showed s ∷ x.told })
   event-showed x s status kept =
-      record {
-        falling = kept.falling;
-        epochs = kept.epochs;
-        tags = kept.tags;
-        early = kept.early;
-        decided = kept.decided;
-        ordered = kept.ordered;
-        begun = kept.begun;
-        present = kept.present;
-        told_sent = λ m r told. elim told [ inl e ↦ absurd (let e' : Answered m r ≡ Showed s = e in let g : ⊥ = cc e' in g) | inr h ↦ kept.told_sent m r h ];
-        told_none = λ m y told d c current campaign free.
-            elim told [ inl e ↦ absurd (let e' : Answered m (Synced y) ≡ Showed s = e in let g : ⊥ = cc e' in g) | inr h ↦ kept.told_none m y h d c current campaign free ];
-        told_rolled = λ c current e. rolled c current (is_some (last_shown c.campaign f.epoch x.told)) e;
-        kept_holds = kept.kept_holds;
-        finish = kept.finish;
-        ends_old = kept.ends_old;
-        session = kept.session;
-        open_span = kept.open_span;
-        old_so_far = kept.old_so_far;
-        fresh = kept.fresh;
-        entered = kept.entered;
-      }
+      retold x (Showed s ∷ x.told) kept
+      (λ m r told. elim told [ inl e ↦ absurd (let e' : Answered m r ≡ Showed s = e in cc e') | inr h ↦ kept.told_sent m r h ])
+      (λ m y told d c current campaign free. elim told [ inl e ↦ absurd (let e' : Answered m (Synced y) ≡ Showed s = e in cc e') | inr h ↦ kept.told_none m y h d c current campaign free ])
+      (λ c current e. rolled c current (is_some (last_shown c.campaign f.epoch x.told)) e)
     where
       rolled : (c : Current) → f.current ≡ Some c → (b : Bool) → or_else (status_if b s) (last_status c.campaign f.epoch x.told) ≡ Some RolledBack → IsRolledBack N (state_of N x)
       rolled c current true e = λ tag mine. inl (status ∙ (let e' : Some s ≡ Some RolledBack = e in cc e'))
       rolled c current false e = kept.told_rolled c current e
+
+-- A session of client 0 is an open span of its tag.
+module _ (N : NodeRules) (laws : NodeLaws N) where
+  none-begins : (s : N.State) (at : CallNo) (call : Call) (k : ℕ) → N.mine s ≡ None → N.mine (delivered N s at call) ≡ Some k → (has_tag k call && (is_status (N.status s) Idle && is_fresh_done (reached N s at call))) ≡ true
+  none-begins s at (ProcessSwPackage id tag) k none e = go (no_lt at (N.last s)) (no_eq at (N.last s)) e
+    where
+      all-true : (a b c : Bool) → a ≡ true → b ≡ true → c ≡ true → (a && (b && c)) ≡ true
+      all-true a b c p q r = subst (λ x. (x && (b && c)) ≡ true) (sym p) (subst (λ x. (x && c) ≡ true) (sym q) r)
+
+      go : (a b : Bool) → N.mine (if a then s else (if b then s else N.keep (N.judge s (ProcessSwPackage id tag)).0 at (ProcessSwPackage id tag) (N.judge s (ProcessSwPackage id tag)).1)) ≡ Some k → (nat_eq tag k && (is_status (N.status s) Idle && is_fresh_done (if a then Stale (N.last s) else (if b then Again (N.kept s) else Fresh (N.judge s (ProcessSwPackage id tag)).1)))) ≡ true
+      go false false e' =
+          let judged : N.mine (N.judge s (ProcessSwPackage id tag)).0 ≡ Some k = sym (laws.keep_session (N.judge s (ProcessSwPackage id tag)).0 at (ProcessSwPackage id tag) (N.judge s (ProcessSwPackage id tag)).1).mine ∙ e' in
+          elim (laws.process_replies s id tag) [
+            | inl d ↦
+                (let u = laws.process_idle s id tag none d in
+                let tag_is : tag ≡ k = (let q : Some tag ≡ Some k = sym u.1 ∙ judged in cc q) in
+                all-true (nat_eq tag k) (is_status (N.status s) Idle) (is_done (N.judge s (ProcessSwPackage id tag)).1) (eq-eqb tag k tag_is) (ap (λ x. is_status x Idle) u.0) (ap is_done d))
+            | inr r ↦ absurd (cc (ap N.mine (laws.refused s (ProcessSwPackage id tag) r.0 r.1), none, judged))
+          ]
+      go _ _ e' = absurd (cc (none, e'))
+  none-begins s at x k none e = absurd (cc (none-delivered N laws s at x (λ i t z. cc) none, e))
+
+  stays-open : (y : Spans N) (b : Bool) (z : List (Span N)) → y.is_open ≡ true → (b ≡ true → ⊥) → (if (y.is_open && b) then record { is_open = false; ended = z } else y).is_open ≡ true
+  stays-open y b z open_ shut = grind arith
+
+  pub open-mine : (moves : List (Move N)) (k : ℕ) → N.mine (after N moves) ≡ Some k → (spans N k moves).is_open ≡ true
+  open-mine [] k e = absurd (cc (laws.formatted_mine, e))
+  open-mine (Delivered m ∷ ms) k e = go (N.mine (after N ms)) refl (open-mine ms k)
+    where
+      go : (o : Option ℕ) → N.mine (after N ms) ≡ o → (N.mine (after N ms) ≡ Some k → (spans N k ms).is_open ≡ true) → ((spans N k ms).is_open || begins_span N k (after N ms) m) ≡ true
+      go None q rec = or-right (spans N k ms).is_open (begins_span N k (after N ms) m) (none-begins (after N ms) m.at m.call k q e)
+      go (Some t) q rec = grind (arith, some-delivered, after, spans, begins_span)
+  open-mine (Foreign call ∷ ms) k e = grind (arith, spans, laws.foreign_none, laws.foreign_session, open-mine ms k)
+  open-mine (Unit_done passed ∷ ms) k e =
+      let mine = unit-back N laws nothing_yet 0 (after N ms) passed k e in
+      stays-open (spans N k ms) (is_status (N.status (after N ms)) CleaningUp) _ (open-mine ms k mine) (λ c.
+      cc (cleaned N laws (after N ms) passed k mine (is-cleaning N laws nothing_yet 0 (N.status (after N ms)) c), e))

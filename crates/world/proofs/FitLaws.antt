@@ -1,33 +1,71 @@
--- The node of the tables meets the world's laws, where every step keeps a state valid; and so the law of campaigns holds of it.
-use Rattle.std.proofs.Common.{◌≡◌, ◌≢◌, ◌⊎◌, inl, inr, ℕ, List, [], ◌∷◌, ◌++◌, Some, None, Bool, true, false, refl, sym, ap, subst}
-use Rattle.std.specs.List.{Contains}
-use Rattle.ucm_base.specs.Parts.{Bytes}
-use Rattle.pm_types.specs.declared.clusters.Cluster.{Cluster}
-use Rattle.pm_types.specs.declared.replies.Refusal.{Refusal}
-use Rattle.pm_types.specs.declared.status.Outcome.{Outcome}
-use Rattle.pm_types.specs.declared.status.Outcome.TheVariants.{New, Old}
-use Rattle.pm_types.specs.declared.status.Status.TheVariants.{Idle, Ready, Processing, Activating, Verifying, Activated, RollingBack, RolledBack, CleaningUp}
-use Rattle.pm_types.specs.NodeState.{NodeState}
-use Rattle.pm_types.specs.Transfers.{ids_of, parts_read}
-use Rattle.pm_types.specs.Histories.{Reading}
-use Rattle.pm_types.specs.Validity.{id_in_processing}
-use Rattle.pm_types.specs.declared.calls.Call.{Call}
-use Rattle.pm_types.specs.declared.replies.Reply.{Reply}
-use Rattle.pm_types.specs.declared.calls.Call.TheVariants.{TransferStart, TransferData, TransferExit, DeleteTransfer, ProcessSwPackage, Activate, Finish, Rollback, RevertProcessedSwPackages as Revert, Cancel}
-use Rattle.pm_types.specs.declared.replies.Reply.TheVariants.{Done, Started, Synced, Refused}
-use Rattle.pm_types.specs.NodeState.{is_working}
+-- The node of the tables over its fit states: the node of the world.
+use Rattle.world.proofs.Names.{List, Bool, true, false, Bytes, Part, Cluster, NodeState, is_working, ids_of, parts_read}
+use Rattle.world.proofs.Names.{Reading, formatted, id_in_processing, IsFit, Call, Reply, Synced, Refused, CallNo, arith}
+use Rattle.world.proofs.Names.{◌≡◌, ◌≢◌, ◌⊎◌, inl, inr, ℕ, [], ◌∷◌, ◌++◌, Some, None, refl, sym, ap, subst, Contains}
+use Rattle.world.proofs.Names.{Refusal, Outcome, New, Old, Idle, Ready, Processing, Activating, Verifying, Activated}
+use Rattle.world.proofs.Names.{RollingBack, RolledBack, CleaningUp, TransferStart, TransferData, TransferExit}
+use Rattle.world.proofs.Names.{DeleteTransfer, ProcessSwPackage, Activate, Finish, Rollback, Revert, Cancel, Done}
 use Rattle.world.proofs.Rules.{NodeRules, NodeLaws, KeepsSession, KeepsTransfers}
-use Rattle.world.proofs.RulesLaw.{CampaignLaw}
-use Rattle.world.proofs.WorldLaw.{world-law}
-use Rattle.world.proofs.Instance.{last_in, kept_in, mine_in, planned_in, outcome_in, BringsIn, LeavesIn, ended_in, received_in, judged_in, kept_after, Outside, Opens, Calls, opened_in, outside_in, unit_in, real}
-use Rattle.world.proofs.FitNode.{KeepsNode, FitState, fit_after, fit_unit, fit}
+use Rattle.world.proofs.Instance.{Outside, last_in, kept_in, mine_in, owner_in, planned_in, outcome_in, ended_in}
+use Rattle.world.proofs.Instance.{received_in, judged_in, kept_after, outside_in, unit_in, BringsIn, LeavesIn, Opens}
+use Rattle.world.proofs.Instance.{Calls, opened_in, real}
 use Rattle.world.proofs.Basics as basics
 use Rattle.world.proofs.Sessions as sessions
-use Rattle.world.proofs.Units as units
 use Rattle.world.proofs.TransferLaws as transfers
-use Rattle.world.proofs.Foreign as foreign
 use Rattle.world.proofs.Others as others
 
+-- every step of the tables keeps a state fit
+pub record KeepsNode (read : Reading) (clusters : List (Cluster Bytes)) : Type 0 where
+  pub formatted : IsFit read (formatted clusters)
+  pub judge : (s : NodeState) (c : Call) → IsFit read s → IsFit read (judged_in read s c).0
+  pub keep : (s : NodeState) (at : CallNo) (c : Call) (r : Reply) → IsFit read s → IsFit read (kept_after s at c r)
+  pub foreign : (s : NodeState) (f : Outside) → IsFit read s → IsFit read (outside_in read s f)
+  pub unit : (s : NodeState) (passed : Bool) → IsFit read s → IsFit read (unit_in s passed)
+
+-- a valid state
+pub record FitState (read : Reading) : Type 0 where
+  pub state : NodeState
+  pub fit : IsFit read state
+
+-- a refusal and a Sync leave the state
+abbrev pub fit_after : (read : Reading) (clusters : List (Cluster Bytes)) → KeepsNode read clusters → FitState read → Call → Reply → FitState read
+fit_after read clusters keeps x c (Synced y) = x
+fit_after read clusters keeps x c (Refused why) = x
+fit_after read clusters keeps x c _ = record { state = (judged_in read x.state c).0; fit = keeps.judge x.state c x.fit }
+
+-- a unit in no working status leaves the state
+abbrev pub fit_unit : (read : Reading) (clusters : List (Cluster Bytes)) → KeepsNode read clusters → FitState read → Bool → Bool → FitState read
+fit_unit read clusters keeps x passed true = record { state = unit_in x.state passed; fit = keeps.unit x.state passed x.fit }
+fit_unit read clusters keeps x passed false = x
+
+abbrev pub fit : (read : Reading) (clusters : List (Cluster Bytes)) → KeepsNode read clusters → NodeRules
+fit read clusters keeps =
+    record {
+      State = FitState read;
+      ForeignCall = Outside;
+      Change = Part Bytes;
+      formatted = record { state = formatted clusters; fit = keeps.formatted };
+      last = λ x. last_in x.state;
+      kept = λ x. kept_in x.state;
+      status = λ x. x.state.status;
+      mine = λ x. mine_in x.state;
+      owner = λ x. owner_in x.state;
+      planned = λ x. planned_in x.state;
+      in_process = λ x. id_in_processing x.state;
+      outcome = λ x. outcome_in x.state;
+      ended = λ x. ended_in x.state;
+      transfers = λ x. ids_of x.state 0;
+      received = λ x id. received_in x.state id;
+      changes_of = λ bytes. parts_read (read bytes);
+      judge = λ x c. (fit_after read clusters keeps x c (judged_in read x.state c).1, (judged_in read x.state c).1);
+      keep = λ x at c r. record { state = kept_after x.state at c r; fit = keeps.keep x.state at c r x.fit };
+      foreign = λ x f. record { state = outside_in read x.state f; fit = keeps.foreign x.state f x.fit };
+      unit = λ x passed. fit_unit read clusters keeps x passed (is_working x.state.status);
+      Brings = λ parts x y. BringsIn parts x.state y.state;
+      Leaves = λ x y. LeavesIn x.state y.state;
+    }
+
+-- The node of the tables meets the world's laws, where every step keeps a state valid; and so the law of campaigns holds of it.
 module _ (read : Reading) (clusters : List (Cluster Bytes)) (keeps : KeepsNode read clusters) where
   N : NodeRules
   N = fit read clusters keeps
@@ -37,17 +75,12 @@ module _ (read : Reading) (clusters : List (Cluster Bytes)) (keeps : KeepsNode r
   state-is x c = go (judged_in read x.state c).1 refl
     where
       go : (r : Reply) → (judged_in read x.state c).1 ≡ r → (fit_after read clusters keeps x c r).state ≡ (judged_in read x.state c).0
-      go Done e = refl
-      go (Started id) e = refl
       go (Synced y) e = subst (λ d. x.state ≡ (judged_in read x.state d).0) (sym (basics.synced_only read clusters x.state c y e)) refl
       go (Refused why) e = sym (basics.refused read clusters x.state c why e)
+      go _ e = refl
 
   pub unit-is : (x : FitState read) (passed : Bool) → (fit_unit read clusters keeps x passed (is_working x.state.status)).state ≡ unit_in x.state passed
-  unit-is x passed = go (is_working x.state.status) refl
-    where
-      go : (b : Bool) → is_working x.state.status ≡ b → (fit_unit read clusters keeps x passed b).state ≡ unit_in x.state passed
-      go true e = refl
-      go false e = sym (units.unit_still x.state passed e)
+  unit-is x passed = grind arith
 
   session-of : (x y : FitState read) (u : NodeState) → y.state ≡ u → KeepsSession (real read clusters) x.state u → KeepsSession (fit read clusters keeps) x y
   session-of x y u e k = let h = subst (λ z. KeepsSession (real read clusters) x.state z) (sym e) k in record { mine = h.mine; status = h.status; planned = h.planned; in_process = h.in_process; outcome = h.outcome }
@@ -75,7 +108,7 @@ module _ (read : Reading) (clusters : List (Cluster Bytes)) (keeps : KeepsNode r
   process_ready x id tag old mine d = judged x (ProcessSwPackage id tag) (λ t. (x.state.status ≡ Ready) × (tag ≡ old) × (mine_in t ≡ Some old) × (t.status ≡ Processing) × (planned_in t ≡ planned_in x.state) × (id_in_processing t ≡ Some id)) (sessions.process_ready read clusters x.state id tag old x.fit.consistent mine d)
 
   unit_last : (x : FitState read) (p : Bool) → (last_in (fit_unit read clusters keeps x p (is_working x.state.status)).state ≡ last_in x.state) × (kept_in (fit_unit read clusters keeps x p (is_working x.state.status)).state ≡ kept_in x.state)
-  unit_last x p = worked x p (λ t. (last_in t ≡ last_in x.state) × (kept_in t ≡ kept_in x.state)) (units.unit_last x.state p)
+  unit_last x p = worked x p (λ t. (last_in t ≡ last_in x.state) × (kept_in t ≡ kept_in x.state)) (transfers.unit_last x.state p)
 
   unit_none : (x : FitState read) (p : Bool) → mine_in x.state ≡ None → (mine_in (fit_unit read clusters keeps x p (is_working x.state.status)).state ≡ None) × (ended_in (fit_unit read clusters keeps x p (is_working x.state.status)).state ≡ ended_in x.state) × KeepsTransfers (fit read clusters keeps) x (fit_unit read clusters keeps x p (is_working x.state.status))
   unit_none x p none =
@@ -89,22 +122,22 @@ module _ (read : Reading) (clusters : List (Cluster Bytes)) (keeps : KeepsNode r
   unit_processing x p tag id mine st pr = worked x p (λ t. Processed' x.state t tag id) (transfers.unit_processing read clusters x.state p tag id x.fit mine st pr)
 
   unit_cleaning : (x : FitState read) (p : Bool) (tag : ℕ) (o : Outcome) → mine_in x.state ≡ Some tag → x.state.status ≡ CleaningUp → outcome_in x.state ≡ Some o → (mine_in (fit_unit read clusters keeps x p (is_working x.state.status)).state ≡ None) × ((fit_unit read clusters keeps x p (is_working x.state.status)).state.status ≡ Idle) × (ended_in (fit_unit read clusters keeps x p (is_working x.state.status)).state ≡ Some (record { tag = tag; outcome = o }))
-  unit_cleaning x p tag o mine st out = worked x p (λ t. (mine_in t ≡ None) × (t.status ≡ Idle) × (ended_in t ≡ Some (record { tag = tag; outcome = o }))) (units.unit_cleaning x.state p tag o x.fit.consistent mine st out)
+  unit_cleaning x p tag o mine st out = worked x p (λ t. (mine_in t ≡ None) × (t.status ≡ Idle) × (ended_in t ≡ Some (record { tag = tag; outcome = o }))) (transfers.unit_cleaning x.state p tag o x.fit.consistent mine st out)
 
   cleaning_new : (x : FitState read) (p : Bool) (tag : ℕ) → mine_in x.state ≡ Some tag → x.state.status ≡ CleaningUp → outcome_in x.state ≡ Some New → BringsIn (planned_in x.state) x.state (fit_unit read clusters keeps x p (is_working x.state.status)).state
-  cleaning_new x p tag mine st out = worked x p (λ t. BringsIn (planned_in x.state) x.state t) (units.cleaning_new x.state p tag x.fit.consistent mine st out)
+  cleaning_new x p tag mine st out = worked x p (λ t. BringsIn (planned_in x.state) x.state t) (transfers.cleaning_new x.state p tag x.fit.consistent mine st out)
 
   cleaning_old : (x : FitState read) (p : Bool) (tag : ℕ) → mine_in x.state ≡ Some tag → x.state.status ≡ CleaningUp → outcome_in x.state ≡ Some Old → LeavesIn x.state (fit_unit read clusters keeps x p (is_working x.state.status)).state
-  cleaning_old x p tag mine st out = worked x p (λ t. LeavesIn x.state t) (units.cleaning_old x.state p tag x.fit.consistent mine st out)
+  cleaning_old x p tag mine st out = worked x p (λ t. LeavesIn x.state t) (transfers.cleaning_old x.state p tag x.fit.consistent mine st out)
 
   -- what happens beside the master's calls
   outside-session : (x : FitState read) (f : Outside) (tag : ℕ) → mine_in x.state ≡ Some tag → KeepsSession (real read clusters) x.state (outside_in read x.state f)
   outside-session x (Opens cs ok) tag mine = basics.keeps-of read clusters x.state (opened_in cs x.state) refl refl
-  outside-session x (Calls f) tag mine = foreign.foreign_session read clusters x.state f tag mine
+  outside-session x (Calls f) tag mine = others.foreign_session read clusters x.state f tag mine
 
   outside-none : (x : FitState read) (f : Outside) → mine_in x.state ≡ None → mine_in (outside_in read x.state f) ≡ None
   outside-none x (Opens cs ok) none = none
-  outside-none x (Calls f) none = foreign.foreign_none read x.state f none
+  outside-none x (Calls f) none = others.foreign_none read x.state f none
 
   outside-transfers : (x : FitState read) (f : Outside) → KeepsTransfers (real read clusters) x.state (outside_in read x.state f)
   outside-transfers x (Opens cs ok) = record { transfers = refl; received = λ id. refl }
@@ -112,7 +145,7 @@ module _ (read : Reading) (clusters : List (Cluster Bytes)) (keeps : KeepsNode r
 
   outside-last : (x : FitState read) (f : Outside) → (last_in (outside_in read x.state f) ≡ last_in x.state) × (kept_in (outside_in read x.state f) ≡ kept_in x.state) × (ended_in (outside_in read x.state f) ≡ ended_in x.state)
   outside-last x (Opens cs ok) = (refl, refl, refl)
-  outside-last x (Calls f) = foreign.foreign_last read x.state f
+  outside-last x (Calls f) = others.foreign_last read x.state f
 
   cancelled : (x : FitState read) (id : ℕ) → ((why : Refusal) × ((judged_in read x.state (Cancel id)).1 ≡ Refused why)) ⊎ sessions.Stopped read clusters x.state (fit_after read clusters keeps x (Cancel id) (judged_in read x.state (Cancel id)).1).state
   cancelled x id = elim (sessions.cancel read clusters x.state id x.fit.consistent) [ inl r ↦ inl r | inr d ↦ inr (judged x (Cancel id) (λ t. sessions.Stopped read clusters x.state t) d) ]
@@ -168,19 +201,15 @@ module _ (read : Reading) (clusters : List (Cluster Bytes)) (keeps : KeepsNode r
         unit_still = unit_still;
         unit_none = λ x p none. unit_none x p none;
         unit_processing = λ x p tag id mine st pr. unit_processing x p tag id mine st pr;
-        unit_activating = λ x p tag mine st. worked x p (λ t. units.GoesTo x.state t tag (λ to. to ≡ Verifying)) (units.unit_activating x.state p tag mine st);
-        unit_verifying = λ x p tag mine st. worked x p (λ t. units.GoesTo x.state t tag (λ to. (to ≡ Verifying) ⊎ ((to ≡ Activated) ⊎ (to ≡ RollingBack)))) (units.unit_verifying x.state p tag mine st);
-        unit_rolling = λ x p tag mine st. worked x p (λ t. units.GoesTo x.state t tag (λ to. to ≡ RolledBack)) (units.unit_rolling x.state p tag mine st);
+        unit_activating = λ x p tag mine st. worked x p (λ t. transfers.GoesTo x.state t tag (λ to. to ≡ Verifying)) (transfers.unit_activating x.state p tag mine st);
+        unit_verifying = λ x p tag mine st. worked x p (λ t. transfers.GoesTo x.state t tag (λ to. (to ≡ Verifying) ⊎ ((to ≡ Activated) ⊎ (to ≡ RollingBack)))) (transfers.unit_verifying x.state p tag mine st);
+        unit_rolling = λ x p tag mine st. worked x p (λ t. transfers.GoesTo x.state t tag (λ to. to ≡ RolledBack)) (transfers.unit_rolling x.state p tag mine st);
         unit_received = λ x p tag mine n. transfers-of x (fit_unit read clusters keeps x p (is_working x.state.status)) (unit_in x.state p) (unit-is x p) (transfers.unit_received read clusters x.state p n);
         unit_cleaning = λ x p tag o mine st out. unit_cleaning x p tag o mine st out;
         cleaning_new = λ x p tag mine st out. cleaning_new x p tag mine st out;
         cleaning_old = λ x p tag mine st out. cleaning_old x p tag mine st out;
-        processing_id = λ x tag mine st. units.processing_id x.state tag x.fit.consistent st;
+        processing_id = λ x tag mine st. transfers.processing_id x.state tag x.fit.consistent st;
         synced_only = λ x c y e. basics.synced_only read clusters x.state c y e;
         session_status = λ x tag mine. sessions.session_status x.state tag x.fit.consistent mine;
-        cleaning_outcome = λ x tag mine st. units.cleaning_outcome x.state tag x.fit.consistent mine st;
+        cleaning_outcome = λ x tag mine st. transfers.cleaning_outcome x.state tag x.fit.consistent mine st;
       }
-
-  -- the law of campaigns, at the node of the tables
-  pub fit-campaigns : CampaignLaw (fit read clusters keeps)
-  fit-campaigns = world-law (fit read clusters keeps) fit-laws

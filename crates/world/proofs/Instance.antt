@@ -1,26 +1,12 @@
 -- The node of the tables as the world sees it.
-use Rattle.std.specs.Prelude.{◌≡◌, ℕ, suc, ◌==◌, ◌<◌, List, [], map, option_and_then, unwrap_or, Option, Some, None, Bool, true, false}
-use Rattle.std.specs.Option.{option_map_or}
-use Rattle.ucm_base.specs.declared.ids.CallNo.{CallNo}
-use Rattle.ucm_base.specs.Parts.{Bytes}
-use Rattle.pm_types.specs.declared.replies.EndMark.{EndMark}
-use Rattle.pm_types.specs.declared.status.Outcome.{Outcome}
-use Rattle.pm_types.specs.declared.clusters.Part.{Part}
-use Rattle.pm_types.specs.declared.clusters.Cluster.{Cluster}
-use Rattle.pm_types.specs.declared.history.Happened.TheVariants.{Numbered}
-use Rattle.pm_types.specs.NodeState.{NodeState, of_client}
-use Rattle.pm_types.specs.Sessions.{changes_in}
-use Rattle.pm_types.specs.Transfers.{ids_of, transfer_of, parts_read}
-use Rattle.pm_types.specs.Steps.{judge, step, name_of, reply_code, with_kept, with_entry}
-use Rattle.pm_types.specs.Histories.{Reading, verdict_for, worked, formatted}
-use Rattle.pm_types.specs.Validity.{id_in_processing}
-use Rattle.node_laws.specs.Fit.{IsInstalled}
-use Rattle.node_laws.proofs.Opened.{opened_by}
-use Rattle.world.specs.Words.{RunsNew}
-use Rattle.pm_types.specs.declared.calls.Call.{Call}
-use Rattle.pm_types.specs.declared.replies.Reply.{Reply}
-use Rattle.pm_types.specs.declared.replies.Reply.TheVariants.{Done}
-use Rattle.world.proofs.Rules.{NodeRules}
+use Rattle.world.proofs.Names.{◌≡◌, ℕ, suc, ◌==◌, ◌<◌, List, [], map, option_and_then, unwrap_or, Option, Some, None}
+use Rattle.world.proofs.Names.{Bool, true, false, option_map_or, CallNo, Bytes, EndMark, Outcome, Part, Cluster}
+use Rattle.world.proofs.Names.{Numbered, NodeState, of_client, changes_in, ids_of, transfer_of, parts_read, judge, step}
+use Rattle.world.proofs.Names.{name_of, reply_code, with_kept, with_entry, Reading, verdict_for, worked, formatted}
+use Rattle.world.proofs.Names.{id_in_processing, IsInstalled, RunsNew, Call, Reply, Done, arith, Ordering, Less, Equal}
+use Rattle.world.proofs.Names.{Greater, executed, call_no_cmp, Reached, no_lt, no_eq}
+use Rattle.node_laws.proofs.Kept.{opened_by}
+use Rattle.world.proofs.Rules.{NodeRules, delivered, reached as world_reached}
 
 abbrev pub zero_no : CallNo
 zero_no = record { epoch = 0; number = 0 }
@@ -126,3 +112,23 @@ real read clusters =
       Brings = BringsIn;
       Leaves = LeavesIn;
     }
+
+-- The world's delivery of a call of the master is the node's step: Stale, Again, or judged, kept and entered.
+abbrev Tests : CallNo → CallNo → Ordering → Type 0
+Tests a b Less = no_lt a b ≡ true
+Tests a b Equal = (no_lt a b ≡ false) × (no_eq a b ≡ true)
+Tests a b Greater = (no_lt a b ≡ false) × (no_eq a b ≡ false)
+
+tests : (a b : CallNo) → Tests a b (call_no_cmp a b)
+tests a b = grind arith
+
+module _ (read : Reading) (clusters : List (Cluster Bytes)) (s : NodeState) (at : CallNo) (c : Call) where
+  abbrev done : NodeState × Reached
+  done = executed s 0 at (c) (verdict_for read s 0 (c))
+
+  abbrev kept : NodeState
+  kept = kept_after (judged_in read s c).0 at c (judged_in read s c).1
+
+  -- a call whose epoch is at least 1, as every call number's is
+  pub delivered-is : 0 < at.epoch → (delivered (real read clusters) s at c ≡ (step s 0 at (c) (verdict_for read s 0 (c))).0) × (world_reached (real read clusters) s at c ≡ (step s 0 at (c) (verdict_for read s 0 (c))).1)
+  delivered-is epoch = grind arith

@@ -1,92 +1,79 @@
--- Laws of the real node: client 0's transfers under calls of others, and units where client 0 has no session.
-use Rattle.std.proofs.Common.{◌≡◌, inl, inr, ℕ, suc, ◌+◌, ◌<◌, List, [], ◌∷◌, ◌++◌, length, Option, Some, None, Bool, true, false, refl, sym, ◌∙◌, ap, subst, cond, arith}
-use Rattle.std.specs.Prelude.{◌==◌, ◌||◌, ◌&&◌, not, is_some, is_none, find, nat_lt, option_map, option_and_then, map, filter, if◌then◌else◌}
-use Rattle.std.specs.List.{AllByRecursion}
-use Rattle.std.specs.Option.{option_or, option_map_or}
-use Rattle.std.proofs.lemmas.Bool.{eqb-true, ltb-true}
-use Rattle.std.proofs.lemmas.Bool.Decides.{eqb_tells}
-use Rattle.std.proofs.lemmas.List.{get_or-set_other, append-nil}
-use Rattle.std.proofs.lemmas.List.Elements.{filter-append}
-use Rattle.std.proofs.lemmas.List.Folds.{find-append}
-use Rattle.ucm_base.specs.Parts.{Bytes}
-use Rattle.pm_types.specs.declared.calls.Call.{Call}
+-- Laws of the real node: calls of other clients, and units where client 0 has no session.
+use Rattle.world.proofs.Names.{nat_tests, eqb_tells, ◌≡◌, ℕ, suc, List, Option, Some, None, false, refl, ◌∙◌, ap, arith}
+use Rattle.world.proofs.Names.{◌==◌, option_and_then, slice_set, option_map_or, eqb-true, get_or-set_other, Bytes, Call}
+use Rattle.world.proofs.Names.{Cluster, Kept, NodeState, Session, of_client, Verdict, judge, reply_to, after_call}
+use Rattle.world.proofs.Names.{accepted, Reading, verdict_for, Done as NodeDone, [], ◌∷◌, ◌++◌, length, Bool, true, sym}
+use Rattle.world.proofs.Names.{subst, ◌||◌, not, is_none, find, map, filter, if◌then◌else◌, AllByRecursion, append-nil}
+use Rattle.world.proofs.Names.{filter-append, find-append, InvalidTransferId, OperationNotPermitted, Transferred}
+use Rattle.world.proofs.Names.{BeingProcessed, Processed, Status, CleaningUp, Transfer, some_passes, is_in, led_by}
+use Rattle.world.proofs.Names.{begin_processing, stop_processing, is_of, transfer_of, header_of, parts_read, grown}
+use Rattle.world.proofs.Names.{in_phase, started, with_block, exited, deleted, refusal, unit_of, clean_up_unit}
+use Rattle.world.proofs.Names.{IsConsistent, ChangesAreDue, IsPlannedWhole, id_in_processing, numbers_rise}
+use Rattle.world.proofs.Rules.{KeepsSession, KeepsTransfers}
+use Rattle.world.proofs.Instance.{ForeignCall, zero_no, last_in, kept_in, tag_if, mine_in, ended_in, foreign_in, real}
+use Rattle.world.proofs.Instance.{unit_in}
+use Rattle.node_laws.proofs.KeptProcessing.{names-kept}
+use Rattle.world.proofs.Basics.{judged-by, keeps-of, not-refused}
+use Rattle.world.proofs.Sessions.{mine-some, session-there}
+use Rattle.world.proofs.TransferLaws.{unit-is, unit_received, keeps-all, keeps-changed, data-rest}
+use Rattle.std.proofs.lemmas.Bool.{eq-eqb}
+use Rattle.node_laws.proofs.Lists.{found-is, only, each-imp, each-both}
 use Rattle.pm_types.specs.declared.calls.Call.TheVariants as call
-use Rattle.pm_types.specs.declared.replies.Reply.TheVariants as reply
-use Rattle.pm_types.specs.declared.replies.Refusal.{Refusal}
-use Rattle.pm_types.specs.declared.replies.Refusal.TheVariants.{InvalidTransferId, OperationNotPermitted}
-use Rattle.pm_types.specs.declared.status.Phase.{Phase}
-use Rattle.pm_types.specs.declared.status.Phase.TheVariants.{Transferring, Transferred, Processing as BeingProcessed, Processed}
-use Rattle.pm_types.specs.declared.history.Happened.TheVariants.{Unit as UnitAfter}
-use Rattle.pm_types.specs.declared.clusters.Cluster.{Cluster}
-use Rattle.pm_types.specs.declared.status.Status.{Status}
-use Rattle.pm_types.specs.declared.status.Status.TheVariants.{Idle, Ready, Processing, Activating, Verifying, Activated, RollingBack, RolledBack, CleaningUp}
-use Rattle.pm_types.specs.NodeState.{NodeState, Session, Transfer, some_passes, status_code, is_in}
-use Rattle.pm_types.specs.Clusters.{all_units}
-use Rattle.pm_types.specs.Sessions.{led_by, begin_processing, stop_processing}
-use Rattle.pm_types.specs.Transfers.{Verdict, is_of, transfer_of, header_of, parts_read, grown, fresh, in_phase, started, with_block, exited, deleted}
-use Rattle.pm_types.specs.Refusals.{first_refusal}
-use Rattle.pm_types.specs.Steps.{judge, after_reply, refusal, refused_or, with_entry}
-use Rattle.pm_types.specs.Work.{unit_of, process_unit, processed, parts_of_id, activate_unit, verify_unit, roll_back_unit, clean_up_unit, end_mark}
-use Rattle.pm_types.specs.Histories.{Reading, verdict_for}
-use Rattle.pm_types.specs.Validity.{IsConsistent, ChangesAreDue, IsPlannedWhole, id_in_processing, numbers_rise}
-use Rattle.world.proofs.Rules.{KeepsTransfers}
-use Rattle.world.proofs.Instance.{ForeignCall, tag_if, mine_in, ended_in, foreign_in, unit_in, real}
-use Rattle.world.proofs.Basics.{judged-by, not-refused}
-use Rattle.world.proofs.Units.{unit-cases}
-use Rattle.world.proofs.TransferLaws.{KeepsNames, keeps-all, keeps-changed, find-passes, find-all, and-true, data-rest}
-use Rattle.world.proofs.Foreign.{foreign-cases, led-keeps}
 
--- numbers that rise
-numbers-above : (a : ℕ) (ns : List ℕ) → numbers_rise (a ∷ ns) ≡ true → AllByRecursion (λ (n : ℕ). a < n) ns
-numbers-above a [] r = tt
-numbers-above a (b ∷ ns) r =
-    let p = and-true (nat_lt a b) (numbers_rise (b ∷ ns)) r in
-    let lt : a < b = ltb-true a b p.0 in
-    (lt, more lt ns (numbers-above b ns p.1))
+-- a numbered call leaves the state, or is judged and kept
+pub foreign-cases : (read : Reading) (s : NodeState) (f : ForeignCall) (P : NodeState → Type 0) → P s → P (after_call s (suc f.other) f.at f.call (verdict_for read s (suc f.other) f.call) (reply_to s (suc f.other) f.call (verdict_for read s (suc f.other) f.call))) → P (foreign_in read s f)
+foreign-cases read s f P here there = grind arith
+
+-- what no call touches
+accepted-last : (s : NodeState) (client : ℕ) (c : Call) (v : Verdict) → (accepted s client c v).last ≡ s.last
+accepted-last s client x v = grind arith
+
+accepted-ended : (s : NodeState) (client : ℕ) (c : Call) (v : Verdict) → (accepted s client c v).ended ≡ s.ended
+accepted-ended s client x v = grind arith
+
+-- client 0's last number and end stay
+pub foreign_last : (read : Reading) (s : NodeState) (f : ForeignCall) → (last_in (foreign_in read s f) ≡ last_in s) × (kept_in (foreign_in read s f) ≡ kept_in s) × (ended_in (foreign_in read s f) ≡ ended_in s)
+foreign_last read s f =
+    foreign-cases read s f P (refl, refl, refl)
+    (let l = judged-by s (suc f.other) f.call (verdict_for read s (suc f.other) f.call) (λ t. t.last ≡ s.last) refl (accepted-last s (suc f.other) f.call (verdict_for read s (suc f.other) f.call)) in
+    let e = judged-by s (suc f.other) f.call (verdict_for read s (suc f.other) f.call) (λ t. t.ended ≡ s.ended) refl (accepted-ended s (suc f.other) f.call (verdict_for read s (suc f.other) f.call)) in
+    let kept : Kept = record { no = f.at; reply = reply_to s (suc f.other) f.call (verdict_for read s (suc f.other) f.call) } in
+    let other : (l' : List (Option Kept)) → of_client (slice_set l' (suc f.other) (Some kept)) 0 ≡ of_client l' 0 = λ l'. get_or-set_other l' (suc f.other) 0 (Some kept) None (λ q. omega (arith, q)) in (
+      ap (λ o. option_map_or (λ (k : Kept). k.no) o zero_no) (other (judge s (suc f.other) f.call (verdict_for read s (suc f.other) f.call)).0.last ∙ ap (λ l'. of_client l' 0) l),
+      ap (λ o. option_map_or (λ (k : Kept). k.reply) o NodeDone) (other (judge s (suc f.other) f.call (verdict_for read s (suc f.other) f.call)).0.last ∙ ap (λ l'. of_client l' 0) l),
+      ap (λ l'. of_client l' 0) e,
+    ))
   where
-    more : a < b → (ms : List ℕ) → AllByRecursion (λ (n : ℕ). b < n) ms → AllByRecursion (λ (n : ℕ). a < n) ms
-    more lt [] h = tt
-    more lt (m ∷ ms) h = (let z : b < m = h.0 in omega arith, more lt ms h.1)
+    P : NodeState → Type 0
+    P t = (last_in t ≡ last_in s) × (kept_in t ≡ kept_in s) × (ended_in t ≡ ended_in s)
 
-rise-tail : (a : ℕ) (ns : List ℕ) → numbers_rise (a ∷ ns) ≡ true → numbers_rise ns ≡ true
-rise-tail a [] r = refl
-rise-tail a (b ∷ ns) r = (and-true (nat_lt a b) (numbers_rise (b ∷ ns)) r).1
+record SameSession (s t : NodeState) : Type 0 where
+  session : t.session ≡ s.session
+  status : t.status ≡ s.status
 
-of-map : (P : ℕ → Type 0) (ts : List Transfer) → AllByRecursion P (map (λ (t : Transfer). t.header.id) ts) → AllByRecursion (λ (t : Transfer). P t.header.id) ts
-of-map P [] h = tt
-of-map P (t ∷ ts) h = (h.0, of-map P ts h.1)
+same : (s : NodeState) → SameSession s s
+same s = record { session = refl; status = refl }
 
-imply-all : (P Q : Transfer → Type 0) → ((t : Transfer) → P t → Q t) → (ts : List Transfer) → AllByRecursion P ts → AllByRecursion Q ts
-imply-all P Q g [] h = tt
-imply-all P Q g (t ∷ ts) h = (g t h.0, imply-all P Q g ts h.1)
+foreign-keeps : (s : NodeState) (x : Session) (client : ℕ) (c : Call) (v : Verdict) → s.session ≡ Some x → (x.owner == client) ≡ false → SameSession s (judge s client c v).0
+foreign-keeps s x client z v e n = grind arith
 
-both-all : (P Q R : Transfer → Type 0) → ((t : Transfer) → P t → Q t → R t) → (ts : List Transfer) → AllByRecursion P ts → AllByRecursion Q ts → AllByRecursion R ts
-both-all P Q R g [] h k = tt
-both-all P Q R g (t ∷ ts) h k = (g t h.0 k.0, both-all P Q R g ts h.1 k.1)
+pub foreign_session : (read : Reading) (clusters : List (Cluster Bytes)) (s : NodeState) (f : ForeignCall) (tag : ℕ) → mine_in s ≡ Some tag → KeepsSession (real read clusters) s (foreign_in read s f)
+foreign_session read clusters s f tag mine =
+    grind (arith, mine-some, eqb-true, foreign-keeps, foreign-cases, keeps-of, eqb_tells, verdict_for, real, after_call, reply_to)
 
+-- no call of another client makes a session of client 0
+abbrev mine-of : Option Session → Option ℕ
+mine-of o = option_and_then (λ (x : Session). tag_if (x.owner == 0) x.tag) o
+
+pub foreign_none : (read : Reading) (s : NodeState) (f : ForeignCall) → mine_in s ≡ None → mine_in (foreign_in read s f) ≡ None
+foreign_none read s f e = grind (arith, nat_tests)
+
+-- Laws of the real node: client 0's transfers under calls of others, and units where client 0 has no session.
 -- each transfer of a found id is the found client's
 unique : (c id : ℕ) (ts : List Transfer) (t : Transfer) → numbers_rise (map (λ (y : Transfer). y.header.id) ts) ≡ true → find (λ (y : Transfer). is_of c id y.header) ts ≡ Some t → AllByRecursion (λ (y : Transfer). (y.header.id == id) ≡ true → (y.header.client == c) ≡ true) ts
-unique c id [] t r e = tt
-unique c id (y ∷ ys) t r e = go (is_of c id y.header) refl e (λ q. unique c id ys t (rise-tail y.header.id (map (λ (z : Transfer). z.header.id) ys) r) q)
-  where
-    above : AllByRecursion (λ (z : Transfer). y.header.id < z.header.id) ys
-    above = of-map (λ (n : ℕ). y.header.id < n) ys (numbers-above y.header.id (map (λ (z : Transfer). z.header.id) ys) r)
-
-    go : (b : Bool) → is_of c id y.header ≡ b → cond b (Some y) (find (λ (z : Transfer). is_of c id z.header) ys) ≡ Some t → (find (λ (z : Transfer). is_of c id z.header) ys ≡ Some t → AllByRecursion (λ (z : Transfer). (z.header.id == id) ≡ true → (z.header.client == c) ≡ true) ys) → AllByRecursion (λ (z : Transfer). (z.header.id == id) ≡ true → (z.header.client == c) ≡ true) (y ∷ ys)
-    go true q h rec =
-        let p = and-true (y.header.id == id) (y.header.client == c) q in (
-          λ i. p.1,
-          imply-all (λ (z : Transfer). y.header.id < z.header.id) (λ (z : Transfer). (z.header.id == id) ≡ true → (z.header.client == c) ≡ true)
-              (λ z lt i. let a : y.header.id ≡ id = eqb-true y.header.id id p.0 in let b : z.header.id ≡ id = eqb-true z.header.id id i in absurd (omega (arith, lt, a, b))) ys above,
-        )
-    go false q h rec = (
-      λ i.
-          (let lt : y.header.id < t.header.id = find-all (λ (z : Transfer). y.header.id < z.header.id) (λ (z : Transfer). is_of c id z.header) ys t above h in
-          let a : y.header.id ≡ id = eqb-true y.header.id id i in
-          let b : t.header.id ≡ id = eqb-true t.header.id id (and-true (t.header.id == id) (t.header.client == c) (find-passes (λ (z : Transfer). is_of c id z.header) ys t h)).0 in
-          absurd (omega (arith, lt, a, b))),
-      rec h,
-    )
+unique c id ts t r e =
+    each-imp _ _ (λ y same q. let own = found-is c id ts t e in eq-eqb _ _ (ap (λ (z : Transfer). z.header.client) (same q) ∙ own.1)) ts
+    (only c id ts t r e)
 
 -- a change that leaves client 0's transfers
 pub record Leaves0 (g : Transfer → Transfer) (t : Transfer) : Type 0 where
@@ -95,48 +82,20 @@ pub record Leaves0 (g : Transfer → Transfer) (t : Transfer) : Type 0 where
 
 ids-left : (g : Transfer → Transfer) (ts : List Transfer) → AllByRecursion (λ t. Leaves0 g t) ts → map (λ (t : Transfer). t.header.id) (filter (λ (t : Transfer). t.header.client == 0) (map g ts)) ≡ map (λ (t : Transfer). t.header.id) (filter (λ (t : Transfer). t.header.client == 0) ts)
 ids-left g [] h = refl
-ids-left g (t ∷ ts) h =
-    subst (λ b. map (λ (y : Transfer). y.header.id) (cond b (g t ∷ filter (λ (y : Transfer). y.header.client == 0) (map g ts)) (filter (λ (y : Transfer). y.header.client == 0) (map g ts))) ≡ map (λ (y : Transfer). y.header.id) (cond (t.header.client == 0) (t ∷ filter (λ (y : Transfer). y.header.client == 0) ts) (filter (λ (y : Transfer). y.header.client == 0) ts)))
-    (sym (ap (λ (n : ℕ). n == 0) h.0.client)) (go (t.header.client == 0) refl (ids-left g ts h.1))
-  where
-    go : (b : Bool) → (t.header.client == 0) ≡ b → map (λ (y : Transfer). y.header.id) (filter (λ (y : Transfer). y.header.client == 0) (map g ts)) ≡ map (λ (y : Transfer). y.header.id) (filter (λ (y : Transfer). y.header.client == 0) ts) → map (λ (y : Transfer). y.header.id) (cond b (g t ∷ filter (λ (y : Transfer). y.header.client == 0) (map g ts)) (filter (λ (y : Transfer). y.header.client == 0) (map g ts))) ≡ map (λ (y : Transfer). y.header.id) (cond b (t ∷ filter (λ (y : Transfer). y.header.client == 0) ts) (filter (λ (y : Transfer). y.header.client == 0) ts))
-    go true q rec = ap (λ (n : ℕ). n ∷ map (λ (y : Transfer). y.header.id) (filter (λ (y : Transfer). y.header.client == 0) (map g ts))) (ap (λ (y : Transfer). y.header.id) (h.0.own q)) ∙ ap (λ (l : List ℕ). t.header.id ∷ l) rec
-    go false q rec = rec
+ids-left g (t ∷ ts) h = grind (arith, ids-left g ts h.1)
 
 found-left : (j : ℕ) (g : Transfer → Transfer) (ts : List Transfer) → AllByRecursion (λ t. Leaves0 g t) ts → find (λ (t : Transfer). is_of 0 j t.header) (map g ts) ≡ find (λ (t : Transfer). is_of 0 j t.header) ts
 found-left j g [] h = refl
-found-left j g (t ∷ ts) h = go (t.header.client == 0) refl (found-left j g ts h.1)
-  where
-    and-false : (a : Bool) → (a && false) ≡ false
-    and-false true = refl
-    and-false false = refl
-
-    go : (b : Bool) → (t.header.client == 0) ≡ b → find (λ (y : Transfer). is_of 0 j y.header) (map g ts) ≡ find (λ (y : Transfer). is_of 0 j y.header) ts → cond ((((g t).header.id == j)) && ((g t).header.client == 0)) (Some (g t)) (find (λ (y : Transfer). is_of 0 j y.header) (map g ts)) ≡ cond ((t.header.id == j) && (t.header.client == 0)) (Some t) (find (λ (y : Transfer). is_of 0 j y.header) ts)
-    go true q rec = ap (λ (z : Transfer). cond ((z.header.id == j) && (z.header.client == 0)) (Some z) (find (λ (y : Transfer). is_of 0 j y.header) (map g ts))) (h.0.own q) ∙ ap (λ o. cond ((t.header.id == j) && (t.header.client == 0)) (Some t) o) rec
-    go false q rec =
-        let left : (((g t).header.id == j) && ((g t).header.client == 0)) ≡ false = ap (λ (n : ℕ). ((g t).header.id == j) && (n == 0)) h.0.client ∙ (ap (λ b. ((g t).header.id == j) && b) q ∙ and-false ((g t).header.id == j)) in
-        let right : ((t.header.id == j) && (t.header.client == 0)) ≡ false = ap (λ b. (t.header.id == j) && b) q ∙ and-false (t.header.id == j) in
-        ap (λ b. cond b (Some (g t)) (find (λ (y : Transfer). is_of 0 j y.header) (map g ts))) left ∙ (rec ∙ sym (ap (λ b. cond b (Some t) (find (λ (y : Transfer). is_of 0 j y.header) ts)) right))
+found-left j g (t ∷ ts) h = grind (arith, found-left j g ts h.1)
 
 -- a filter that keeps client 0's transfers
 ids-kept : (p : Transfer → Bool) (ts : List Transfer) → AllByRecursion (λ (t : Transfer). (t.header.client == 0) ≡ true → p t ≡ true) ts → filter (λ (t : Transfer). t.header.client == 0) (filter p ts) ≡ filter (λ (t : Transfer). t.header.client == 0) ts
 ids-kept p [] h = refl
-ids-kept p (t ∷ ts) h = go (p t) (t.header.client == 0) refl refl (ids-kept p ts h.1)
-  where
-    go : (a b : Bool) → p t ≡ a → (t.header.client == 0) ≡ b → filter (λ (y : Transfer). y.header.client == 0) (filter p ts) ≡ filter (λ (y : Transfer). y.header.client == 0) ts → filter (λ (y : Transfer). y.header.client == 0) (cond a (t ∷ filter p ts) (filter p ts)) ≡ cond b (t ∷ filter (λ (y : Transfer). y.header.client == 0) ts) (filter (λ (y : Transfer). y.header.client == 0) ts)
-    go true true q r rec = ap (λ z. cond z (t ∷ filter (λ (y : Transfer). y.header.client == 0) (filter p ts)) (filter (λ (y : Transfer). y.header.client == 0) (filter p ts))) r ∙ ap (λ (l : List Transfer). t ∷ l) rec
-    go true false q r rec = ap (λ z. cond z (t ∷ filter (λ (y : Transfer). y.header.client == 0) (filter p ts)) (filter (λ (y : Transfer). y.header.client == 0) (filter p ts))) r ∙ rec
-    go false true q r rec = absurd (let z = h.0 r in let f : ⊥ = cc (z, q) in f)
-    go false false q r rec = rec
+ids-kept p (t ∷ ts) h = grind (arith, ids-kept p ts h.1)
 
 found-kept : (j : ℕ) (p : Transfer → Bool) (ts : List Transfer) → AllByRecursion (λ (t : Transfer). (t.header.client == 0) ≡ true → p t ≡ true) ts → find (λ (t : Transfer). is_of 0 j t.header) (filter p ts) ≡ find (λ (t : Transfer). is_of 0 j t.header) ts
 found-kept j p [] h = refl
-found-kept j p (t ∷ ts) h = go (p t) (is_of 0 j t.header) refl refl (found-kept j p ts h.1)
-  where
-    go : (a b : Bool) → p t ≡ a → is_of 0 j t.header ≡ b → find (λ (y : Transfer). is_of 0 j y.header) (filter p ts) ≡ find (λ (y : Transfer). is_of 0 j y.header) ts → find (λ (y : Transfer). is_of 0 j y.header) (cond a (t ∷ filter p ts) (filter p ts)) ≡ cond b (Some t) (find (λ (y : Transfer). is_of 0 j y.header) ts)
-    go true b q r rec = ap (λ z. cond z (Some t) (find (λ (y : Transfer). is_of 0 j y.header) (filter p ts))) r ∙ ap (λ o. cond b (Some t) o) rec
-    go false true q r rec = absurd (let z = h.0 (and-true (t.header.id == j) (t.header.client == 0) r).1 in let f : ⊥ = cc (z, q) in f)
-    go false false q r rec = rec
+found-kept j p (t ∷ ts) h = grind (arith, found-kept j p ts h.1)
 
 module _ (read : Reading) (clusters : List (Cluster Bytes)) where
   keeps-left : (s t : NodeState) (g : Transfer → Transfer) → AllByRecursion (λ y. Leaves0 g y) s.transfers → t.transfers ≡ map g s.transfers → KeepsTransfers (real read clusters) s t
@@ -161,178 +120,60 @@ module _ (read : Reading) (clusters : List (Cluster Bytes)) where
   clean-others : (s : NodeState) (x : Session) → IsConsistent s → s.session ≡ Some x → (x.owner == 0) ≡ false → s.status ≡ CleaningUp → KeepsTransfers (real read clusters) s (clean_up_unit s x)
   clean-others s x v e owner st =
       keeps-filter s (clean_up_unit s x) (λ t. not (is_in BeingProcessed t.header || is_in Processed t.header))
-      (both-all (λ t. IsPlannedWhole x t t.header.phase) (λ t. is_in BeingProcessed t.header ≡ some_passes (λ (i : ℕ). i == t.header.id) (id_in_processing s)) (λ (t : Transfer). (t.header.client == 0) ≡ true → not (is_in BeingProcessed t.header || is_in Processed t.header) ≡ true)
+      (each-both (λ t. IsPlannedWhole x t t.header.phase) (λ t. is_in BeingProcessed t.header ≡ some_passes (λ (i : ℕ). i == t.header.id) (id_in_processing s)) (λ (t : Transfer). (t.header.client == 0) ≡ true → not (is_in BeingProcessed t.header || is_in Processed t.header) ≡ true)
       each s.transfers (subst (λ o. ChangesAreDue s o) e v.changes).whole v.processing.each) refl
     where
-      no-id : (o : Option ℕ) → is_some o ≡ false → (i : ℕ) → some_passes (λ (n : ℕ). n == i) o ≡ false
-      no-id None q i = refl
-      no-id (Some n) q i = absurd (let f : ⊥ = cc q in f)
-
-      none : is_some (id_in_processing s) ≡ false
-      none = v.processing.status ∙ ap (λ (y : Status). status_code y == 2) st
-
       each : (t : Transfer) → IsPlannedWhole x t t.header.phase → is_in BeingProcessed t.header ≡ some_passes (λ (i : ℕ). i == t.header.id) (id_in_processing s) → (t.header.client == 0) ≡ true → not (is_in BeingProcessed t.header || is_in Processed t.header) ≡ true
-      each t whole being own = go t.header.phase refl whole
-        where
-          not-being : is_in BeingProcessed t.header ≡ false
-          not-being = being ∙ no-id (id_in_processing s) none t.header.id
-
-          go : (phase : Phase) → t.header.phase ≡ phase → IsPlannedWhole x t phase → not (is_in BeingProcessed t.header || is_in Processed t.header) ≡ true
-          go Transferring q w = ap (λ (y : Phase). not (is_in BeingProcessed (record t.header { phase = y }) || is_in Processed (record t.header { phase = y }))) q
-          go Transferred q w = ap (λ (y : Phase). not (is_in BeingProcessed (record t.header { phase = y }) || is_in Processed (record t.header { phase = y }))) q
-          go BeingProcessed q w = absurd (let z : is_in BeingProcessed t.header ≡ true = ap (λ (y : Phase). is_in BeingProcessed (record t.header { phase = y })) q in let f : ⊥ = cc (z, not-being) in f)
-          go Processed q w =
-              let same : t.header.client ≡ x.owner = w.0 in
-              let z : (x.owner == 0) ≡ true = ap (λ (n : ℕ). n == 0) (sym same) ∙ own in
-              absurd (let f : ⊥ = cc (z, owner) in f)
+      each t whole being own = grind arith
 
   -- a unit without a session of client 0
-  abbrev Nothing0 : NodeState → NodeState → Type 0
-  Nothing0 s t = (mine_in t ≡ None) × (ended_in t ≡ ended_in s) × KeepsTransfers (real read clusters) s t
+  not-mine : (s : NodeState) (x : Session) → mine_in s ≡ None → s.session ≡ Some x → (x.owner == 0) ≡ false
+  not-mine s x none e = grind arith
 
-  pub unit_none : (s : NodeState) (passed : Bool) → IsConsistent s → mine_in s ≡ None → Nothing0 s (unit_in s passed)
-  unit_none s passed v none = unit-cases s passed (λ t. Nothing0 s t) (none, refl, keeps-all read clusters s s refl) (λ x e t q. go x e s.status refl t q)
-    where
-      some-is : (a b : NodeState) → Some a ≡ Some b → a ≡ b
-      some-is a b q = cc q
+  left-alone : (s : NodeState) (passed : Bool) → IsConsistent s → mine_in s ≡ None → (st : Status) → s.status ≡ st → KeepsTransfers (real read clusters) s (unit_in s passed)
+  left-alone s passed v none CleaningUp r =
+      let x = session-there s v (λ q. cc (q, r)) in
+      let k = clean-others s x.0 v x.1 (not-mine s x.0 none x.1) r in
+      subst (λ t. KeepsTransfers (real read clusters) s t) (sym (unit-is s passed x.0 (clean_up_unit s x.0) x.1 (ap (λ y. unit_of s x.0 passed y) r)))
+      (record { transfers = k.transfers; received = k.received })
+  left-alone s passed v none _ r = unit_received read clusters s passed (λ q. cc (q, r))
 
-      not-mine : (x : Session) → s.session ≡ Some x → (x.owner == 0) ≡ false
-      not-mine x e = own (x.owner == 0) refl
-        where
-          own : (b : Bool) → (x.owner == 0) ≡ b → (x.owner == 0) ≡ false
-          own true q = absurd (let z : Some x.tag ≡ None = sym (ap (λ b. tag_if b x.tag) q) ∙ (sym (ap (λ o. option_and_then (λ (y : Session). tag_if (y.owner == 0) y.tag) o) e) ∙ none) in let f : ⊥ = cc z in f)
-          own false q = q
-
-      over : (a t : NodeState) → Some a ≡ Some t → Nothing0 s a → Nothing0 s (with_entry (UnitAfter t.status) t)
-      over a t q k = let e = some-is a t q in subst (λ y. Nothing0 s (with_entry (UnitAfter y.status) y)) e (k.0, k.1, record { transfers = k.2.transfers; received = k.2.received })
-
-      by-session : (x y : Session) (t : NodeState) → s.session ≡ Some x → t.session ≡ Some y → y.owner ≡ x.owner → mine_in t ≡ None
-      by-session x y t e f o = ap (λ z. option_and_then (λ (w : Session). tag_if (w.owner == 0) w.tag) z) f ∙ (ap (λ (n : ℕ). tag_if (n == 0) y.tag) o ∙ ap (λ b. tag_if b y.tag) (not-mine x e))
-
-      process : (x : Session) (id : ℕ) → s.session ≡ Some x → Nothing0 s (process_unit s x id)
-      process x id e = by (nat_lt (x.units_done + 1) (all_units (parts_of_id s x id)))
-        where
-          by : (b : Bool) → Nothing0 s (if b then record s { session = Some (record x { units_done = x.units_done + 1 }) } else processed s x id (parts_of_id s x id))
-          by true = (by-session x (record x { units_done = x.units_done + 1 }) (record s { session = Some (record x { units_done = x.units_done + 1 }) }) e refl refl, refl, keeps-all read clusters s (record s { session = Some (record x { units_done = x.units_done + 1 }) }) refl)
-          by false = (
-            ap (λ b. tag_if b x.tag) (not-mine x e),
-            refl,
-            keeps-changed read clusters s (processed s x id (parts_of_id s x id)) id (λ t. record t { header = in_phase Processed t.header }) (record { id = λ t. refl; client = λ t. refl }) (λ t. refl) refl,
-          )
-
-      in-process : (x : Session) → s.session ≡ Some x → (o : Option ℕ) (t : NodeState) → option_and_then (λ id. Some (process_unit s x id)) o ≡ Some t → Nothing0 s (with_entry (UnitAfter t.status) t)
-      in-process x e None t q = absurd (let f : ⊥ = cc q in f)
-      in-process x e (Some id) t q = over (process_unit s x id) t q (process x id e)
-
-      verified : (x : Session) → s.session ≡ Some x → (b : Bool) → Nothing0 s (verify_unit s x b)
-      verified x e true = (ap (λ b. tag_if b x.tag) (not-mine x e), refl, keeps-all read clusters s (verify_unit s x true) refl)
-      verified x e false = (none, refl, keeps-all read clusters s (verify_unit s x false) refl)
-
-      cleaned : (x : Session) → s.session ≡ Some x → s.status ≡ CleaningUp → Nothing0 s (clean_up_unit s x)
-      cleaned x e st = (
-        refl,
-        get_or-set_other s.ended x.owner 0 (end_mark x) None (λ q. let z : (x.owner == 0) ≡ true = ap (λ (n : ℕ). n == 0) (sym q) in let w = not-mine x e in let f : ⊥ = cc (z, w) in f),
-        clean-others s x v e (not-mine x e) st,
-      )
-
-      go : (x : Session) → s.session ≡ Some x → (st : Status) → s.status ≡ st → (t : NodeState) → unit_of s x passed s.status ≡ Some t → Nothing0 s (with_entry (UnitAfter t.status) t)
-      go x e st p t q = at st p (sym (ap (λ y. unit_of s x passed y) p) ∙ q)
-        where
-          at : (y : Status) → s.status ≡ y → unit_of s x passed y ≡ Some t → Nothing0 s (with_entry (UnitAfter t.status) t)
-          at Idle r h = absurd (let f : ⊥ = cc h in f)
-          at Ready r h = absurd (let f : ⊥ = cc h in f)
-          at Processing r h = in-process x e x.processing t h
-          at Activating r h = over (activate_unit s x) t h (ap (λ b. tag_if b x.tag) (not-mine x e), refl, keeps-all read clusters s (activate_unit s x) refl)
-          at Verifying r h = over (verify_unit s x passed) t h (verified x e passed)
-          at Activated r h = absurd (let f : ⊥ = cc h in f)
-          at RollingBack r h = over (roll_back_unit s x) t h (none, refl, keeps-all read clusters s (roll_back_unit s x) refl)
-          at RolledBack r h = absurd (let f : ⊥ = cc h in f)
-          at CleaningUp r h = over (clean_up_unit s x) t h (cleaned x e r)
+  pub unit_none : (s : NodeState) (passed : Bool) → IsConsistent s → mine_in s ≡ None → (mine_in (unit_in s passed) ≡ None) × (ended_in (unit_in s passed) ≡ ended_in s) × KeepsTransfers (real read clusters) s (unit_in s passed)
+  unit_none s passed v none = (grind arith, grind (arith, get_or-set_other), left-alone s passed v none s.status refl)
 
   -- a call of another client
-  phase-keeps : (phase : Phase) → KeepsNames (λ t. record t { header = in_phase phase t.header })
-  phase-keeps phase = record { id = λ t. refl; client = λ t. refl }
-
   then-led : (s t : NodeState) (c : Call) → KeepsTransfers (real read clusters) s t → KeepsTransfers (real read clusters) s (led_by c t)
-  then-led s t c k =
-      let e : (led_by c t).transfers ≡ t.transfers = led-keeps (λ y. y.transfers) (λ y st. refl) (λ y o. refl) c t in
-      let l = keeps-all read clusters t (led_by c t) e in
-      record { transfers = l.transfers ∙ k.transfers; received = λ j. l.received j ∙ k.received j }
-
-  eqb-suc : (a : ℕ) → (suc a == 0) ≡ false
-  eqb-suc a = elim (eqb_tells (suc a) 0) [ inl h ↦ absurd (let z : suc a ≡ 0 = h.1 in omega (arith, z)) | inr h ↦ h.0 ]
+  then-led s t c k = grind arith
 
   -- a found transfer of another client is none of client 0's
   others : (s : NodeState) (a id : ℕ) → IsConsistent s → is_none (header_of (transfer_of s (suc a) id)) ≡ false → AllByRecursion (λ (y : Transfer). (y.header.id == id) ≡ true → (y.header.client == suc a) ≡ true) s.transfers
-  others s a id v f = go (transfer_of s (suc a) id) refl f
-    where
-      go : (o : Option Transfer) → transfer_of s (suc a) id ≡ o → is_none (option_map (λ (t : Transfer). t.header) o) ≡ false → AllByRecursion (λ (y : Transfer). (y.header.id == id) ≡ true → (y.header.client == suc a) ≡ true) s.transfers
-      go None e q = absurd (let g : ⊥ = cc q in g)
-      go (Some t) e q = unique (suc a) id s.transfers t v.transfers.rise e
+  others s a id v f = grind (arith, unique)
 
-  not-own : (a : ℕ) (t : Transfer) → (t.header.client == 0) ≡ true → (t.header.client == suc a) ≡ true → ⊥
-  not-own a t p q = let x : t.header.client ≡ 0 = eqb-true t.header.client 0 p in let y : t.header.client ≡ suc a = eqb-true t.header.client (suc a) q in omega (arith, x, y)
+  judged-if : (s : NodeState) (client : ℕ) (c : Call) (w : Verdict) (P : NodeState → Type 0) → P s → (refusal s client c w ≡ None → P (accepted s client c w)) → P (judge s client c w).0
+  judged-if s client c w P here there = grind arith
 
   data-others : (s : NodeState) (a id counter : ℕ) (bytes : List ℕ) (w : Verdict) → IsConsistent s → KeepsTransfers (real read clusters) s (judge s (suc a) (call.TransferData id counter bytes) w).0
-  data-others s a id counter bytes w v = go (refusal s (suc a) (call.TransferData id counter bytes) w) refl
+  data-others s a id counter bytes w v =
+      judged-if s (suc a) (call.TransferData id counter bytes) w (λ t. KeepsTransfers (real read clusters) s t) (keeps-all read clusters s s refl) (λ q.
+      keeps-left s (with_block s id bytes) (λ t. if t.header.id == id then record t { header = grown (length bytes) t.header; bytes = t.bytes ++ bytes } else t)
+      (each-imp (λ (y : Transfer). (y.header.id == id) ≡ true → (y.header.client == suc a) ≡ true) (λ y. Leaves0 (λ t. if t.header.id == id then record t { header = grown (length bytes) t.header; bytes = t.bytes ++ bytes } else t) y) each s.transfers
+      (others s a id v (not-refused (is_none (header_of (transfer_of s (suc a) id)), InvalidTransferId) (data-rest (header_of (transfer_of s (suc a) id)) counter (length bytes)) q).0)) refl)
     where
-      go : (o : Option Refusal) → refusal s (suc a) (call.TransferData id counter bytes) w ≡ o → KeepsTransfers (real read clusters) s (after_reply s (suc a) (call.TransferData id counter bytes) w (refused_or reply.Done o))
-      go (Some why) q = keeps-all read clusters s s refl
-      go None q =
-          keeps-left s (with_block s id bytes) (λ t. if t.header.id == id then record t { header = grown (length bytes) t.header; bytes = t.bytes ++ bytes } else t)
-          (imply-all (λ (y : Transfer). (y.header.id == id) ≡ true → (y.header.client == suc a) ≡ true) (λ y. Leaves0 (λ t. if t.header.id == id then record t { header = grown (length bytes) t.header; bytes = t.bytes ++ bytes } else t) y) each s.transfers
-          (others s a id v (head-false (is_none (header_of (transfer_of s (suc a) id)), InvalidTransferId) (data-rest (header_of (transfer_of s (suc a) id)) counter (length bytes)) q))) refl
-        where
-          head-false : (row : Bool × Refusal) (rows : List (Bool × Refusal)) → first_refusal (row ∷ rows) ≡ None → row.0 ≡ false
-          head-false row rows e = (not-refused row rows e).0
-
-          each : (t : Transfer) → ((t.header.id == id) ≡ true → (t.header.client == suc a) ≡ true) → Leaves0 (λ y. if y.header.id == id then record y { header = grown (length bytes) y.header; bytes = y.bytes ++ bytes } else y) t
-          each t h = by (t.header.id == id) refl
-            where
-              by : (b : Bool) → (t.header.id == id) ≡ b → Leaves0 (λ y. if y.header.id == id then record y { header = grown (length bytes) y.header; bytes = y.bytes ++ bytes } else y) t
-              by true e = record { client = ap (λ (b : Bool). (if b then record t { header = grown (length bytes) t.header; bytes = t.bytes ++ bytes } else t).header.client) e; own = λ o. absurd (not-own a t o (h e)) }
-              by false e = record { client = ap (λ (b : Bool). (if b then record t { header = grown (length bytes) t.header; bytes = t.bytes ++ bytes } else t).header.client) e; own = λ o. ap (λ (b : Bool). if b then record t { header = grown (length bytes) t.header; bytes = t.bytes ++ bytes } else t) e }
+      each : (t : Transfer) → ((t.header.id == id) ≡ true → (t.header.client == suc a) ≡ true) → Leaves0 (λ y. if y.header.id == id then record y { header = grown (length bytes) y.header; bytes = y.bytes ++ bytes } else y) t
+      each t h = grind (arith, grown)
 
   delete-others : (s : NodeState) (a id : ℕ) (w : Verdict) → IsConsistent s → KeepsTransfers (real read clusters) s (judge s (suc a) (call.DeleteTransfer id) w).0
-  delete-others s a id w v = go (refusal s (suc a) (call.DeleteTransfer id) w) refl
+  delete-others s a id w v =
+      judged-if s (suc a) (call.DeleteTransfer id) w (λ t. KeepsTransfers (real read clusters) s t) (keeps-all read clusters s s refl) (λ q.
+      keeps-filter s (deleted s id) (λ t. not (t.header.id == id))
+      (each-imp (λ (y : Transfer). (y.header.id == id) ≡ true → (y.header.client == suc a) ≡ true) (λ (y : Transfer). (y.header.client == 0) ≡ true → not (y.header.id == id) ≡ true) each s.transfers
+      (others s a id v (not-refused (is_none (header_of (transfer_of s (suc a) id)), InvalidTransferId) ((some_passes (λ h. is_in BeingProcessed h || is_in Processed h) (header_of (transfer_of s (suc a) id)), OperationNotPermitted) ∷ []) q).0)) refl)
     where
-      go : (o : Option Refusal) → refusal s (suc a) (call.DeleteTransfer id) w ≡ o → KeepsTransfers (real read clusters) s (after_reply s (suc a) (call.DeleteTransfer id) w (refused_or reply.Done o))
-      go (Some why) q = keeps-all read clusters s s refl
-      go None q =
-          keeps-filter s (deleted s id) (λ t. not (t.header.id == id))
-          (imply-all (λ (y : Transfer). (y.header.id == id) ≡ true → (y.header.client == suc a) ≡ true) (λ (y : Transfer). (y.header.client == 0) ≡ true → not (y.header.id == id) ≡ true) each s.transfers
-          (others s a id v (head-false (is_none (header_of (transfer_of s (suc a) id)), InvalidTransferId) ((some_passes (λ h. is_in BeingProcessed h || is_in Processed h) (header_of (transfer_of s (suc a) id)), OperationNotPermitted) ∷ []) q))) refl
-        where
-          head-false : (row : Bool × Refusal) (rows : List (Bool × Refusal)) → first_refusal (row ∷ rows) ≡ None → row.0 ≡ false
-          head-false row rows e = (not-refused row rows e).0
-
-          each : (t : Transfer) → ((t.header.id == id) ≡ true → (t.header.client == suc a) ≡ true) → (t.header.client == 0) ≡ true → not (t.header.id == id) ≡ true
-          each t h own = by (t.header.id == id) refl
-            where
-              by : (b : Bool) → (t.header.id == id) ≡ b → not b ≡ true
-              by true e = absurd (not-own a t own (h e))
-              by false e = refl
+      each : (t : Transfer) → ((t.header.id == id) ≡ true → (t.header.client == suc a) ≡ true) → (t.header.client == 0) ≡ true → not (t.header.id == id) ≡ true
+      each t h own = grind (arith, not)
 
   start-others : (s : NodeState) (a size : ℕ) → KeepsTransfers (real read clusters) s (started s (suc a) size)
-  start-others s a size =
-      record {
-        transfers =
-            ap (λ l. map (λ (t : Transfer). t.header.id) l)
-            (filter-append (λ (t : Transfer). t.header.client == 0) s.transfers (record { header = fresh s.next_id (suc a) size; bytes = []; parts = [] } ∷ [])
-            ∙ (ap (λ b. filter (λ (t : Transfer). t.header.client == 0) s.transfers ++ cond b (record { header = fresh s.next_id (suc a) size; bytes = []; parts = [] } ∷ []) []) (eqb-suc a) ∙ append-nil (filter (λ (t : Transfer). t.header.client == 0) s.transfers)));
-        received = λ j.
-            ap (λ o. option_map_or (λ (t : Transfer). t.bytes) o [])
-            (find-append (λ (t : Transfer). is_of 0 j t.header) s.transfers (record { header = fresh s.next_id (suc a) size; bytes = []; parts = [] } ∷ [])
-            ∙ (ap (λ b. option_or (transfer_of s 0 j) (cond b (Some (record { header = fresh s.next_id (suc a) size; bytes = []; parts = [] })) None)) (ap (λ b. (s.next_id == j) && b) (eqb-suc a) ∙ and-false (s.next_id == j)) ∙ or-nothing (transfer_of s 0 j)));
-      }
-    where
-      and-false : (b : Bool) → (b && false) ≡ false
-      and-false true = refl
-      and-false false = refl
-
-      or-nothing : (o : Option Transfer) → option_or o None ≡ o
-      or-nothing None = refl
-      or-nothing (Some t) = refl
+  start-others s a size = grind (arith, filter-append, append-nil, find-append)
 
   judged-others : (s : NodeState) (a : ℕ) (c : Call) (w : Verdict) → IsConsistent s → KeepsTransfers (real read clusters) s (judge s (suc a) c w).0
   judged-others s a call.Sync w v = keeps-all read clusters s s refl
@@ -344,14 +185,11 @@ module _ (read : Reading) (clusters : List (Cluster Bytes)) where
   judged-others s a (call.DeleteTransfer id) w v = delete-others s a id w v
   judged-others s a (call.ProcessSwPackage id tag) w v =
       judged-by s (suc a) (call.ProcessSwPackage id tag) w (λ t. KeepsTransfers (real read clusters) s t) (keeps-all read clusters s s refl)
-      (then-led s (begin_processing s (suc a) id tag) (call.ProcessSwPackage id tag) (keeps-changed read clusters s (begin_processing s (suc a) id tag) id (λ t. record t { header = in_phase BeingProcessed t.header }) (phase-keeps BeingProcessed) (λ t. refl) refl))
-  judged-others s a call.Activate w v = judged-by s (suc a) call.Activate w (λ t. KeepsTransfers (real read clusters) s t) (keeps-all read clusters s s refl) (then-led s s call.Activate (keeps-all read clusters s s refl))
-  judged-others s a call.Finish w v = judged-by s (suc a) call.Finish w (λ t. KeepsTransfers (real read clusters) s t) (keeps-all read clusters s s refl) (then-led s s call.Finish (keeps-all read clusters s s refl))
-  judged-others s a call.Rollback w v = judged-by s (suc a) call.Rollback w (λ t. KeepsTransfers (real read clusters) s t) (keeps-all read clusters s s refl) (then-led s s call.Rollback (keeps-all read clusters s s refl))
-  judged-others s a call.RevertProcessedSwPackages w v = judged-by s (suc a) call.RevertProcessedSwPackages w (λ t. KeepsTransfers (real read clusters) s t) (keeps-all read clusters s s refl) (then-led s s call.RevertProcessedSwPackages (keeps-all read clusters s s refl))
+      (then-led s (begin_processing s (suc a) id tag) (call.ProcessSwPackage id tag) (keeps-changed read clusters s (begin_processing s (suc a) id tag) id (λ t. record t { header = in_phase BeingProcessed t.header }) (names-kept BeingProcessed) (λ t. refl) refl))
   judged-others s a (call.Cancel id) w v =
       judged-by s (suc a) (call.Cancel id) w (λ t. KeepsTransfers (real read clusters) s t) (keeps-all read clusters s s refl)
-      (then-led s (stop_processing s id) (call.Cancel id) (keeps-changed read clusters s (stop_processing s id) id (λ t. record t { header = in_phase Transferred t.header }) (phase-keeps Transferred) (λ t. refl) refl))
+      (then-led s (stop_processing s id) (call.Cancel id) (keeps-changed read clusters s (stop_processing s id) id (λ t. record t { header = in_phase Transferred t.header }) (names-kept Transferred) (λ t. refl) refl))
+  judged-others s a x w v = judged-by s (suc a) x w (λ t. KeepsTransfers (real read clusters) s t) (keeps-all read clusters s s refl) (then-led s s x (keeps-all read clusters s s refl))
 
   pub foreign_transfers : (s : NodeState) (f : ForeignCall) → IsConsistent s → KeepsTransfers (real read clusters) s (foreign_in read s f)
   foreign_transfers s f v =

@@ -1,29 +1,53 @@
--- What the records of the master keep of the invariant.
-use Rattle.std.proofs.Common.{◌≡◌, ◌≢◌, ◌⊎◌, inl, inr, ◌&&◌, ℕ, ◌<◌, ◌≤◌, List, [], ◌∷◌, ◌++◌, Option, Some, None, Bool, true, false, nat_lt, refl, sym, ◌∙◌, ap, subst, arith}
-use Rattle.std.proofs.lemmas.Bool.{ltb-true}
-use Rattle.pm_types.specs.declared.status.Status.TheVariants.{RolledBack}
-use Rattle.ucm_base.specs.declared.ids.NodeSet.{NodeSet}
-use Rattle.campaign_core.specs.declared.events.Decision.{Decision}
-use Rattle.campaign_core.specs.declared.events.Decision.TheVariants.{Commit}
-use Rattle.campaign_core.specs.declared.events.CampaignResult.{CampaignResult}
-use Rattle.campaign_core.specs.declared.events.CampaignResult.TheVariants.{Successful, Failed, Cancelled}
-use Rattle.campaign_core.specs.declared.fold.Fold.{Fold}
-use Rattle.campaign_core.specs.declared.fold.Current.{Current}
-use Rattle.campaign_core.specs.Nodes.{flag_of}
-use Rattle.campaign_core.specs.Campaign.{end_of, all_ended, is_result_of, all_below, begun}
-use Rattle.world.proofs.Parts.{flagged-ended}
-use Rattle.pm_types.specs.declared.calls.Call.TheVariants.{Finish}
-use Rattle.pm_types.specs.declared.replies.Reply.TheVariants.{Synced}
-use Rattle.world.proofs.Rules.{NodeRules, NodeLaws}
-use Rattle.world.specs.Messages.{Message, InSent}
-use Rattle.world.proofs.RulesWorld.{NodeWorld, state_of}
-use Rattle.world.specs.Sends.{last_status}
-use Rattle.world.specs.Evidence.{EndEvidence}
-use Rattle.world.proofs.RulesLaw.{spans, EachEnded}
+-- The parts of nodes: after one has changed, and where each flagged one passes a test.
+use Rattle.world.proofs.Names.{arith, ◌≡◌, ◌≢◌, ◌⊎◌, inl, inr, ℕ, zero, suc, List, [], ◌∷◌, Bool, true, false, refl, ap}
+use Rattle.world.proofs.Names.{Option, Some, None, slice_index_or, slice_set, and_parts, Outcome, Vote, part_of}
+use Rattle.world.proofs.Names.{with_part, all_flagged, has_ended, voted_yes, ◌&&◌, ◌<◌, ◌≤◌, ◌++◌, nat_lt, sym, ◌∙◌}
+use Rattle.world.proofs.Names.{subst, ltb-true, RolledBack, NodeSet, Decision, Commit, CampaignResult, Successful, Fold}
+use Rattle.world.proofs.Names.{Current, flag_of, end_of, all_ended, is_result_of, all_below, begun, Finish, Synced}
+use Rattle.world.proofs.Names.{Message, InSent, last_status, EndEvidence}
+use Rattle.world.proofs.Rules.{NodeRules, NodeLaws, NodeWorld, state_of, spans, EachEnded, InEarlier}
 use Rattle.world.proofs.Invariant.{Executable, InPresent, NotCommit, IsFresh, KeptOld, Falling}
-use Rattle.world.proofs.RulesLaw.{InEarlier}
 use Rattle.world.proofs.Events.{below-trans, end-sync-decided}
 
+index-with : {A : Type 0} (xs : List (Option A)) (m n : ℕ) (v : Option A) → (n ≡ m) ⊎ (slice_index_or (slice_set xs m v) n None ≡ slice_index_or xs n None)
+index-with (x ∷ xs) zero zero v = inl refl
+index-with (x ∷ xs) (suc m) (suc n) v = elim (index-with xs m n v) [ inl e ↦ inl (ap suc e) | inr e ↦ inr e ]
+index-with _ _ _ v = inr refl
+
+-- another node's part is as before
+pub part-other : {A : Type 0} (xs : List (Option A)) (m n : ℕ) (v : Option A) → n ≢ m → part_of None (with_part xs m v) n ≡ part_of None xs n
+part-other xs x y v d = grind (arith, index-with)
+
+-- what is there was there, or came now
+pub part-with : {A : Type 0} (xs : List (Option A)) (m n : ℕ) (v : Option A) (y : A) → part_of None (with_part xs m v) n ≡ Some y → (part_of None xs n ≡ Some y) ⊎ ((n ≡ m) × (v ≡ Some y))
+part-with xs zero n v y e = inl e
+part-with xs (suc m) zero v y e = inl e
+part-with {A} xs (suc m) (suc n) v y e = at xs m n e
+  where
+    at : (ys : List (Option A)) (i j : ℕ) → slice_index_or (slice_set ys i v) j None ≡ Some y → (slice_index_or ys j None ≡ Some y) ⊎ ((suc j ≡ suc i) × (v ≡ Some y))
+    at (z ∷ zs) zero zero q = inr (refl, q)
+    at (z ∷ zs) (suc i) (suc j) q = elim (at zs i j q) [ inl h ↦ inl h | inr h ↦ inr (ap suc h.0, h.1) ]
+    at _ _ _ q = inl q
+
+-- the part of each flagged node passes
+pub flagged-each : {A : Type 0} (test : A → Bool) (d : A) (flags : List Bool) (parts : List A) (n : ℕ) → all_flagged test flags parts ≡ true → part_of false flags n ≡ true → test (part_of d parts n) ≡ true
+flagged-each test d flags parts zero a q = absurd (cc)
+flagged-each {A} test d flags parts (suc n) a q = at flags parts n a q
+  where
+    at : (fs : List Bool) (ps : List A) (i : ℕ) → all_flagged test fs ps ≡ true → slice_index_or fs i false ≡ true → test (slice_index_or ps i d) ≡ true
+    at (true ∷ fs) (p ∷ ps) zero a q = (and_parts (test p) (all_flagged test fs ps) a).0
+    at (true ∷ fs) (p ∷ ps) (suc i) a q = at fs ps i (and_parts (test p) (all_flagged test fs ps) a).1 q
+    at (false ∷ fs) (p ∷ ps) (suc i) a q = at fs ps i a q
+    at (false ∷ fs) [] (suc i) a q = at fs [] i a q
+    at _ _ _ a q = absurd (cc)
+
+pub flagged-ended : (flags : List Bool) (ended : List (Option Outcome)) (n : ℕ) → all_flagged has_ended flags ended ≡ true → part_of false flags n ≡ true → part_of None ended n ≡ None → ⊥
+flagged-ended flags ended n a q e = let h = flagged-each has_ended None flags ended n a q in let z = ap has_ended e in cc
+
+pub flagged-yes : (flags : List Bool) (votes : List (Option Vote)) (n : ℕ) → all_flagged voted_yes flags votes ≡ true → part_of false flags n ≡ true → part_of None votes n ≡ Some Vote.Yes
+flagged-yes flags votes n a q = grind (arith, flagged-each)
+
+-- What the records of the master keep of the invariant.
 -- the same campaign as node n sees it
 pub record SameAt (n : ℕ) (c d : Current) : Type 0 where
   pub campaign : d.campaign ≡ c.campaign
@@ -43,71 +67,35 @@ some-inj a b e = cc e
 pub none-some : (o : Option Current) (c : Current) → o ≡ None → o ≡ Some c → ⊥
 none-some o c e h = cc (e, h)
 
-pub and-both : (a b : Bool) → (a && b) ≡ true → (a ≡ true) × (b ≡ true)
-and-both true b e = (refl, e)
-and-both false b e = absurd (let g : ⊥ = cc e in g)
-
 pub in-append : (e : ℕ × CampaignResult) (xs : List (ℕ × CampaignResult)) (y : ℕ × CampaignResult) → InEarlier e (xs ++ y ∷ []) → InEarlier e xs ⊎ (e ≡ y)
 in-append e [] y h = elim h [ inl q ↦ inr q | inr q ↦ absurd q ]
 in-append e (x ∷ xs) y h = elim h [ inl q ↦ inl (inl q) | inr q ↦ (elim (in-append e xs y q) [ inl p ↦ inl (inr p) | inr p ↦ inr p ]) ]
 
 below-append : (k : ℕ) (xs : List (ℕ × CampaignResult)) (y : ℕ × CampaignResult) → all_below k (xs ++ y ∷ []) ≡ true → (all_below k xs ≡ true) × (y.0 < k)
-below-append k [] y h = (refl, ltb-true y.0 k (and-both (nat_lt y.0 k) true h).0)
+below-append k [] y h = (refl, ltb-true y.0 k (and_parts (nat_lt y.0 k) true h).0)
 below-append k (x ∷ xs) y h =
-    let q = and-both (nat_lt x.0 k) (all_below k (xs ++ y ∷ [])) h in
+    let q = and_parts (nat_lt x.0 k) (all_below k (xs ++ y ∷ [])) h in
     let r = below-append k xs y q.1 in
     (subst (λ b. (b && all_below k xs) ≡ true) (sym q.0) r.0, r.1)
 
 not-commit : (o : Option Decision) (r : CampaignResult) → is_result_of o r ≡ true → r ≢ Successful → o ≢ Some Commit
-not-commit o r h q e = go r (subst (λ d. is_result_of d r ≡ true) e h) q
-  where
-    go : (r' : CampaignResult) → is_result_of (Some Commit) r' ≡ true → r' ≢ Successful → ⊥
-    go Successful h' q' = q' refl
-    go Failed h' q' = cc h'
-    go Cancelled h' q' = cc h'
+not-commit o r h q e = grind arith
 
 pub below-in : (k : ℕ) (xs : List (ℕ × CampaignResult)) (j : ℕ) (r : CampaignResult) → all_below k xs ≡ true → InEarlier (j, r) xs → j < k
 below-in k [] j r a h = absurd h
 below-in k (x ∷ xs) j r a h =
-    let q = and-both (nat_lt x.0 k) (all_below k xs) a in
+    let q = and_parts (nat_lt x.0 k) (all_below k xs) a in
     elim h [ inl e ↦ subst (λ y. y < k) (sym (ap (λ y. y.0) e)) (ltb-true x.0 k q.0) | inr h' ↦ below-in k xs j r q.1 h' ]
 
 module _ (N : NodeRules) (laws : NodeLaws N) (n : ℕ) where
   pub forget : (f : Fold) (x : NodeWorld N) → KeptOld N f n x → KeptOld N f n (record { moves = x.moves; sent = x.sent; told = [] })
-  forget f x kept =
-      record {
-        falling = kept.falling;
-        epochs = kept.epochs;
-        tags = kept.tags;
-        early = kept.early;
-        decided = kept.decided;
-        ordered = kept.ordered;
-        begun = kept.begun;
-        present = kept.present;
-        told_sent = λ m r told. absurd told;
-        told_none = λ m y told d c current campaign free. absurd told;
-        told_rolled = λ c current e. absurd (let g : ⊥ = cc e in g);
-        kept_holds = kept.kept_holds;
-        finish = kept.finish;
-        ends_old = kept.ends_old;
-        session = kept.session;
-        open_span = kept.open_span;
-        old_so_far = kept.old_so_far;
-        fresh = kept.fresh;
-        entered = kept.entered;
-      }
+  forget f x kept = grind arith
 
   pub present-forth : (f g : Fold) → SameFold n f g → (P : ℕ → Type 0) → InPresent f n (λ c. P c.campaign) → InPresent g n (λ c. P c.campaign)
-  present-forth f g same P h =
-      let k = same.forth h.0 h.1 in
-      (k.0, k.1, k.2.named ∙ h.2, k.2.ended ∙ h.3, subst P (sym k.2.campaign) h.4)
+  present-forth f g same P h = grind arith
 
   fresh-back : (f g : Fold) → SameFold n f g → (k : ℕ) → IsFresh g k → IsFresh f k
-  fresh-back f g same k h =
-      record {
-        above = subst (λ l. all_below k l ≡ true) same.earlier h.above;
-        other = λ c current q. let d = same.forth c current in h.other d.0 d.1 (d.2.campaign ∙ q);
-      }
+  fresh-back f g same k h = grind arith
 
   -- Start, PhaseTo, VoteOf and CancelAsked
   pub event-same : (f g : Fold) (x : NodeWorld N) → SameFold n f g → (g.epoch ≡ f.epoch) ⊎ (x.told ≡ []) → KeptOld N f n x → KeptOld N g n x
@@ -127,16 +115,14 @@ module _ (N : NodeRules) (laws : NodeLaws N) (n : ℕ) where
             let b = same.back c current in
             elim quiet [
               | inl q ↦ kept.told_rolled b.0 b.1 (subst (λ k. last_status k f.epoch x.told ≡ Some RolledBack) b.2.campaign (subst (λ k. last_status c.campaign k x.told ≡ Some RolledBack) q e))
-              | inr q ↦ absurd (let e' : last_status c.campaign g.epoch [] ≡ Some RolledBack = subst (λ t. last_status c.campaign g.epoch t ≡ Some RolledBack) q e in let z : ⊥ = cc e' in z)
+              | inr q ↦ absurd (let e' : last_status c.campaign g.epoch [] ≡ Some RolledBack = subst (λ t. last_status c.campaign g.epoch t ≡ Some RolledBack) q e in cc e')
             ];
         kept_holds = kept.kept_holds;
         finish = λ c cause current abort. let b = same.back c current in kept.finish b.0 cause b.1 (sym b.2.decision ∙ abort);
         ends_old = λ c current d. let b = same.back c current in kept.ends_old b.0 b.1 (λ q. d (b.2.decision ∙ q));
         session = λ tag e. present-forth f g same (λ k. tag ≡ k) (kept.session tag e);
         open_span = kept.open_span;
-        old_so_far = λ c current d.
-            let b = same.back c current in
-            subst (λ k. EachEnded N (λ y. N.Leaves y.before y.left) (spans N k x.moves).ended) (sym b.2.campaign) (kept.old_so_far b.0 b.1 (λ q. d (b.2.decision ∙ q)));
+        old_so_far = λ c current d. grind (arith, spans);
         fresh = λ k h. kept.fresh k (fresh-back f g same k h);
         entered = λ k r h q. kept.entered k r (subst (λ l. InEarlier (k, r) l) same.earlier h) q;
       }
@@ -155,16 +141,13 @@ module _ (N : NodeRules) (laws : NodeLaws N) (n : ℕ) where
         present = λ m h exec. absurd (quiet m h exec);
         told_sent = λ m r told. absurd told;
         told_none = λ m y told d c current campaign free. absurd told;
-        told_rolled = λ c current e. absurd (let g : ⊥ = cc e in g);
+        told_rolled = λ c current e. absurd (cc e);
         kept_holds = kept.kept_holds;
         finish = λ c cause current abort m h call exec. absurd (quiet m h exec);
         ends_old = λ c current d tag mine status. absurd (free tag mine);
         session = λ tag mine. absurd (free tag mine);
         open_span = kept.open_span;
-        old_so_far = λ c current d.
-            let q : k ≡ c.campaign = ap (λ y. y.campaign) (some-inj (begun k named) c current) in
-            subst (λ j. EachEnded N (λ y. N.Leaves y.before y.left) (spans N j x.moves).ended) q
-            (subst (λ l. EachEnded N (λ y. N.Leaves y.before y.left) l) (sym (kept.fresh k is_fresh)) tt);
+        old_so_far = λ c current d. grind (arith, some-inj, spans);
         fresh = λ j h. kept.fresh j (back j h.above);
         entered = kept.entered;
       }
@@ -189,10 +172,7 @@ module _ (N : NodeRules) (laws : NodeLaws N) (n : ℕ) where
         epochs = kept.epochs;
         tags = kept.tags;
         early = kept.early;
-        decided = λ m h q c' current' same e.
-            let s : record c { decision = Some d } ≡ c' = some-inj (record c { decision = Some d }) c' current' in
-            let e' : Some d ≡ None = ap (λ y. y.decision) s ∙ e in
-            let z : ⊥ = cc e' in z;
+        decided = λ m h q c' current' same e. grind (arith, some-inj);
         ordered = kept.ordered;
         begun = λ m h k fresh. kept.begun m h k (back k fresh);
         present = λ m h exec. forth (λ k. m.campaign ≡ k) (kept.present m h exec);
@@ -213,15 +193,13 @@ module _ (N : NodeRules) (laws : NodeLaws N) (n : ℕ) where
       campaign_is c' e = sym (ap (λ y. y.campaign) (some-inj (record c { decision = Some d }) c' e))
 
       not_commit : NotCommit c.decision
-      not_commit q = let z : ⊥ = cc (q, undecided) in z
+      not_commit q = cc (q, undecided)
 
       back : (k : ℕ) → IsFresh (record { epoch = f.epoch; earlier = f.earlier; current = Some (record c { decision = Some d }) }) k → IsFresh f k
       back k h = record { above = h.above; other = λ c' current' q. h.other (record c { decision = Some d }) refl (ap (λ y. y.campaign) (some-inj c c' (sym current ∙ current')) ∙ q) }
 
       forth : (P : ℕ → Type 0) → InPresent f n (λ y. P y.campaign) → InPresent (record { epoch = f.epoch; earlier = f.earlier; current = Some (record c { decision = Some d }) }) n (λ y. P y.campaign)
-      forth P h =
-          let e : h.0 ≡ c = some-inj h.0 c (sym h.1 ∙ current) in
-          (record c { decision = Some d }, refl, sym (ap (λ y. flag_of y.named n) e) ∙ h.2, sym (ap (λ y. end_of y n) e) ∙ h.3, subst P (ap (λ y. y.campaign) e) h.4)
+      forth P h = grind arith
 
       no_finish : (m : Message) → InSent m x.sent → m.call ≡ Finish → Executable N (state_of N x) m → ⊥
       no_finish m h call exec = go m.decided refl
@@ -252,7 +230,7 @@ module _ (N : NodeRules) (laws : NodeLaws N) (n : ℕ) where
         kept_holds = kept.kept_holds;
         finish = λ c' cause current' abort m h call exec. absurd (none_left m h exec);
         ends_old = λ c' current' q. kept.ends_old c current (λ z. q (decision_is c' current' ∙ z));
-        session = λ tag e. absurd (let z : ⊥ = cc (free, e) in z);
+        session = λ tag e. absurd (cc (free, e));
         open_span = kept.open_span;
         old_so_far = λ c' current' q. subst (λ k. EachEnded N (λ y. N.Leaves y.before y.left) (spans N k x.moves).ended) (sym (campaign_is c' current')) (kept.old_so_far c current (λ z. q (decision_is c' current' ∙ z)));
         fresh = λ k h. kept.fresh k (back k h);
@@ -297,19 +275,19 @@ module _ (N : NodeRules) (laws : NodeLaws N) (n : ℕ) where
         epochs = kept.epochs;
         tags = kept.tags;
         early = kept.early;
-        decided = λ m h q c' current' same e. (let z : ⊥ = cc current' in z);
+        decided = λ m h q c' current' same e. (cc current');
         ordered = kept.ordered;
         begun = λ m h k fresh. kept.begun m h k (back k fresh.above);
         present = λ m h exec. absurd (out (λ k. m.campaign ≡ k) (kept.present m h exec));
         told_sent = kept.told_sent;
-        told_none = λ m y told q c' current' same free. absurd (let z : ⊥ = cc current' in z);
-        told_rolled = λ c' current' e. absurd (let z : ⊥ = cc current' in z);
+        told_none = λ m y told q c' current' same free. absurd (cc current');
+        told_rolled = λ c' current' e. absurd (cc current');
         kept_holds = kept.kept_holds;
-        finish = λ c' cause current' abort m h call exec. absurd (let z : ⊥ = cc current' in z);
-        ends_old = λ c' current' q. absurd (let z : ⊥ = cc current' in z);
+        finish = λ c' cause current' abort m h call exec. absurd (cc current');
+        ends_old = λ c' current' q. absurd (cc current');
         session = λ tag e. absurd (out (λ k. tag ≡ k) (kept.session tag e));
         open_span = kept.open_span;
-        old_so_far = λ c' current' q. absurd (let z : ⊥ = cc current' in z);
+        old_so_far = λ c' current' q. absurd (cc current');
         fresh = λ k h. kept.fresh k (back k h.above);
         entered = λ k res h q.
             elim (in-append (k, res) f.earlier (c.campaign, r) h) [
@@ -322,18 +300,7 @@ module _ (N : NodeRules) (laws : NodeLaws N) (n : ℕ) where
       }
     where
       out : (P : ℕ → Type 0) → InPresent f n (λ y. P y.campaign) → ⊥
-      out P h =
-          let e : h.0 ≡ c = some-inj h.0 c (sym h.1 ∙ current) in
-          flagged-ended c.named.flags c.ended n ended (sym (ap (λ y. flag_of y.named n) e) ∙ h.2) (sym (ap (λ y. end_of y n) e) ∙ h.3)
+      out P h = grind (arith, flagged-ended)
 
       back : (k : ℕ) → all_below k (f.earlier ++ (c.campaign, r) ∷ []) ≡ true → IsFresh f k
-      back k h =
-          let q = below-append k f.earlier (c.campaign, r) h in
-          record {
-            above = q.0;
-            other = λ c' current' e.
-                let s : c ≡ c' = some-inj c c' (sym current ∙ current') in
-                let lt : c.campaign < k = q.1 in
-                let same : c.campaign ≡ k = ap (λ y. y.campaign) s ∙ e in
-                (let z : ⊥ = omega arith in z);
-          }
+      back k h = grind (arith, below-append, some-inj)

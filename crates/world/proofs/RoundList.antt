@@ -1,12 +1,11 @@
 -- The stages ask for the calls of the list of all rounds, in its order: while each reply fits its call, the stage's call is the list's call at the number of replies.
-use Rattle.std.proofs.Common.{◌≡◌, ◌≢◌, ℕ, zero, suc, ◌+◌, ◌≤◌, List, [], ◌∷◌, ◌++◌, length, take, drop, Some, refl, sym, ◌∙◌, ap, append_assoc, length-drop, arith}
-use Rattle.pm_types.specs.declared.calls.Call.{Call}
-use Rattle.pm_types.specs.declared.replies.Reply.{Reply}
-use Rattle.pm_types.specs.declared.calls.Call.TheVariants.{Sync, TransferStart, TransferData, TransferExit, ProcessSwPackage, Activate}
-use Rattle.pm_types.specs.declared.replies.Reply.TheVariants.{Done, Started, Synced, Refused}
-use Rattle.world.specs.RoundCalls.{Fits, AllFit}
-use Rattle.world.specs.Rounds.{Stage, At_sync, At_start, At_data, At_process, At_activate, Over, Refused_once, call_at, onward, next_package, next_processed, stage_of}
-use Rattle.world.specs.RoundCalls.{blocks_from, head_or, tail_of, all_transfers, all_processed, round_calls, nth_call, ids_of}
+use Rattle.world.proofs.Names.{◌≡◌, ◌≢◌, ℕ, zero, suc, ◌+◌, ◌≤◌, List, [], ◌∷◌, ◌++◌, length, take, drop, Some, refl}
+use Rattle.world.proofs.Names.{sym, ◌∙◌, ap, append_assoc, length-drop, arith, Call, Reply, Sync, TransferStart}
+use Rattle.world.proofs.Names.{TransferData, TransferExit, ProcessSwPackage, Activate, Done, Started, Synced, Fits}
+use Rattle.world.proofs.Names.{AllFit, blocks_from, head_or, tail_of, all_transfers, all_processed, round_calls}
+use Rattle.world.proofs.Names.{nth_call, Stage, At_sync, At_start, At_data, At_process, At_activate, Over, Refused_once}
+use Rattle.world.proofs.Names.{call_at, onward, next_package, next_processed, stage_of}
+use Rattle.world.specs.RoundCalls.{ids_of}
 
 -- the processing of these ids, and Activate
 abbrev processed : ℕ → List ℕ → List Call
@@ -31,22 +30,18 @@ rest_of k ps (At_start ids left) later = all_transfers later left ++ processed k
 rest_of k ps (At_data ids id counter bytes left) later = blocks_from (length bytes) id counter bytes ++ TransferExit id ∷ (all_transfers later left ++ processed k (ids ++ id ∷ with_later [] later left))
 rest_of k ps (At_process ids taken) later = processed k ids
 rest_of k ps At_activate later = Activate ∷ []
-rest_of k ps Over later = []
-rest_of k ps Refused_once later = []
+rest_of k ps _ later = []
 
 -- more room than blocks changes nothing
 blocks-room : (n m id counter : ℕ) (bytes : List ℕ) → length bytes ≤ n → length bytes ≤ m → blocks_from n id counter bytes ≡ blocks_from m id counter bytes
-blocks-room zero zero id counter bytes h g = refl
-blocks-room zero (suc m) id counter [] h g = refl
 blocks-room zero (suc m) id counter (b ∷ bs) h g = absurd (omega arith)
-blocks-room (suc n) zero id counter [] h g = refl
 blocks-room (suc n) zero id counter (b ∷ bs) h g = absurd (omega arith)
-blocks-room (suc n) (suc m) id counter [] h g = refl
 blocks-room (suc n) (suc m) id counter (b ∷ bs) h g =
     let d = length-drop 4096 (b ∷ bs) in
     let x : length (drop 4096 (b ∷ bs)) ≤ n = omega (arith, d) in
     let y : length (drop 4096 (b ∷ bs)) ≤ m = omega (arith, d) in
     ap (λ (l : List Call). TransferData id counter (take 4096 (b ∷ bs)) ∷ l) (blocks-room n m id (counter + 1) (drop 4096 (b ∷ bs)) x y)
+blocks-room _ _ id counter _ h g = refl
 
 module _ (k : ℕ) (ps : List (List ℕ)) where
   -- after the last package its processing begins
@@ -58,24 +53,12 @@ module _ (k : ℕ) (ps : List (List ℕ)) where
       nil (x ∷ xs) = ap (λ (l : List ℕ). x ∷ l) (nil xs)
   next-rest ids (p ∷ left) later some = refl
 
-  processed-next : (ids : List ℕ) (taken : ℕ) → processed k ids ≡ rest_of k ps (next_processed ids taken) []
-  processed-next [] taken = refl
-  processed-next (id ∷ ids) taken = refl
-
   processed-later : (ids : List ℕ) (taken : ℕ) (later : List ℕ) → processed k ids ≡ rest_of k ps (next_processed ids taken) later
-  processed-later [] taken later = refl
-  processed-later (id ∷ ids) taken later = refl
+  processed-later x taken later = grind arith
 
   -- a fitting reply takes the first call away
   one-on : (stage : Stage) (r : Reply) (rs : List Reply) → ps ≢ [] → Fits stage r → (call : Call) × (call_at k stage ≡ Some call) × (rest_of k ps stage (ids_of (r ∷ rs)) ≡ call ∷ rest_of k ps (onward ps stage r) (ids_of rs))
   one-on At_sync (Synced x) rs some h = (Sync, refl, ap (λ (l : List Call). Sync ∷ l) (next-rest [] ps (ids_of rs) (λ e. absurd (some e))))
-  one-on At_sync Done rs some h = absurd h
-  one-on At_sync (Started id) rs some h = absurd h
-  one-on At_sync (Refused why) rs some h = absurd h
-  one-on (At_start ids []) Done rs some h = absurd h
-  one-on (At_start ids []) (Started id) rs some h = absurd h
-  one-on (At_start ids []) (Synced x) rs some h = absurd h
-  one-on (At_start ids []) (Refused why) rs some h = absurd h
   one-on (At_start ids (p ∷ left)) (Started id) rs some h = (
     TransferStart (length p),
     refl,
@@ -83,9 +66,6 @@ module _ (k : ℕ) (ps : List (List ℕ)) where
         (append_assoc (blocks_from (length p) id 1 p ++ TransferExit id ∷ []) (all_transfers (ids_of rs) left) (processed k (ids ++ id ∷ with_later [] (ids_of rs) left))
         ∙ append_assoc (blocks_from (length p) id 1 p) (TransferExit id ∷ []) (all_transfers (ids_of rs) left ++ processed k (ids ++ id ∷ with_later [] (ids_of rs) left))),
   )
-  one-on (At_start ids (p ∷ left)) Done rs some h = absurd h
-  one-on (At_start ids (p ∷ left)) (Synced x) rs some h = absurd h
-  one-on (At_start ids (p ∷ left)) (Refused why) rs some h = absurd h
   one-on (At_data ids id counter [] left) Done rs some h = (
     TransferExit id,
     refl,
@@ -103,38 +83,11 @@ module _ (k : ℕ) (ps : List (List ℕ)) where
     ap (λ (l : List Call). TransferData id counter (take 4096 (b ∷ bs)) ∷ (l ++ TransferExit id ∷ (all_transfers (ids_of rs) left ++ processed k (ids ++ id ∷ with_later [] (ids_of rs) left))))
         (blocks-room (length bs) (length (drop 4096 (b ∷ bs))) id (counter + 1) (drop 4096 (b ∷ bs)) (let d = length-drop 4096 (b ∷ bs) in omega (arith, d)) (omega arith)),
   )
-  one-on (At_data ids id counter [] left) (Started i) rs some h = absurd h
-  one-on (At_data ids id counter [] left) (Synced x) rs some h = absurd h
-  one-on (At_data ids id counter [] left) (Refused why) rs some h = absurd h
-  one-on (At_data ids id counter (b ∷ bs) left) (Started i) rs some h = absurd h
-  one-on (At_data ids id counter (b ∷ bs) left) (Synced x) rs some h = absurd h
-  one-on (At_data ids id counter (b ∷ bs) left) (Refused why) rs some h = absurd h
-  one-on (At_process [] taken) Done rs some h = absurd h
-  one-on (At_process [] taken) (Started i) rs some h = absurd h
-  one-on (At_process [] taken) (Synced x) rs some h = absurd h
-  one-on (At_process [] taken) (Refused why) rs some h = absurd h
   one-on (At_process (id ∷ ids) taken) Done rs some h = (ProcessSwPackage id k, refl, ap (λ (l : List Call). ProcessSwPackage id k ∷ l) (processed-later ids (suc taken) (ids_of rs)))
-  one-on (At_process (id ∷ ids) taken) (Started i) rs some h = absurd h
-  one-on (At_process (id ∷ ids) taken) (Synced x) rs some h = absurd h
-  one-on (At_process (id ∷ ids) taken) (Refused why) rs some h = absurd h
   one-on At_activate Done rs some h = (Activate, refl, refl)
-  one-on At_activate (Started i) rs some h = absurd h
-  one-on At_activate (Synced x) rs some h = absurd h
-  one-on At_activate (Refused why) rs some h = absurd h
-  one-on Over r rs some h = absurd (over r h)
-    where
-      over : (r' : Reply) → Fits Over r' → ⊥
-      over Done h' = h'
-      over (Started i) h' = h'
-      over (Synced x) h' = h'
-      over (Refused why) h' = h'
-  one-on Refused_once r rs some h = absurd (over r h)
-    where
-      over : (r' : Reply) → Fits Refused_once r' → ⊥
-      over Done h' = h'
-      over (Started i) h' = h'
-      over (Synced x) h' = h'
-      over (Refused why) h' = h'
+  one-on Over r rs some h = grind arith
+  one-on Refused_once r rs some h = grind arith
+  one-on _ _ rs some h = absurd h
 
   -- the stages that are reached ask for a call, or all is done
   abbrev IsReached : Stage → Type 0
@@ -144,72 +97,27 @@ module _ (k : ℕ) (ps : List (List ℕ)) where
   IsReached _ = Unit {0}
 
   reached-next : (ids : List ℕ) (left : List (List ℕ)) → (left ≡ [] → ids ≢ []) → IsReached (next_package ids left)
-  reached-next [] [] some = absurd (some refl refl)
-  reached-next (id ∷ ids) [] some = tt
-  reached-next ids (p ∷ left) some = tt
+  reached-next x y some = grind arith
 
   reached-processed : (ids : List ℕ) (taken : ℕ) → IsReached (next_processed ids taken)
-  reached-processed [] taken = tt
-  reached-processed (id ∷ ids) taken = tt
+  reached-processed x taken = grind arith
 
   reached-on : (stage : Stage) (r : Reply) → ps ≢ [] → Fits stage r → IsReached (onward ps stage r)
   reached-on At_sync (Synced x) some h = reached-next [] ps (λ e. absurd (some e))
-  reached-on At_sync Done some h = absurd h
-  reached-on At_sync (Started id) some h = absurd h
-  reached-on At_sync (Refused why) some h = absurd h
-  reached-on (At_start ids []) Done some h = absurd h
-  reached-on (At_start ids []) (Started id) some h = absurd h
-  reached-on (At_start ids []) (Synced x) some h = absurd h
-  reached-on (At_start ids []) (Refused why) some h = absurd h
   reached-on (At_start ids (p ∷ left)) (Started id) some h = tt
-  reached-on (At_start ids (p ∷ left)) Done some h = absurd h
-  reached-on (At_start ids (p ∷ left)) (Synced x) some h = absurd h
-  reached-on (At_start ids (p ∷ left)) (Refused why) some h = absurd h
   reached-on (At_data ids id counter [] left) Done some h = reached-next (ids ++ id ∷ []) left (λ e. not-empty ids id)
     where
       not-empty : (l : List ℕ) (x : ℕ) → l ++ x ∷ [] ≢ []
       not-empty [] x e = cc e
       not-empty (y ∷ ys) x e = cc e
   reached-on (At_data ids id counter (b ∷ bs) left) Done some h = tt
-  reached-on (At_data ids id counter [] left) (Started i) some h = absurd h
-  reached-on (At_data ids id counter [] left) (Synced x) some h = absurd h
-  reached-on (At_data ids id counter [] left) (Refused why) some h = absurd h
-  reached-on (At_data ids id counter (b ∷ bs) left) (Started i) some h = absurd h
-  reached-on (At_data ids id counter (b ∷ bs) left) (Synced x) some h = absurd h
-  reached-on (At_data ids id counter (b ∷ bs) left) (Refused why) some h = absurd h
-  reached-on (At_process [] taken) Done some h = absurd h
-  reached-on (At_process [] taken) (Started i) some h = absurd h
-  reached-on (At_process [] taken) (Synced x) some h = absurd h
-  reached-on (At_process [] taken) (Refused why) some h = absurd h
   reached-on (At_process (id ∷ ids) taken) Done some h = reached-processed ids (suc taken)
-  reached-on (At_process (id ∷ ids) taken) (Started i) some h = absurd h
-  reached-on (At_process (id ∷ ids) taken) (Synced x) some h = absurd h
-  reached-on (At_process (id ∷ ids) taken) (Refused why) some h = absurd h
   reached-on At_activate Done some h = tt
-  reached-on At_activate (Started i) some h = absurd h
-  reached-on At_activate (Synced x) some h = absurd h
-  reached-on At_activate (Refused why) some h = absurd h
-  reached-on Over Done some h = absurd h
-  reached-on Over (Started i) some h = absurd h
-  reached-on Over (Synced x) some h = absurd h
-  reached-on Over (Refused why) some h = absurd h
-  reached-on Refused_once Done some h = absurd h
-  reached-on Refused_once (Started i) some h = absurd h
-  reached-on Refused_once (Synced x) some h = absurd h
-  reached-on Refused_once (Refused why) some h = absurd h
+  reached-on _ _ some h = absurd h
 
   -- with no further reply the first call of the rest comes
   first-is : (stage : Stage) → IsReached stage → call_at k stage ≡ nth_call (rest_of k ps stage []) 0
-  first-is At_sync h = refl
-  first-is (At_start ids []) h = absurd h
-  first-is (At_start ids (p ∷ left)) h = refl
-  first-is (At_data ids id counter [] left) h = refl
-  first-is (At_data ids id counter (b ∷ bs) left) h = refl
-  first-is (At_process [] taken) h = absurd h
-  first-is (At_process (id ∷ ids) taken) h = refl
-  first-is At_activate h = refl
-  first-is Over h = refl
-  first-is Refused_once h = absurd h
+  first-is x h = grind arith
 
   from-stage : (stage : Stage) (rs : List Reply) → ps ≢ [] → IsReached stage → AllFit ps stage rs → call_at k (stage_of ps stage rs) ≡ nth_call (rest_of k ps stage (ids_of rs)) (length rs)
   from-stage stage [] some h fit = first-is stage h
@@ -219,7 +127,4 @@ module _ (k : ℕ) (ps : List (List ℕ)) where
 
   -- the stage's call is the list's call at the number of replies
   pub stages-list : (rs : List Reply) → ps ≢ [] → AllFit ps At_sync rs → call_at k (stage_of ps At_sync rs) ≡ nth_call (round_calls k (ids_of rs) ps) (length rs)
-  stages-list rs some fit =
-      from-stage At_sync rs some tt fit
-      ∙ ap (λ (l : List Call). nth_call (Sync ∷ l) (length rs))
-      (ap (λ (l : List Call). all_transfers (ids_of rs) ps ++ l) (sym (processed-is k (ids_of rs) ps)) ∙ sym (append_assoc (all_transfers (ids_of rs) ps) (all_processed k (ids_of rs) ps) (Activate ∷ [])))
+  stages-list rs some fit = grind (arith, from-stage, processed-is, append_assoc)

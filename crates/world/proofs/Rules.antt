@@ -1,24 +1,15 @@
 -- What the law needs of a node: its observations, its three kinds of step, and the laws of them.
-use Rattle.pm_types.specs.NodeState.{is_working}
-use Rattle.pm_types.specs.declared.calls.Call.TheVariants.{Sync, TransferStart, TransferData, TransferExit, DeleteTransfer, ProcessSwPackage, Activate, Finish, Rollback, RevertProcessedSwPackages as Revert, Cancel}
-use Rattle.pm_types.specs.declared.calls.Call.{Call}
-use Rattle.pm_types.specs.declared.replies.EndMark.{EndMark}
-use Rattle.pm_types.specs.declared.replies.Reached.TheVariants.{Stale, Again, Done as Fresh}
-use Rattle.pm_types.specs.declared.replies.Reached.{Reached}
-use Rattle.pm_types.specs.declared.replies.Refusal.{Refusal}
-use Rattle.pm_types.specs.declared.replies.Reply.TheVariants.{Done, Started, Synced, Refused}
-use Rattle.pm_types.specs.declared.replies.Reply.{Reply}
-use Rattle.pm_types.specs.declared.replies.SessionMark.{SessionMark}
-use Rattle.pm_types.specs.declared.replies.Synced.{Synced as Shown}
-use Rattle.pm_types.specs.declared.status.Outcome.TheVariants.{New, Old}
-use Rattle.pm_types.specs.declared.status.Outcome.{Outcome}
-use Rattle.pm_types.specs.declared.status.Status.TheVariants.{Idle, Ready, Activated, RolledBack}
-use Rattle.pm_types.specs.declared.status.Status.TheVariants.{Idle, Ready, Processing, Activating, Verifying, Activated, RollingBack, RolledBack, CleaningUp}
-use Rattle.pm_types.specs.declared.status.Status.{Status}
-use Rattle.std.specs.Prelude.{◌≡◌, ◌≢◌, ◌⊎◌, ℕ, List, [], ◌∷◌, ◌++◌, Option, Some, None, Bool, false, if◌then◌else◌, Contains}
-use Rattle.std.specs.Prelude.{◌≡◌, ◌≢◌, ◌⊎◌, ℕ, List, [], ◌∷◌, ◌++◌, Contains, Option, Some, None, Bool, false, if◌then◌else◌}
-use Rattle.ucm_base.specs.declared.ids.CallNo.{CallNo}
-use Rattle.world.specs.Messages.{no_lt, no_eq, is_status}
+use Rattle.world.proofs.Names.{is_working, Sync, TransferStart, TransferData, TransferExit, DeleteTransfer}
+use Rattle.world.proofs.Names.{ProcessSwPackage, Activate, Finish, Rollback, Revert, Cancel, Call, EndMark, Stale}
+use Rattle.world.proofs.Names.{Again, Fresh, Reached, Refusal, Done, Started, Synced, Refused, Reply, SessionMark}
+use Rattle.world.proofs.Names.{Shown, New, Old, Outcome, Idle, Ready, Activated, RolledBack, Processing, Activating}
+use Rattle.world.proofs.Names.{Verifying, RollingBack, CleaningUp, Status, ◌≡◌, ◌≢◌, ◌⊎◌, ℕ, List, [], ◌∷◌, ◌++◌}
+use Rattle.world.proofs.Names.{Option, Some, None, Bool, false, if◌then◌else◌, CallNo, no_lt, no_eq, is_status}
+use Rattle.world.proofs.Names.{after_event, refusal_of, nothing_yet, Start, Begin, VoteOf, EndedAt, MasterEvent, Fold}
+use Rattle.world.proofs.Names.{◌+◌, ◌<◌, length, nat_eq, Message, Told, nth_sent, answer_of, Showed, Packages}
+use Rattle.world.proofs.Names.{next_number, MaySend, campaign_of, decided_of, empties, VoteEvidence, EndEvidence}
+use Rattle.world.proofs.Names.{NamesOf, InCurrent, ◌≤◌, ◌&&◌, ◌||◌, CampaignResult, Successful, has_tag, is_done}
+use Rattle.std.specs.Prelude.{Contains, flat_map}
 
 -- a node, by what the master's side of it can be seen to be
 pub record NodeRules : Type 1 where
@@ -166,3 +157,171 @@ pub record NodeLaws (N : NodeRules) : Type 0 where
   -- a session exists exactly where the status isn't Idle
   pub session_status : (s : N.State) (tag : ℕ) → N.mine s ≡ Some tag → N.status s ≢ Idle
   pub cleaning_outcome : (s : N.State) (tag : ℕ) → N.mine s ≡ Some tag → N.status s ≡ CleaningUp → (o : Outcome) × (N.outcome s ≡ Some o)
+
+-- A world over such nodes: what happened on each, the fold of the list, and which event may happen.
+-- what happened on a node
+pub data Move (N : NodeRules) : Type 0 where
+  Delivered : (message : Message) → Move N
+  Foreign : (call : N.ForeignCall) → Move N
+  Unit_done : (passed : Bool) → Move N
+
+-- one node, the newest first in each list
+pub record NodeWorld (N : NodeRules) : Type 0 where
+  pub moves : List (Move N)
+  pub sent : List Message
+  pub told : List Told
+
+-- packages: of a campaign's steps for a node, in step order, the bytes. No event changes them
+pub record World (N : NodeRules) : Type 0 where
+  pub fold : Fold
+  pub node : ℕ → NodeWorld N
+
+abbrev pub step : (N : NodeRules) → N.State → Move N → N.State
+step N s (Delivered m) = delivered N s m.at m.call
+step N s (Foreign call) = N.foreign s call
+step N s (Unit_done passed) = N.unit s passed
+
+abbrev pub after : (N : NodeRules) → List (Move N) → N.State
+after N [] = N.formatted
+after N (m ∷ ms) = step N (after N ms) m
+
+abbrev pub state_of : (N : NodeRules) → NodeWorld N → N.State
+state_of N x = after N x.moves
+
+-- the events
+pub data Event (N : NodeRules) : Type 0 where
+  Deliver : (node which : ℕ) (told : Bool) → Event N
+  Foreign_calls : (node : ℕ) (call : N.ForeignCall) → Event N
+  Unit_comes : (node : ℕ) (passed told : Bool) → Event N
+  Send : (node : ℕ) (call : Call) → Event N
+  Record : (event : MasterEvent) → Event N
+  Restart : Event N
+
+abbrev pub Evidence : (N : NodeRules) → Packages → List ℕ → World N → MasterEvent → Type 0
+Evidence N packages numbers w (Begin k named) = Contains numbers k × NamesOf packages k named
+Evidence N packages numbers w (VoteOf n v) = VoteEvidence v (w.node n).told
+Evidence N packages numbers w (EndedAt n o) = InCurrent w.fold.current (λ c. EndEvidence w.fold.epoch c (w.node n).told (w.node n).sent)
+Evidence N packages numbers w _ = Unit {0}
+
+-- one event may happen
+abbrev pub Allowed : (N : NodeRules) → Packages → List ℕ → World N → Event N → Type 0
+Allowed N packages numbers w (Deliver n which told) = which < length (w.node n).sent
+Allowed N packages numbers w (Send n call) = InCurrent w.fold.current (λ c. MaySend packages w.fold.epoch n c (w.node n).told (w.node n).sent call)
+Allowed N packages numbers w (Record e) = (refusal_of w.fold e ≡ None) × Evidence N packages numbers w e
+Allowed N packages numbers w _ = Unit {0}
+
+-- a world in which node n is x
+abbrev pub with_node : (N : NodeRules) → World N → ℕ → NodeWorld N → World N
+with_node N w n x = record { fold = w.fold; node = λ k. if nat_eq k n then x else w.node k }
+
+abbrev pub emptied : (N : NodeRules) → World N → Fold → World N
+emptied N w f = record { fold = f; node = λ k. record { moves = (w.node k).moves; sent = (w.node k).sent; told = [] } }
+
+abbrev pub deliver_to : (N : NodeRules) → NodeWorld N → Option Message → Bool → NodeWorld N
+deliver_to N x None told = x
+deliver_to N x (Some m) told =
+    record {
+      moves = Delivered m ∷ x.moves;
+      sent = x.sent;
+      told = if told then answer_of m (reached N (state_of N x) m.at m.call) x.told else x.told;
+    }
+
+abbrev pub recorded : (N : NodeRules) → World N → MasterEvent → World N
+recorded N w e = if empties e then emptied N w (after_event w.fold e) else record { fold = after_event w.fold e; node = w.node }
+
+abbrev pub happens : (N : NodeRules) → World N → Event N → World N
+happens N w (Deliver n which told) = with_node N w n (deliver_to N (w.node n) (nth_sent (w.node n).sent which) told)
+happens N w (Foreign_calls n call) =
+    with_node N w n (record { moves = Foreign call ∷ (w.node n).moves; sent = (w.node n).sent; told = (w.node n).told })
+happens N w (Unit_comes n passed told) =
+    with_node N w n (record { moves = Unit_done passed ∷ (w.node n).moves; sent = (w.node n).sent; told = if told then Showed (N.status (N.unit (state_of N (w.node n)) passed)) ∷ (w.node n).told else (w.node n).told })
+happens N w (Send n call) =
+    with_node N w n (record { moves = (w.node n).moves; sent = record { at = next_number w.fold.epoch (w.node n).sent; call = call; campaign = campaign_of w.fold.current; decided = decided_of w.fold.current } ∷ (w.node n).sent; told = (w.node n).told })
+happens N w (Record e) = recorded N w e
+happens N w Restart = recorded N w (Start (w.fold.epoch + 1))
+
+-- the formatted world, and those that lists of allowed events make
+abbrev pub formatted_world : (N : NodeRules) → World N
+formatted_world N = record { fold = nothing_yet; node = λ k. record { moves = []; sent = []; told = [] } }
+
+-- the same, where something foreign happened on each node
+abbrev pub opened_world : (N : NodeRules) → (ℕ → N.ForeignCall) → World N
+opened_world N openings = record { fold = nothing_yet; node = λ k. record { moves = Foreign (openings k) ∷ []; sent = []; told = [] } }
+
+abbrev pub Makes : (N : NodeRules) → Packages → List ℕ → World N → List (Event N) → World N → Type 0
+Makes N packages numbers w [] v = v ≡ w
+Makes N packages numbers w (e ∷ es) v = Allowed N packages numbers w e × Makes N packages numbers (happens N w e) es v
+
+-- What a campaign leaves: the spans of its sessions, and the law over every list of events.
+-- a span that has ended: its outcome, the state before the unit that ended it, and the one after
+pub record Span (N : NodeRules) : Type 0 where
+  pub outcome : Option Outcome
+  pub before : N.State
+  pub left : N.State
+
+-- the spans of one tag: whether one is open, and those that have ended, the newest first
+pub record Spans (N : NodeRules) : Type 0 where
+  pub is_open : Bool
+  pub ended : List (Span N)
+
+abbrev pub is_fresh_done : Reached → Bool
+is_fresh_done (Fresh r) = is_done r
+is_fresh_done _ = false
+
+-- an accepted ProcessSwPackage of client 0 with this tag in Idle
+abbrev pub begins_span : (N : NodeRules) → ℕ → N.State → Message → Bool
+begins_span N k s m = has_tag k m.call && (is_status (N.status s) Idle && is_fresh_done (reached N s m.at m.call))
+
+abbrev pub span_step : (N : NodeRules) → ℕ → N.State → Move N → Spans N → Spans N
+span_step N k s (Delivered m) x = record { is_open = x.is_open || begins_span N k s m; ended = x.ended }
+span_step N k s (Foreign _) x = x
+span_step N k s (Unit_done passed) x =
+    if x.is_open && is_status (N.status s) CleaningUp
+    then record { is_open = false; ended = record { outcome = N.outcome s; before = s; left = N.unit s passed } ∷ x.ended }
+    else x
+
+abbrev pub spans : (N : NodeRules) → ℕ → List (Move N) → Spans N
+spans N k [] = record { is_open = false; ended = [] }
+spans N k (m ∷ ms) = span_step N k (after N ms) m (spans N k ms)
+
+abbrev pub EachEnded : (N : NodeRules) → (Span N → Type 0) → List (Span N) → Type 0
+EachEnded N P [] = Unit {0}
+EachEnded N P (x ∷ xs) = P x × EachEnded N P xs
+
+-- exactly one span, ended as New, and it brought these changes
+pub record IsNew (N : NodeRules) (k : ℕ) (changes : List N.Change) (moves : List (Move N)) : Type 0 where
+  pub span : Span N
+  pub only : spans N k moves ≡ record { is_open = false; ended = span ∷ [] }
+  pub outcome : span.outcome ≡ Some New
+  pub brings : N.Brings changes span.before span.left
+
+-- every span has ended and left the clusters as they were saved
+pub record IsOld (N : NodeRules) (k : ℕ) (moves : List (Move N)) : Type 0 where
+  pub all_ended : (spans N k moves).is_open ≡ false
+  pub leave : EachEnded N (λ x. N.Leaves x.before x.left) (spans N k moves).ended
+
+abbrev pub IsLeft : (N : NodeRules) → CampaignResult → ℕ → List N.Change → List (Move N) → Type 0
+IsLeft N Successful k changes moves = IsNew N k changes moves
+IsLeft N _ k changes moves = IsOld N k moves
+
+-- an entry of the earlier campaigns
+abbrev pub InEarlier : ℕ × CampaignResult → List (ℕ × CampaignResult) → Type 0
+InEarlier e [] = ⊥
+InEarlier e (x ∷ xs) = (e ≡ x) ⊎ InEarlier e xs
+
+-- the law of campaigns: over every list of events, at every campaign that was entered and every node that its steps name
+abbrev pub CampaignLaw : (N : NodeRules) → Type 0
+CampaignLaw N =
+    (packages : Packages) (numbers : List ℕ) (openings : ℕ → N.ForeignCall) (events : List (Event N)) (w : World N)
+    → Makes N packages numbers (opened_world N openings) events w
+    → (k : ℕ) (result : CampaignResult)
+    → InEarlier (k, result) w.fold.earlier
+    → (n : ℕ)
+    → 1 ≤ n
+    → n ≤ 8
+    → packages k n ≢ []
+    → IsLeft N result k (flat_map N.changes_of (packages k n)) (w.node n).moves
+
+-- it holds of every node that meets the laws
+abbrev pub WorldLaw : (N : NodeRules) → Type 0
+WorldLaw N = NodeLaws N → CampaignLaw N

@@ -1,23 +1,10 @@
 -- What a send keeps of the invariant.
-use Rattle.std.proofs.Common.{◌≡◌, ◌≢◌, inl, inr, if◌then◌else◌, ◌||◌, ◌+◌, ℕ, ◌≤◌, List, [], ◌∷◌, length, take, Option, Some, None, Bool, true, false, is_some, nat_eq, refl, sym, ◌∙◌, ap, subst, arith}
-use Rattle.std.proofs.lemmas.Bool.{eqb-true}
-use Rattle.std.proofs.lemmas.Bool.Decides.{eqb_tells}
-use Rattle.pm_types.specs.declared.status.Status.{Status}
-use Rattle.pm_types.specs.declared.status.Status.TheVariants.{Idle, Ready, Processing, Activating, Verifying, Activated, RollingBack, RolledBack, CleaningUp}
-use Rattle.campaign_core.specs.declared.events.Cause.{Cause}
-use Rattle.campaign_core.specs.declared.events.Decision.{Decision}
-use Rattle.campaign_core.specs.declared.events.Decision.TheVariants.{Commit, Abort}
-use Rattle.campaign_core.specs.declared.fold.Fold.{Fold}
-use Rattle.campaign_core.specs.declared.fold.Current.{Current}
-use Rattle.campaign_core.specs.Campaign.{end_of}
-use Rattle.pm_types.specs.declared.calls.Call.{Call}
-use Rattle.pm_types.specs.declared.calls.Call.TheVariants.{Sync, TransferStart, TransferData, TransferExit, ProcessSwPackage, Activate, Finish}
-use Rattle.world.specs.Messages.{IsBelow, is_status}
-use Rattle.world.proofs.Rules.{NodeRules, NodeLaws}
-use Rattle.world.specs.Messages.{Message, InSent, is_sync}
-use Rattle.world.proofs.RulesWorld.{NodeWorld, state_of}
-use Rattle.world.specs.Sends.{Packages, replies_of, last_status, last_shown, end_call_at, delete_at, next_number, MaySend, MaySendBy, MaySendEarly, MaySendLate}
-use Rattle.world.specs.Rounds.{Stage, At_sync, At_start, At_data, At_process, At_activate, Over, Refused_once, call_at, stage_of}
+use Rattle.world.proofs.Names.{◌≡◌, ◌≢◌, inl, inr, if◌then◌else◌, ◌||◌, ◌+◌, ℕ, ◌≤◌, List, [], ◌∷◌, Option, Some, None}
+use Rattle.world.proofs.Names.{Bool, true, false, is_some, nat_eq, refl, sym, ◌∙◌, ap, subst, arith, eqb-true}
+use Rattle.world.proofs.Names.{eqb_tells, RolledBack, Cause, Decision, Abort, Fold, Current, end_of, Call}
+use Rattle.world.proofs.Names.{ProcessSwPackage, Finish, IsBelow, Message, InSent, is_sync, Packages, last_status}
+use Rattle.world.proofs.Names.{last_shown, end_call_at, delete_at, next_number, MaySend, MaySendBy, MaySendLate}
+use Rattle.world.proofs.Rules.{NodeRules, NodeLaws, NodeWorld, state_of}
 use Rattle.world.proofs.Invariant.{NoneEarly, KeptOld, KeptFold, Falling}
 use Rattle.world.proofs.Events.{below-trans, none-early-status}
 
@@ -25,25 +12,10 @@ use Rattle.world.proofs.Events.{below-trans, none-early-status}
 abbrev pub IsRoundCall : ℕ → Call → Type 0
 IsRoundCall k call = (call ≢ Finish) × ((id tag : ℕ) → call ≡ ProcessSwPackage id tag → tag ≡ k)
 
-pub round-calls : (k : ℕ) (stage : Stage) (call : Call) → call_at k stage ≡ Some call → IsRoundCall k call
-round-calls k At_sync call e = let q : Sync ≡ call = cc e in (λ z. cc, λ i t z. cc)
-round-calls k (At_start ids []) call e = absurd (let g : ⊥ = cc e in g)
-round-calls k (At_start ids (p ∷ ps)) call e = let q : TransferStart (length p) ≡ call = cc e in (λ z. cc, λ i t z. cc)
-round-calls k (At_data ids id counter [] left) call e = let q : TransferExit id ≡ call = cc e in (λ z. cc, λ i t z. cc)
-round-calls k (At_data ids id counter (b ∷ bs) left) call e = let q : TransferData id counter (take 4096 (b ∷ bs)) ≡ call = cc e in (λ z. cc, λ i t z. cc)
-round-calls k (At_process [] taken) call e = absurd (let g : ⊥ = cc e in g)
-round-calls k (At_process (id ∷ ids) taken) call e =
-    let q : ProcessSwPackage id k ≡ call = cc e in
-    (λ z. cc, λ i t z. (let z' : ProcessSwPackage id k ≡ ProcessSwPackage i t = q ∙ z in let g : k ≡ t = cc z' in sym g))
-round-calls k At_activate call e = let q : Activate ≡ call = cc e in (λ z. cc, λ i t z. cc)
-round-calls k Over call e = absurd (let g : ⊥ = cc e in g)
-round-calls k Refused_once call e = absurd (let g : ⊥ = cc e in g)
-
 -- the next number is above all that were sent
 pub next-above : (epoch : ℕ) (sent : List Message) → Falling sent → ((m : Message) → InSent m sent → m.at.epoch ≤ epoch) → (older : Message) → InSent older sent → IsBelow older.at (next_number epoch sent)
 next-above epoch [] falling epochs older h = absurd h
-next-above epoch (m ∷ ms) falling epochs older h =
-    elim h [ inl e ↦ subst (λ y. IsBelow y.at (next_number epoch (m ∷ ms))) (sym e) first | inr h' ↦ below-trans older.at m.at (next_number epoch (m ∷ ms)) (falling.0 older h') first ]
+next-above epoch (m ∷ ms) falling epochs older h = grind (arith, first, next_number, below-trans)
   where
     first : IsBelow m.at (next_number epoch (m ∷ ms))
     first = go (nat_eq m.at.epoch epoch) refl
@@ -52,40 +24,17 @@ next-above epoch (m ∷ ms) falling epochs older h =
         go true q = let e = eqb-true m.at.epoch epoch q in inr (e, omega arith)
         go false q =
             let le : m.at.epoch ≤ epoch = epochs m (inl refl) in
-            elim (eqb_tells m.at.epoch epoch) [ inl h2 ↦ absurd (let g : ⊥ = cc (h2.0, q) in g) | inr h2 ↦ inl (let ne : m.at.epoch ≢ epoch = h2.1 in omega arith) ]
+            elim (eqb_tells m.at.epoch epoch) [ inl h2 ↦ absurd (cc (h2.0, q)) | inr h2 ↦ inl (let ne : m.at.epoch ≢ epoch = h2.1 in omega arith) ]
 
 pub next-epoch : (epoch : ℕ) (sent : List Message) → (next_number epoch sent).epoch ≡ epoch
-next-epoch epoch [] = refl
-next-epoch epoch (m ∷ ms) = refl
+next-epoch epoch x = grind arith
 
 none-of : (o : Option Decision) → is_some o ≡ false → o ≡ None
-none-of None e = refl
-none-of (Some d) e = absurd (let g : ⊥ = cc e in g)
-
--- what may be sent after the decision
-late-process : (d : Decision) (o : Option Status) (shown : Option _) (id tag : ℕ) → (is_sync (ProcessSwPackage id tag) || (end_call_at d o (ProcessSwPackage id tag) || delete_at shown (ProcessSwPackage id tag))) ≡ true → ⊥
-late-process d None shown id tag e = cc e
-late-process Commit (Some s) shown id tag e = cc e
-late-process (Abort cause) (Some s) shown id tag e = cc e
-
-is-rolled : (x : Status) → is_status x RolledBack ≡ true → x ≡ RolledBack
-is-rolled Idle e = absurd (let g : ⊥ = cc e in g)
-is-rolled Ready e = absurd (let g : ⊥ = cc e in g)
-is-rolled Processing e = absurd (let g : ⊥ = cc e in g)
-is-rolled Activating e = absurd (let g : ⊥ = cc e in g)
-is-rolled Verifying e = absurd (let g : ⊥ = cc e in g)
-is-rolled Activated e = absurd (let g : ⊥ = cc e in g)
-is-rolled RollingBack e = absurd (let g : ⊥ = cc e in g)
-is-rolled RolledBack e = refl
-is-rolled CleaningUp e = absurd (let g : ⊥ = cc e in g)
+none-of x e = grind arith
 
 or-false : (b : Bool) → (b || false) ≡ true → b ≡ true
 or-false true e = refl
 or-false false e = e
-
-late-finish : (cause : Cause) (o : Option Status) (shown : Option _) → (is_sync Finish || (end_call_at (Abort cause) o Finish || delete_at shown Finish)) ≡ true → o ≡ Some RolledBack
-late-finish cause None shown e = absurd (let g : ⊥ = cc e in g)
-late-finish cause (Some s) shown e = ap Some (is-rolled s (or-false (is_status s RolledBack) e))
 
 module _ (N : NodeRules) (laws : NodeLaws N) (packages : Packages) (f : Fold) (n : ℕ) where
   pub event-send : (x : NodeWorld N) (c : Current) (call : Call) → f.current ≡ Some c → MaySend packages f.epoch n c x.told x.sent call → KeptFold f → KeptOld N f n x → KeptOld N f n (record { moves = x.moves; sent = record { at = next_number f.epoch x.sent; call = call; campaign = c.campaign; decided = is_some c.decision } ∷ x.sent; told = x.told })
@@ -98,10 +47,7 @@ module _ (N : NodeRules) (laws : NodeLaws N) (packages : Packages) (f : Fold) (n
         decided = λ m h d c' current' same. elim h [ inl e ↦ new_decided m e d c' current' | inr h' ↦ kept.decided m h' d c' current' same ];
         ordered = λ m older h g same d undecided.
             elim h [
-              | inl e ↦ elim g [
-                | inl e' ↦ absurd (let z : ⊥ = cc (e, e', d, undecided) in z)
-                | inr g' ↦ rw e (above older g')
-              ]
+              | inl e ↦ elim g [ inl e' ↦ absurd (cc (e, e', d, undecided)) | inr g' ↦ rw e (above older g') ]
               | inr h' ↦ elim g [
                 | inl e' ↦ absurd (kept.decided m h' d c current (same ∙ ap (λ y. y.campaign) e') (undecided_of older e' undecided))
                 | inr g' ↦ kept.ordered m older h' g' same d undecided
@@ -141,47 +87,30 @@ module _ (N : NodeRules) (laws : NodeLaws N) (packages : Packages) (f : Fold) (n
       undecided_of m e d = none-of c.decision (sym (ap (λ y. y.decided) e) ∙ d)
 
       round : c.decision ≡ None → IsRoundCall c.campaign call
-      round q =
-          let by : MaySendEarly packages n c x.told x.sent call = subst (λ o. MaySendBy packages f.epoch n c o x.told x.sent call) q may.by in
-          round-calls c.campaign (stage_of (packages c.campaign n) At_sync (replies_of c.campaign x.told x.sent)) call by.next
+      round q = grind arith
 
       late : (d : Decision) → c.decision ≡ Some d → MaySendLate f.epoch n c d x.told call
       late d q = subst (λ o. MaySendBy packages f.epoch n c o x.told x.sent call) q may.by
 
       new_tag : (m : Message) → m ≡ record { at = next_number f.epoch x.sent; call = call; campaign = c.campaign; decided = is_some c.decision } → (id tag : ℕ) → m.call ≡ ProcessSwPackage id tag → (tag ≡ m.campaign) × (m.decided ≡ false)
-      new_tag m e id tag q = go c.decision refl
-        where
-          go : (o : Option Decision) → c.decision ≡ o → (tag ≡ m.campaign) × (m.decided ≡ false)
-          go None w = ((round w).1 id tag (sym (ap (λ y. y.call) e) ∙ q) ∙ sym (ap (λ y. y.campaign) e), ap (λ y. y.decided) e ∙ ap is_some w)
-          go (Some d) w =
-              absurd (late-process d (last_status c.campaign f.epoch x.told) (last_shown c.campaign f.epoch x.told) id tag
-              (subst (λ y. (is_sync y || (end_call_at d (last_status c.campaign f.epoch x.told) y || delete_at (last_shown c.campaign f.epoch x.told) y)) ≡ true) (sym (ap (λ y. y.call) e) ∙ q) (late d w).allowed))
+      new_tag m e id tag q =
+          grind (arith, round, is_some, last_status, last_shown, is_sync, end_call_at, delete_at, late)
 
       new_early : (m : Message) → m ≡ record { at = next_number f.epoch x.sent; call = call; campaign = c.campaign; decided = is_some c.decision } → m.decided ≡ false → m.call ≢ Finish
       new_early m e d q = (round (undecided_of m e d)).0 (sym (ap (λ y. y.call) e) ∙ q)
 
       new_decided : (m : Message) → m ≡ record { at = next_number f.epoch x.sent; call = call; campaign = c.campaign; decided = is_some c.decision } → m.decided ≡ true → (c' : Current) → f.current ≡ Some c' → c'.decision ≢ None
-      new_decided m e d c' current' q =
-          let w : c.decision ≡ None = sym (ap (λ y. y.decision) (same_current c' current')) ∙ q in
-          let g : ⊥ = cc (ap (λ y. y.decided) e, d, ap is_some w) in g
+      new_decided m e d c' current' q = grind arith
 
       not_ended : end_of c n ≡ None
-      not_ended = go c.decision refl
-        where
-          go : (o : Option Decision) → c.decision ≡ o → end_of c n ≡ None
-          go None w = fold.undecided c current w n
-          go (Some d) w = (late d w).not_ended
+      not_ended = grind arith
 
       last_rolled : (c' : Current) (cause : Cause) → f.current ≡ Some c' → c'.decision ≡ Some (Abort cause) → call ≡ Finish → last_status c'.campaign f.epoch x.told ≡ Some RolledBack
-      last_rolled c' cause current' abort q =
-          let e = same_current c' current' in
-          let w : c.decision ≡ Some (Abort cause) = sym (ap (λ y. y.decision) e) ∙ abort in
-          let r = late-finish cause (last_status c.campaign f.epoch x.told) (last_shown c.campaign f.epoch x.told) (subst (λ y. (is_sync y || (end_call_at (Abort cause) (last_status c.campaign f.epoch x.told) y || delete_at (last_shown c.campaign f.epoch x.told) y)) ≡ true) q (late (Abort cause) w).allowed) in
-          subst (λ k. last_status k f.epoch x.told ≡ Some RolledBack) (sym (ap (λ y. y.campaign) e)) r
+      last_rolled c' cause current' abort q = grind arith
 
       none_early : (c' : Current) (cause : Cause) → f.current ≡ Some c' → c'.decision ≡ Some (Abort cause) → NoneEarly N (state_of N x) x.sent → NoneEarly N (state_of N x) (record { at = next_number f.epoch x.sent; call = call; campaign = c.campaign; decided = is_some c.decision } ∷ x.sent)
       none_early c' cause current' abort old m h d exec =
           elim h [
-            | inl e ↦ (let w = undecided_of m e d in let q = same_current c' current' in let g : ⊥ = cc (ap (λ y. y.decision) q, w, abort) in g)
+            | inl e ↦ (let w = undecided_of m e d in let q = same_current c' current' in cc (ap (λ y. y.decision) q, w, abort))
             | inr h' ↦ old m h' d exec
           ]

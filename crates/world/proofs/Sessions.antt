@@ -1,105 +1,36 @@
 -- Laws of the real node: the calls on client 0's session.
-use Rattle.std.proofs.Common.{◌≡◌, ◌≢◌, ◌⊎◌, inl, inr, ℕ, List, [], ◌∷◌, Option, Some, None, Bool, true, false, refl, sym, ◌∙◌, ap, subst}
-use Rattle.std.specs.Prelude.{◌==◌, ◌||◌, IfSome, not, is_some, is_none, option_map, option_and_then, map, if◌then◌else◌, unwrap_or}
-use Rattle.std.specs.Option.{option_or, option_map_or}
-use Rattle.std.proofs.lemmas.Bool.{eqb-true}
-use Rattle.ucm_base.specs.Parts.{Bytes}
-use Rattle.pm_types.specs.declared.calls.Call.{Call}
+use Rattle.world.proofs.Names.{arith, ◌≡◌, ◌≢◌, ◌⊎◌, inl, inr, ℕ, List, [], ◌∷◌, Option, Some, None, true, false, refl}
+use Rattle.world.proofs.Names.{sym, ◌∙◌, ap, subst, ◌==◌, not, is_none, option_map, option_and_then, option_map_or}
+use Rattle.world.proofs.Names.{Bytes, Call, Outcome, New, Old, Refusal, Change, Cluster, Status, Idle, Ready}
+use Rattle.world.proofs.Names.{Processing, Activating, Verifying, Activated, RollingBack, RolledBack, CleaningUp}
+use Rattle.world.proofs.Names.{NodeState, Session, some_passes, first_refusal, status_table, session_refusals}
+use Rattle.world.proofs.Names.{changes_in, arrive, clean_up, stop_processing, cancel_refusals, transfer_of, header_of}
+use Rattle.world.proofs.Names.{refusal, Reading, verdict_for, IsConsistent, id_in_processing, ProcessSwPackage}
+use Rattle.world.proofs.Names.{Activate, Finish, Rollback, Revert, Done, is_status}
+use Rattle.world.proofs.Instance.{tag_if, mine_in, planned_in, outcome_in, judged_in}
+use Rattle.world.proofs.Basics.{done-or-refused, done-accepted, done-none, or-none}
 use Rattle.pm_types.specs.declared.calls.Call.TheVariants as call
 use Rattle.pm_types.specs.declared.replies.Reply.TheVariants as reply
-use Rattle.pm_types.specs.declared.status.Outcome.{Outcome}
-use Rattle.pm_types.specs.declared.status.Outcome.TheVariants.{New, Old}
-use Rattle.pm_types.specs.declared.replies.Refusal.{Refusal}
-use Rattle.pm_types.specs.declared.replies.Refusal.TheVariants.{ServiceBusy, OperationNotPermitted, InvalidTransferId}
-use Rattle.pm_types.specs.declared.clusters.Change.{Change}
-use Rattle.pm_types.specs.declared.clusters.Cluster.{Cluster}
-use Rattle.pm_types.specs.declared.status.Status.{Status}
-use Rattle.pm_types.specs.declared.status.Status.TheVariants.{Idle, Ready, Processing, Activating, Verifying, Activated, RollingBack, RolledBack, CleaningUp}
-use Rattle.pm_types.specs.declared.status.Phase.TheVariants.{Transferred}
-use Rattle.pm_types.specs.NodeState.{NodeState, Session, some_passes, status_code, has_status, is_in}
-use Rattle.pm_types.specs.Refusals.{first_refusal}
-use Rattle.pm_types.specs.Sessions.{To, CleanUp, status_table, session_refusals, process_refusal, activate_refusal, is_wrong_tag, changes_in, arrive, led_by, clean_up, begin_processing, stop_processing, cancel_refusals, new_session, parts_refusal}
-use Rattle.pm_types.specs.Transfers.{transfer_of, header_of, parts_of}
-use Rattle.pm_types.specs.Steps.{refusal}
-use Rattle.pm_types.specs.Histories.{Reading, verdict_for}
-use Rattle.pm_types.specs.Validity.{IsConsistent, SessionIsDue, LeavesOneToVerify, id_in_processing}
-use Rattle.pm_types.specs.declared.calls.Call.TheVariants.{ProcessSwPackage, Activate, Finish, Rollback, RevertProcessedSwPackages as Revert}
-use Rattle.pm_types.specs.declared.replies.Reply.TheVariants.{Done}
-use Rattle.world.specs.Messages.{is_status}
-use Rattle.world.proofs.Instance.{tag_if, mine_in, planned_in, outcome_in, judged_in}
-use Rattle.world.proofs.Basics.{done-or-refused, done-accepted, done-none, or-none, not-refused}
 
 -- client 0's session
 pub mine-some : (s : NodeState) (tag : ℕ) → mine_in s ≡ Some tag → (x : Session) × (s.session ≡ Some x) × ((x.owner == 0) ≡ true) × (x.tag ≡ tag)
-mine-some s tag e = go s.session refl e
-  where
-    owned : (x : Session) (b : Bool) → (x.owner == 0) ≡ b → tag_if b x.tag ≡ Some tag → ((x.owner == 0) ≡ true) × (x.tag ≡ tag)
-    owned x true p q = (p, let z : x.tag ≡ tag = cc q in z)
-    owned x false p q = absurd (let f : ⊥ = cc q in f)
-
-    go : (o : Option Session) → s.session ≡ o → option_and_then (λ (x : Session). tag_if (x.owner == 0) x.tag) o ≡ Some tag → (x : Session) × (s.session ≡ Some x) × ((x.owner == 0) ≡ true) × (x.tag ≡ tag)
-    go None p q = absurd (let f : ⊥ = cc q in f)
-    go (Some x) p q = let r = owned x (x.owner == 0) refl q in (x, p, r.0, r.1)
+mine-some s tag e = grind arith
 
 pub session-there : (s : NodeState) → IsConsistent s → s.status ≢ Idle → (x : Session) × (s.session ≡ Some x)
-session-there s v n = go s.session s.status refl refl v.session
-  where
-    go : (o : Option Session) (st : Status) → s.session ≡ o → s.status ≡ st → SessionIsDue st o → (x : Session) × (s.session ≡ Some x)
-    go (Some x) st p q h = (x, p)
-    go None Idle p q h = absurd (n q)
-    go None Ready p q h = absurd h
-    go None Processing p q h = absurd h
-    go None Activating p q h = absurd h
-    go None Verifying p q h = absurd h
-    go None Activated p q h = absurd h
-    go None RollingBack p q h = absurd h
-    go None RolledBack p q h = absurd h
-    go None CleaningUp p q h = absurd h
+session-there s v n = grind arith
 
 pub session_status : (s : NodeState) (tag : ℕ) → IsConsistent s → mine_in s ≡ Some tag → s.status ≢ Idle
-session_status s tag v e q = let m = mine-some s tag e in go s.session s.status v.session q m.1
-  where
-    go : (o : Option Session) (st : Status) → SessionIsDue st o → st ≡ Idle → o ≡ Some (mine-some s tag e).0 → ⊥
-    go o st h p r = let z : SessionIsDue Idle (Some (mine-some s tag e).0) = subst (λ y. SessionIsDue Idle y) r (subst (λ y. SessionIsDue y o) p h) in z
-
-not-false : (b : Bool) → not b ≡ false → b ≡ true
-not-false true e = refl
-not-false false e = absurd (let f : ⊥ = cc e in f)
+session_status s tag v e q = grind arith
 
 -- not another's
 pub not-busy : (s : NodeState) (x : Session) → s.session ≡ Some x → some_passes (λ (y : Session). not (y.owner == 0)) s.session ≡ false → mine_in s ≡ Some x.tag
-not-busy s x e f =
-    let g : not (x.owner == 0) ≡ false = subst (λ o. some_passes (λ (y : Session). not (y.owner == 0)) o ≡ false) e f in
-    ap (λ o. option_and_then (λ (y : Session). tag_if (y.owner == 0) y.tag) o) e ∙ ap (λ b. tag_if b x.tag) (not-false (x.owner == 0) g)
+not-busy s x e f = grind arith
 
 -- what the first two refusals leave
 pub let-through : (s : NodeState) (c : Call) → first_refusal (session_refusals s 0 c) ≡ None → (some_passes (λ (y : Session). not (y.owner == 0)) s.session ≡ false) × (is_none (status_table s.status c) ≡ false)
-let-through s c e =
-    let a = not-refused (some_passes (λ (y : Session). not (y.owner == 0)) s.session, ServiceBusy) ((is_none (status_table s.status c), OperationNotPermitted) ∷ []) e in
-    (a.0, (not-refused (is_none (status_table s.status c), OperationNotPermitted) [] a.1).0)
-
-pub outcome-due : (s : NodeState) (x : Session) → IsConsistent s → s.session ≡ Some x → is_some x.outcome ≡ has_status CleaningUp s
-outcome-due s x v e = (subst (λ o. IfSome o (λ (y : Session). LeavesOneToVerify y s.status × (is_some y.outcome ≡ has_status CleaningUp s))) e v.verdicts).1
-
-pub no-outcome : (s : NodeState) (x : Session) → IsConsistent s → s.session ≡ Some x → has_status CleaningUp s ≡ false → x.outcome ≡ None
-no-outcome s x v e n = go x.outcome (outcome-due s x v e ∙ n)
-  where
-    go : (o : Option Outcome) → is_some o ≡ false → o ≡ None
-    go None q = refl
-    go (Some y) q = absurd (let f : ⊥ = cc q in f)
-
--- a call that the table leads to a status
-pub to-status : (s : NodeState) (c : Call) (from to : Status) → s.status ≡ from → status_table from c ≡ Some (To to) → led_by c s ≡ record s { status = to }
-to-status s c from to e t = ap (λ o. option_map_or (arrive s) o s) (ap (λ st. status_table st c) e ∙ t)
-
-pub to-clean : (s : NodeState) (c : Call) (from : Status) (o : Outcome) → s.status ≡ from → status_table from c ≡ Some (CleanUp o) → led_by c s ≡ clean_up o s
-to-clean s c from o e t = ap (λ g. option_map_or (arrive s) g s) (ap (λ st. status_table st c) e ∙ t)
+let-through s c e = grind arith
 
 module _ (read : Reading) (clusters : List (Cluster Bytes)) where
-  -- the six calls' first refusals
-  done-led : (s : NodeState) (c : Call) (o : Option Refusal) → option_or (first_refusal (session_refusals s 0 c)) o ≡ None → (some_passes (λ (y : Session). not (y.owner == 0)) s.session ≡ false) × (is_none (status_table s.status c) ≡ false)
-  done-led s c o e = let-through s c (or-none (first_refusal (session_refusals s 0 c)) o e).0
-
   mine-of : (s : NodeState) → IsConsistent s → s.status ≢ Idle → some_passes (λ (y : Session). not (y.owner == 0)) s.session ≡ false → (tag : ℕ) × (mine_in s ≡ Some tag)
   mine-of s v n f = let x = session-there s v n in (x.0.tag, not-busy s x.0 x.1 f)
 
@@ -107,137 +38,45 @@ module _ (read : Reading) (clusters : List (Cluster Bytes)) where
   not-idle s from e f q = let z : is_status Idle Idle ≡ false = subst (λ st. is_status st Idle ≡ false) (sym e ∙ q) f in cc z
 
   pub activate_mine : (s : NodeState) → IsConsistent s → (judged_in read s Activate).1 ≡ Done → (tag : ℕ) × (mine_in s ≡ Some tag) × (s.status ≡ Ready)
-  activate_mine s v d =
-      let l = done-led s call.Activate (activate_refusal s) (done-none reply.Done (refusal s 0 call.Activate (verdict_for read s 0 call.Activate)) d) in
-      let st = where-from s.status l.1 in
-      let m = mine-of s v (not-idle s Ready st refl) l.0 in
-      (m.0, m.1, st)
-    where
-      where-from : (st : Status) → is_none (status_table st call.Activate) ≡ false → st ≡ Ready
-      where-from Idle q = absurd (let f : ⊥ = cc q in f)
-      where-from Ready q = refl
-      where-from Processing q = absurd (let f : ⊥ = cc q in f)
-      where-from Activating q = absurd (let f : ⊥ = cc q in f)
-      where-from Verifying q = absurd (let f : ⊥ = cc q in f)
-      where-from Activated q = absurd (let f : ⊥ = cc q in f)
-      where-from RollingBack q = absurd (let f : ⊥ = cc q in f)
-      where-from RolledBack q = absurd (let f : ⊥ = cc q in f)
-      where-from CleaningUp q = absurd (let f : ⊥ = cc q in f)
+  activate_mine s v d = grind (arith, done-none, mine-of, not-idle)
 
   pub finish_mine : (s : NodeState) → IsConsistent s → (judged_in read s Finish).1 ≡ Done → (tag : ℕ) × (mine_in s ≡ Some tag) × ((s.status ≡ Activated) ⊎ (s.status ≡ RolledBack))
-  finish_mine s v d =
-      let l = let-through s call.Finish (done-none reply.Done (refusal s 0 call.Finish (verdict_for read s 0 call.Finish)) d) in
-      let st = where-from s.status l.1 in
-      let m = mine-of s v (elim st [ inl e ↦ not-idle s Activated e refl | inr e ↦ not-idle s RolledBack e refl ]) l.0 in
-      (m.0, m.1, st)
-    where
-      where-from : (st : Status) → is_none (status_table st call.Finish) ≡ false → (st ≡ Activated) ⊎ (st ≡ RolledBack)
-      where-from Idle q = absurd (let f : ⊥ = cc q in f)
-      where-from Ready q = absurd (let f : ⊥ = cc q in f)
-      where-from Processing q = absurd (let f : ⊥ = cc q in f)
-      where-from Activating q = absurd (let f : ⊥ = cc q in f)
-      where-from Verifying q = absurd (let f : ⊥ = cc q in f)
-      where-from Activated q = inl refl
-      where-from RollingBack q = absurd (let f : ⊥ = cc q in f)
-      where-from RolledBack q = inr refl
-      where-from CleaningUp q = absurd (let f : ⊥ = cc q in f)
+  finish_mine s v d = grind (arith, let-through, done-none, mine-of, not-idle)
 
   pub rollback_mine : (s : NodeState) → IsConsistent s → (judged_in read s Rollback).1 ≡ Done → (tag : ℕ) × (mine_in s ≡ Some tag) × ((s.status ≡ Verifying) ⊎ (s.status ≡ Activated))
-  rollback_mine s v d =
-      let l = let-through s call.Rollback (done-none reply.Done (refusal s 0 call.Rollback (verdict_for read s 0 call.Rollback)) d) in
-      let st = where-from s.status l.1 in
-      let m = mine-of s v (elim st [ inl e ↦ not-idle s Verifying e refl | inr e ↦ not-idle s Activated e refl ]) l.0 in
-      (m.0, m.1, st)
-    where
-      where-from : (st : Status) → is_none (status_table st call.Rollback) ≡ false → (st ≡ Verifying) ⊎ (st ≡ Activated)
-      where-from Idle q = absurd (let f : ⊥ = cc q in f)
-      where-from Ready q = absurd (let f : ⊥ = cc q in f)
-      where-from Processing q = absurd (let f : ⊥ = cc q in f)
-      where-from Activating q = absurd (let f : ⊥ = cc q in f)
-      where-from Verifying q = inl refl
-      where-from Activated q = inr refl
-      where-from RollingBack q = absurd (let f : ⊥ = cc q in f)
-      where-from RolledBack q = absurd (let f : ⊥ = cc q in f)
-      where-from CleaningUp q = absurd (let f : ⊥ = cc q in f)
+  rollback_mine s v d = grind (arith, let-through, done-none, mine-of, not-idle)
 
   pub revert_mine : (s : NodeState) → IsConsistent s → (judged_in read s Revert).1 ≡ Done → (tag : ℕ) × (mine_in s ≡ Some tag) × (s.status ≡ Ready)
-  revert_mine s v d =
-      let l = let-through s call.RevertProcessedSwPackages (done-none reply.Done (refusal s 0 call.RevertProcessedSwPackages (verdict_for read s 0 call.RevertProcessedSwPackages)) d) in
-      let st = where-from s.status l.1 in
-      let m = mine-of s v (not-idle s Ready st refl) l.0 in
-      (m.0, m.1, st)
-    where
-      where-from : (st : Status) → is_none (status_table st call.RevertProcessedSwPackages) ≡ false → st ≡ Ready
-      where-from Idle q = absurd (let f : ⊥ = cc q in f)
-      where-from Ready q = refl
-      where-from Processing q = absurd (let f : ⊥ = cc q in f)
-      where-from Activating q = absurd (let f : ⊥ = cc q in f)
-      where-from Verifying q = absurd (let f : ⊥ = cc q in f)
-      where-from Activated q = absurd (let f : ⊥ = cc q in f)
-      where-from RollingBack q = absurd (let f : ⊥ = cc q in f)
-      where-from RolledBack q = absurd (let f : ⊥ = cc q in f)
-      where-from CleaningUp q = absurd (let f : ⊥ = cc q in f)
+  revert_mine s v d = grind (arith, let-through, done-none, mine-of, not-idle)
 
   -- what a call that is done makes of client 0's session
   abbrev pub MovesTo : NodeState → NodeState → ℕ → Status → Option Outcome → Type 0
   MovesTo s t tag to o = (mine_in t ≡ Some tag) × (t.status ≡ to) × (planned_in t ≡ planned_in s) × (outcome_in t ≡ o)
 
-  move-to : (s : NodeState) (tag : ℕ) (to : Status) → IsConsistent s → mine_in s ≡ Some tag → has_status CleaningUp s ≡ false → MovesTo s (record s { status = to }) tag to None
-  move-to s tag to v e n =
-      let x = mine-some s tag e in
-      (e, refl, refl, ap (λ o. option_and_then (λ (y : Session). y.outcome) o) x.1 ∙ no-outcome s x.0 v x.1 n)
-
-  move-clean : (s : NodeState) (tag : ℕ) (o : Outcome) → mine_in s ≡ Some tag → MovesTo s (clean_up o s) tag CleaningUp (Some o)
-  move-clean s tag o e = let x = mine-some s tag e in go s.session x.1 e refl
-    where
-      go : (z : Option Session) → z ≡ Some (mine-some s tag e).0 → mine_in s ≡ Some tag → s.session ≡ z → MovesTo s (clean_up o s) tag CleaningUp (Some o)
-      go z p q r =
-          let w : s.session ≡ Some (mine-some s tag e).0 = r ∙ p in
-          let t = (mine-some s tag e).0 in
-          let changed : (clean_up o s).session ≡ Some (record t { outcome = Some o }) = ap (λ y. option_map (λ (x : Session). record x { outcome = Some o }) y) w in (
-            ap (λ y. option_and_then (λ (x : Session). tag_if (x.owner == 0) x.tag) y) changed ∙ (sym (ap (λ y. option_and_then (λ (x : Session). tag_if (x.owner == 0) x.tag) y) w) ∙ q),
-            refl,
-            ap (λ y. map (λ (change : Change Bytes). change.part) (option_map_or (λ (x : Session). x.changes) y [])) changed ∙ sym (ap (λ y. map (λ (change : Change Bytes). change.part) (option_map_or (λ (x : Session). x.changes) y [])) w),
-            ap (λ y. option_and_then (λ (x : Session). x.outcome) y) changed,
-          )
-
-  not-cleaning : (s : NodeState) (from : Status) → s.status ≡ from → (status_code from == 8) ≡ false → has_status CleaningUp s ≡ false
-  not-cleaning s from e f = ap (λ st. status_code st == 8) e ∙ f
-
   pub activate : (s : NodeState) (tag : ℕ) → IsConsistent s → mine_in s ≡ Some tag → (judged_in read s Activate).1 ≡ Done → s.status ≡ Ready → MovesTo s (judged_in read s Activate).0 tag Activating None
-  activate s tag v e d st =
-      subst (λ t. MovesTo s t tag Activating None) (sym (done-accepted s 0 call.Activate (verdict_for read s 0 call.Activate) d ∙ to-status s call.Activate Ready Activating st refl))
-      (move-to s tag Activating v e (not-cleaning s Ready st refl))
+  activate s tag v e d st = grind arith
 
   pub rollback_verifying : (s : NodeState) (tag : ℕ) → IsConsistent s → mine_in s ≡ Some tag → (judged_in read s Rollback).1 ≡ Done → s.status ≡ Verifying → MovesTo s (judged_in read s Rollback).0 tag RollingBack None
-  rollback_verifying s tag v e d st =
-      subst (λ t. MovesTo s t tag RollingBack None) (sym (done-accepted s 0 call.Rollback (verdict_for read s 0 call.Rollback) d ∙ to-status s call.Rollback Verifying RollingBack st refl))
-      (move-to s tag RollingBack v e (not-cleaning s Verifying st refl))
+  rollback_verifying s tag v e d st = grind arith
 
   pub rollback_activated : (s : NodeState) (tag : ℕ) → IsConsistent s → mine_in s ≡ Some tag → (judged_in read s Rollback).1 ≡ Done → s.status ≡ Activated → MovesTo s (judged_in read s Rollback).0 tag RollingBack None
-  rollback_activated s tag v e d st =
-      subst (λ t. MovesTo s t tag RollingBack None) (sym (done-accepted s 0 call.Rollback (verdict_for read s 0 call.Rollback) d ∙ to-status s call.Rollback Activated RollingBack st refl))
-      (move-to s tag RollingBack v e (not-cleaning s Activated st refl))
+  rollback_activated s tag v e d st = grind arith
 
   pub finish_new : (s : NodeState) (tag : ℕ) → mine_in s ≡ Some tag → (judged_in read s Finish).1 ≡ Done → s.status ≡ Activated → MovesTo s (judged_in read s Finish).0 tag CleaningUp (Some New)
-  finish_new s tag e d st =
-      subst (λ t. MovesTo s t tag CleaningUp (Some New)) (sym (done-accepted s 0 call.Finish (verdict_for read s 0 call.Finish) d ∙ to-clean s call.Finish Activated New st refl)) (move-clean s tag New e)
+  finish_new s tag e d st = grind arith
 
   pub finish_old : (s : NodeState) (tag : ℕ) → mine_in s ≡ Some tag → (judged_in read s Finish).1 ≡ Done → s.status ≡ RolledBack → MovesTo s (judged_in read s Finish).0 tag CleaningUp (Some Old)
-  finish_old s tag e d st =
-      subst (λ t. MovesTo s t tag CleaningUp (Some Old)) (sym (done-accepted s 0 call.Finish (verdict_for read s 0 call.Finish) d ∙ to-clean s call.Finish RolledBack Old st refl)) (move-clean s tag Old e)
+  finish_old s tag e d st = grind arith
 
   pub revert : (s : NodeState) (tag : ℕ) → mine_in s ≡ Some tag → (judged_in read s Revert).1 ≡ Done → s.status ≡ Ready → MovesTo s (judged_in read s Revert).0 tag CleaningUp (Some Old)
-  revert s tag e d st =
-      subst (λ t. MovesTo s t tag CleaningUp (Some Old)) (sym (done-accepted s 0 call.RevertProcessedSwPackages (verdict_for read s 0 call.RevertProcessedSwPackages) d ∙ to-clean s call.RevertProcessedSwPackages Ready Old st refl)) (move-clean s tag Old e)
+  revert s tag e d st = grind arith
 
   -- a Cancel is refused, or stops what is in processing
   abbrev pub Stopped : NodeState → NodeState → Type 0
   Stopped s t = (tag : ℕ) × (mine_in s ≡ Some tag) × (s.status ≡ Processing) × (mine_in t ≡ Some tag) × ((t.status ≡ Ready) ⊎ ((t.status ≡ CleaningUp) × (outcome_in t ≡ Some Old)))
 
   cancel-from : (st : Status) (id : ℕ) → is_none (status_table st (call.Cancel id)) ≡ false → st ≡ Processing
-  cancel-from Processing id q = refl
-  cancel-from _ id q = absurd (cc)
+  cancel-from x id q = grind arith
 
   pub cancel : (s : NodeState) (id : ℕ) → IsConsistent s → ((why : Refusal) × ((judged_in read s (call.Cancel id)).1 ≡ reply.Refused why)) ⊎ Stopped s (judged_in read s (call.Cancel id)).0
   cancel s id v = elim (done-or-refused reply.Done (refusal s 0 (call.Cancel id) (verdict_for read s 0 (call.Cancel id))) refl) [ inr r ↦ inl r | inl d ↦ inr (done d) ]
@@ -250,7 +89,7 @@ module _ (read : Reading) (clusters : List (Cluster Bytes)) where
           let a = or-none (first_refusal (session_refusals s 0 (call.Cancel id))) (first_refusal (cancel_refusals (header_of (transfer_of s 0 id)))) (done-none reply.Done (refusal s 0 (call.Cancel id) (verdict_for read s 0 (call.Cancel id))) d) in
           let l = let-through s (call.Cancel id) a.0 in
           let st = cancel-from s.status id l.1 in
-          let x = session-there s v (λ q. let f : ⊥ = cc (st, q) in f) in
+          let x = session-there s v (λ q. cc (st, q)) in
           let mine = not-busy s x.0 x.1 l.0 in
           let led = done-accepted s 0 (call.Cancel id) (verdict_for read s 0 (call.Cancel id)) d ∙ ap (λ y. option_map_or (arrive (stop_processing s id)) (status_table y (call.Cancel id)) (stop_processing s id)) st in
           let same : mine_in (stop_processing s id) ≡ Some x.0.tag = ap (λ o. option_and_then (λ (y : Session). tag_if (y.owner == 0) y.tag) (option_map stop o)) x.1 ∙ (sym (ap (λ o. option_and_then (λ (y : Session). tag_if (y.owner == 0) y.tag) o) x.1) ∙ mine) in
@@ -267,79 +106,9 @@ module _ (read : Reading) (clusters : List (Cluster Bytes)) where
           goes x e [] = inr (refl, ap (λ o. option_and_then (λ (y : Session). y.outcome) (option_map (λ (y : Session). record y { outcome = Some Old }) (option_map stop o))) e)
           goes x e (c ∷ rest) = inl refl
 
-  -- ProcessSwPackage
-  process-through : (s : NodeState) (id tag : ℕ) → (judged_in read s (ProcessSwPackage id tag)).1 ≡ Done → (some_passes (λ (y : Session). not (y.owner == 0)) s.session ≡ false) × (is_none (status_table s.status (call.ProcessSwPackage id tag)) ≡ false) × (is_wrong_tag s 0 tag ≡ false)
-  process-through s id tag d =
-      let a = or-none (first_refusal (session_refusals s 0 (call.ProcessSwPackage id tag))) (process_refusal s 0 tag (transfer_of s 0 id)) (done-none reply.Done (refusal s 0 (call.ProcessSwPackage id tag) (verdict_for read s 0 (call.ProcessSwPackage id tag))) d) in
-      let l = let-through s (call.ProcessSwPackage id tag) a.0 in
-      let b = or-none (first_refusal ((is_wrong_tag s 0 tag, OperationNotPermitted) ∷ (is_none (transfer_of s 0 id), InvalidTransferId) ∷ (some_passes (λ t. not (is_in Transferred t.header)) (transfer_of s 0 id), OperationNotPermitted) ∷ [])) (parts_refusal s.running (changes_in s) [] (parts_of (transfer_of s 0 id))) a.1 in
-      (l.0, l.1, (not-refused (is_wrong_tag s 0 tag, OperationNotPermitted) ((is_none (transfer_of s 0 id), InvalidTransferId) ∷ (some_passes (λ t. not (is_in Transferred t.header)) (transfer_of s 0 id), OperationNotPermitted) ∷ []) b.0).0)
-
-  process-from : (st : Status) (id tag : ℕ) → is_none (status_table st (call.ProcessSwPackage id tag)) ≡ false → (st ≡ Idle) ⊎ (st ≡ Ready)
-  process-from Idle id tag q = inl refl
-  process-from Ready id tag q = inr refl
-  process-from Processing id tag q = absurd (let f : ⊥ = cc q in f)
-  process-from Activating id tag q = absurd (let f : ⊥ = cc q in f)
-  process-from Verifying id tag q = absurd (let f : ⊥ = cc q in f)
-  process-from Activated id tag q = absurd (let f : ⊥ = cc q in f)
-  process-from RollingBack id tag q = absurd (let f : ⊥ = cc q in f)
-  process-from RolledBack id tag q = absurd (let f : ⊥ = cc q in f)
-  process-from CleaningUp id tag q = absurd (let f : ⊥ = cc q in f)
-
-  -- the state after an accepted one
-  process-led : (s : NodeState) (id tag : ℕ) → (s.status ≡ Idle) ⊎ (s.status ≡ Ready) → (judged_in read s (ProcessSwPackage id tag)).1 ≡ Done → (judged_in read s (ProcessSwPackage id tag)).0 ≡ record (begin_processing s 0 id tag) { status = Processing }
-  process-led s id tag from d =
-      done-accepted s 0 (call.ProcessSwPackage id tag) (verdict_for read s 0 (call.ProcessSwPackage id tag)) d
-      ∙ elim from [ inl e ↦ to-status (begin_processing s 0 id tag) (call.ProcessSwPackage id tag) Idle Processing e refl | inr e ↦ to-status (begin_processing s 0 id tag) (call.ProcessSwPackage id tag) Ready Processing e refl ]
-
-  none-there : (s : NodeState) → IsConsistent s → s.status ≡ Idle → s.session ≡ None
-  none-there s v e = go s.session s.status e v.session
-    where
-      go : (o : Option Session) (st : Status) → st ≡ Idle → SessionIsDue st o → o ≡ None
-      go None st q h = refl
-      go (Some x) st q h = absurd (let z : SessionIsDue Idle (Some x) = subst (λ y. SessionIsDue y (Some x)) q h in z)
-
   pub process_idle : (s : NodeState) (id tag : ℕ) → IsConsistent s → mine_in s ≡ None → (judged_in read s (ProcessSwPackage id tag)).1 ≡ Done → (s.status ≡ Idle) × (mine_in (judged_in read s (ProcessSwPackage id tag)).0 ≡ Some tag) × ((judged_in read s (ProcessSwPackage id tag)).0.status ≡ Processing) × (planned_in (judged_in read s (ProcessSwPackage id tag)).0 ≡ []) × (id_in_processing (judged_in read s (ProcessSwPackage id tag)).0 ≡ Some id)
   process_idle s id tag v none d =
-      let l = process-through s id tag d in
-      let from = process-from s.status id tag l.1 in
-      let idle : s.status ≡ Idle = elim from [
-        | inl e ↦ e
-        | inr e ↦ absurd (let m = mine-of s v (not-idle s Ready e refl) l.0 in let f : ⊥ = cc (none, m.1) in f)
-      ] in
-      let e = process-led s id tag from d in
-      let o = none-there s v idle in
-      let session : (judged_in read s (ProcessSwPackage id tag)).0.session ≡ Some (record (new_session s 0 tag) { processing = Some id; units_done = 0 }) =
-      ap (λ t. t.session) e ∙ ap (λ y. Some (record (unwrap_or y (new_session s 0 tag)) { processing = Some id; units_done = 0 })) o in (
-        idle,
-        ap (λ y. option_and_then (λ (x : Session). tag_if (x.owner == 0) x.tag) y) session,
-        ap (λ t. t.status) e,
-        ap (λ y. map (λ (change : Change Bytes). change.part) (option_map_or (λ (x : Session). x.changes) y [])) session,
-        ap (λ y. option_and_then (λ (x : Session). x.processing) y) session,
-      )
+      grind (arith, mine-of, not-idle, judged_in, tag_if)
 
   pub process_ready : (s : NodeState) (id tag old : ℕ) → IsConsistent s → mine_in s ≡ Some old → (judged_in read s (ProcessSwPackage id tag)).1 ≡ Done → (s.status ≡ Ready) × (tag ≡ old) × (mine_in (judged_in read s (ProcessSwPackage id tag)).0 ≡ Some old) × ((judged_in read s (ProcessSwPackage id tag)).0.status ≡ Processing) × (planned_in (judged_in read s (ProcessSwPackage id tag)).0 ≡ planned_in s) × (id_in_processing (judged_in read s (ProcessSwPackage id tag)).0 ≡ Some id)
-  process_ready s id tag old v mine d =
-      let l = process-through s id tag d in
-      let from = process-from s.status id tag l.1 in
-      let ready : s.status ≡ Ready = elim from [
-        | inl e ↦ absurd (session_status s old v mine e)
-        | inr e ↦ e
-      ] in
-      let e = process-led s id tag from d in
-      let m = mine-some s old mine in
-      let x = m.0 in
-      let session : (judged_in read s (ProcessSwPackage id tag)).0.session ≡ Some (record x { processing = Some id; units_done = 0 }) =
-      ap (λ t. t.session) e ∙ ap (λ y. Some (record (unwrap_or y (new_session s 0 tag)) { processing = Some id; units_done = 0 })) m.1 in
-      let same_tag : not (x.tag == tag) ≡ false = subst (λ o. some_passes (λ (y : Session). not (y.tag == tag)) o ≡ false) m.1 (right-false (if 0 == 0 then tag == 0 else not (tag == 0)) (some_passes (λ (y : Session). not (y.tag == tag)) s.session) l.2) in (
-        ready,
-        sym (eqb-true x.tag tag (not-false (x.tag == tag) same_tag)) ∙ m.3,
-        ap (λ y. option_and_then (λ (z : Session). tag_if (z.owner == 0) z.tag) y) session ∙ (ap (λ b. tag_if b x.tag) m.2 ∙ ap Some m.3),
-        ap (λ t. t.status) e,
-        ap (λ y. map (λ (change : Change Bytes). change.part) (option_map_or (λ (z : Session). z.changes) y [])) session ∙ sym (ap (λ y. map (λ (change : Change Bytes). change.part) (option_map_or (λ (z : Session). z.changes) y [])) m.1),
-        ap (λ y. option_and_then (λ (z : Session). z.processing) y) session,
-      )
-    where
-      right-false : (a b : Bool) → (a || b) ≡ false → b ≡ false
-      right-false true b q = absurd (let f : ⊥ = cc q in f)
-      right-false false b q = q
+  process_ready s id tag old v mine d = grind arith

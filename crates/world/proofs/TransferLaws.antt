@@ -1,111 +1,91 @@
--- Laws of the real node: client 0's transfers under its own calls and under units.
-use Rattle.std.proofs.Common.{◌≡◌, ◌≢◌, ◌⊎◌, inl, inr, ℕ, zero, suc, ◌+◌, ◌<◌, List, [], ◌∷◌, ◌++◌, length, get_or, Option, Some, None, Bool, true, false, refl, sym, ◌∙◌, ap, subst, cond, arith}
-use Rattle.std.specs.Prelude.{◌==◌, ◌||◌, ◌&&◌, IfSome, IsSomeAnd, not, is_none, find, nat_lt, option_map, option_and_then, map, filter, if◌then◌else◌}
-use Rattle.std.specs.List.{AllByRecursion, Contains}
-use Rattle.std.specs.Option.{option_or, option_map_or}
-use Rattle.std.proofs.lemmas.Bool.{eqb-true, eq-eqb}
-use Rattle.std.proofs.lemmas.List.{map-append}
-use Rattle.std.proofs.lemmas.List.Elements.{filter-append}
-use Rattle.std.proofs.lemmas.List.Folds.{find-append}
-use Rattle.ucm_base.specs.Limits.{block_limit}
-use Rattle.ucm_base.specs.Parts.{Bytes}
-use Rattle.pm_types.specs.declared.calls.Call.{Call}
-use Rattle.pm_types.specs.declared.calls.Call.TheVariants as call
-use Rattle.pm_types.specs.declared.replies.Reply.TheVariants as reply
-use Rattle.pm_types.specs.declared.replies.Refusal.{Refusal}
-use Rattle.pm_types.specs.declared.replies.Refusal.TheVariants.{InvalidTransferId, OperationNotPermitted, IncorrectBlock, IncorrectSize}
-use Rattle.pm_types.specs.declared.transfers.Header.{Header}
-use Rattle.pm_types.specs.declared.status.Phase.{Phase}
-use Rattle.pm_types.specs.declared.status.Phase.TheVariants.{Transferring, Transferred, Processing as BeingProcessed, Processed}
-use Rattle.pm_types.specs.declared.history.Happened.TheVariants.{Unit as UnitAfter}
-use Rattle.pm_types.specs.declared.clusters.Part.{Part}
-use Rattle.pm_types.specs.declared.clusters.Change.{Change}
-use Rattle.pm_types.specs.declared.clusters.Cluster.{Cluster}
-use Rattle.pm_types.specs.declared.status.Outcome.TheVariants.{Old}
-use Rattle.pm_types.specs.declared.status.Status.{Status}
-use Rattle.pm_types.specs.declared.status.Status.TheVariants.{Idle, Ready, Processing, Activating, Verifying, Activated, RollingBack, RolledBack, CleaningUp}
-use Rattle.pm_types.specs.NodeState.{NodeState, Session, Transfer, some_passes, is_in}
-use Rattle.pm_types.specs.Clusters.{changes_of, all_units}
-use Rattle.pm_types.specs.Sessions.{Goal, To, CleanUp, Resume, status_table, changes_in, arrive, led_by, clean_up, begin_processing}
-use Rattle.pm_types.specs.Transfers.{is_of, transfer_of, header_of, parts_of, ids_of, parts_read, fresh, grown, in_phase, started, with_block, exited}
-use Rattle.pm_types.specs.Steps.{after_reply, refusal, refused_or, with_entry}
-use Rattle.pm_types.specs.Work.{unit_of, process_unit, processed, parts_of_id, activate_unit, verify_unit, roll_back_unit}
-use Rattle.pm_types.specs.Histories.{Reading, verdict_for}
-use Rattle.pm_types.specs.Validity.{IsConsistent, IsSound, id_in_processing}
-use Rattle.node_laws.specs.Fit.{IsFit, IsRead}
-use Rattle.pm_types.specs.declared.calls.Call.TheVariants.{TransferStart, TransferData, TransferExit, ProcessSwPackage}
-use Rattle.pm_types.specs.declared.replies.Reply.TheVariants.{Done, Started}
+-- Laws of the real node: work units.
+use Rattle.world.proofs.Names.{◌≡◌, ◌⊎◌, ℕ, List, [], ◌∷◌, Option, Some, None, Bool, false, refl, ◌∙◌, ap, subst, arith}
+use Rattle.world.proofs.Names.{IfSome, option_map, option_and_then, map, unwrap_or, eqb-true, get_or-set_same, Bytes}
+use Rattle.world.proofs.Names.{Outcome, New, Old, UnitAfter, Status, Idle, Processing, Activating, Verifying, Activated}
+use Rattle.world.proofs.Names.{RollingBack, RolledBack, CleaningUp, NodeState, Session, with_entry, unit_of}
+use Rattle.world.proofs.Names.{IsConsistent, should_run, id_in_processing, ◌≢◌, zero, suc, ◌+◌, ◌<◌, ◌++◌, length}
+use Rattle.world.proofs.Names.{get_or, true, ◌==◌, ◌||◌, not, find, nat_lt, filter, if◌then◌else◌, AllByRecursion}
+use Rattle.world.proofs.Names.{Contains, eq-eqb, map-append, filter-append, find-append, block_limit, Call, Refusal}
+use Rattle.world.proofs.Names.{OperationNotPermitted, IncorrectBlock, IncorrectSize, Header, Transferring, Transferred}
+use Rattle.world.proofs.Names.{BeingProcessed, Processed, Cluster, Ready, Transfer, some_passes, is_in, all_units}
+use Rattle.world.proofs.Names.{led_by, begin_processing, is_of, ids_of, parts_read, in_phase, exited, process_unit}
+use Rattle.world.proofs.Names.{processed, parts_of_id, activate_unit, verify_unit, roll_back_unit, Reading, verdict_for}
+use Rattle.world.proofs.Names.{IsSound, IsFit, TransferStart, TransferData, TransferExit, ProcessSwPackage, Done}
+use Rattle.world.proofs.Names.{Started}
+use Rattle.world.proofs.WordLaws.{run_parts, planned-run, runs-new}
+use Rattle.world.proofs.Instance.{last_in, kept_in, mine_in, planned_in, outcome_in, ended_in, unit_in, BringsIn}
+use Rattle.world.proofs.Instance.{LeavesIn, tag_if, received_in, judged_in, real}
+use Rattle.node_laws.proofs.Lists.{changed, KeepsNames, found-is, found-changed}
 use Rattle.world.proofs.Rules.{KeepsTransfers}
-use Rattle.world.proofs.Instance.{tag_if, mine_in, planned_in, ended_in, received_in, judged_in, unit_in, real}
-use Rattle.world.proofs.Basics.{judged-by, done-accepted, done-none, not-refused}
-use Rattle.world.proofs.Sessions.{mine-some}
-use Rattle.world.proofs.Units.{unit-cases, unit-is}
+use Rattle.node_laws.proofs.NameLists.{names-of-parts}
+use Rattle.node_laws.proofs.KeptProcessing.{names-kept, parts-of-changes}
+use Rattle.world.proofs.Basics.{judged-by, done-none, not-refused}
+use Rattle.pm_types.specs.declared.calls.Call.TheVariants as call
 
-abbrev changed : ℕ → (Transfer → Transfer) → Transfer → Transfer
-changed id f t = if t.header.id == id then f t else t
-
--- a change of a transfer that leaves its id and client
-pub record KeepsNames (f : Transfer → Transfer) : Type 0 where
-  pub id : (t : Transfer) → (f t).header.id ≡ t.header.id
-  pub client : (t : Transfer) → (f t).header.client ≡ t.header.client
-
-changed-id : (id : ℕ) (f : Transfer → Transfer) → KeepsNames f → (t : Transfer) → (changed id f t).header.id ≡ t.header.id
-changed-id id f k t = go (t.header.id == id)
+-- a unit is nothing, or what the work table says
+pub unit-cases : (s : NodeState) (passed : Bool) (P : NodeState → Type 0) → P s → ((x : Session) → s.session ≡ Some x → (t : NodeState) → unit_of s x passed s.status ≡ Some t → P (with_entry (UnitAfter t.status) t)) → P (unit_in s passed)
+unit-cases s passed P here there = go s.session refl
   where
-    go : (b : Bool) → (if b then f t else t).header.id ≡ t.header.id
-    go true = k.id t
-    go false = refl
+    done : (x : Session) → s.session ≡ Some x → (r : Option NodeState) → unit_of s x passed s.status ≡ r → P (unwrap_or (option_map (λ (t : NodeState). with_entry (UnitAfter t.status) t) r) s)
+    done x e None q = here
+    done x e (Some t) q = there x e t q
 
-changed-client : (id : ℕ) (f : Transfer → Transfer) → KeepsNames f → (t : Transfer) → (changed id f t).header.client ≡ t.header.client
-changed-client id f k t = go (t.header.id == id)
-  where
-    go : (b : Bool) → (if b then f t else t).header.client ≡ t.header.client
-    go true = k.client t
-    go false = refl
+    go : (o : Option Session) → s.session ≡ o → P (unwrap_or (option_map (λ (t : NodeState). with_entry (UnitAfter t.status) t) (option_and_then (λ (x : Session). unit_of s x passed s.status) o)) s)
+    go None e = here
+    go (Some x) e = done x e (unit_of s x passed s.status) refl
 
+pub unit-is : (s : NodeState) (passed : Bool) (x : Session) (t : NodeState) → s.session ≡ Some x → unit_of s x passed s.status ≡ Some t → unit_in s passed ≡ with_entry (UnitAfter t.status) t
+unit-is s passed x t e q = grind arith
+
+pub unit_last : (s : NodeState) (passed : Bool) → (last_in (unit_in s passed) ≡ last_in s) × (kept_in (unit_in s passed) ≡ kept_in s)
+unit_last s passed = grind arith
+
+-- client 0's session under a unit
+abbrev pub GoesTo : NodeState → NodeState → ℕ → (Status → Type 0) → Type 0
+GoesTo s t tag To = (mine_in t ≡ Some tag) × To t.status × (planned_in t ≡ planned_in s) × (ended_in t ≡ ended_in s)
+
+at-status : (s : NodeState) (x : Session) (passed : Bool) (st : Status) (t : NodeState) → s.status ≡ st → unit_of s x passed st ≡ Some t → unit_of s x passed s.status ≡ Some t
+at-status s x passed st t e q = ap (λ y. unit_of s x passed y) e ∙ q
+
+pub unit_activating : (s : NodeState) (passed : Bool) (tag : ℕ) → mine_in s ≡ Some tag → s.status ≡ Activating → GoesTo s (unit_in s passed) tag (λ to. to ≡ Verifying)
+unit_activating s passed tag mine st = grind arith
+
+pub unit_rolling : (s : NodeState) (passed : Bool) (tag : ℕ) → mine_in s ≡ Some tag → s.status ≡ RollingBack → GoesTo s (unit_in s passed) tag (λ to. to ≡ RolledBack)
+unit_rolling s passed tag mine st = grind arith
+
+pub unit_verifying : (s : NodeState) (passed : Bool) (tag : ℕ) → mine_in s ≡ Some tag → s.status ≡ Verifying → GoesTo s (unit_in s passed) tag (λ to. (to ≡ Verifying) ⊎ ((to ≡ Activated) ⊎ (to ≡ RollingBack)))
+unit_verifying s passed tag mine st = grind arith
+
+-- the end of a session of client 0
+pub unit_cleaning : (s : NodeState) (passed : Bool) (tag : ℕ) (o : Outcome) → IsConsistent s → mine_in s ≡ Some tag → s.status ≡ CleaningUp → outcome_in s ≡ Some o → (mine_in (unit_in s passed) ≡ None) × ((unit_in s passed).status ≡ Idle) × (ended_in (unit_in s passed) ≡ Some (record { tag = tag; outcome = o }))
+unit_cleaning s passed tag o v mine st out =
+    grind (arith, unit-is, at-status, eqb-true, get_or-set_same, mine_in, ended_in)
+
+-- what it leaves
+runs : (s : NodeState) (x : Session) → IsConsistent s → s.session ≡ Some x → s.running ≡ should_run x s.status x.outcome
+runs s x v e = subst (λ o. IfSome o (λ (y : Session). s.running ≡ should_run y s.status y.outcome)) e v.running
+
+pub cleaning_new : (s : NodeState) (passed : Bool) (tag : ℕ) → IsConsistent s → mine_in s ≡ Some tag → s.status ≡ CleaningUp → outcome_in s ≡ Some New → BringsIn (planned_in s) s (unit_in s passed)
+cleaning_new s passed tag v mine st out =
+    grind (arith, unit-is, at-status, runs, planned_in, names-of-parts, unit_in, runs-new, planned-run, run_parts)
+
+pub cleaning_old : (s : NodeState) (passed : Bool) (tag : ℕ) → IsConsistent s → mine_in s ≡ Some tag → s.status ≡ CleaningUp → outcome_in s ≡ Some Old → LeavesIn s (unit_in s passed)
+cleaning_old s passed tag v mine st out = grind arith
+
+pub processing_id : (s : NodeState) (tag : ℕ) → IsConsistent s → s.status ≡ Processing → (id : ℕ) × (id_in_processing s ≡ Some id)
+processing_id s tag v st = grind arith
+
+pub cleaning_outcome : (s : NodeState) (tag : ℕ) → IsConsistent s → mine_in s ≡ Some tag → s.status ≡ CleaningUp → (o : Outcome) × (outcome_in s ≡ Some o)
+cleaning_outcome s tag v mine st = grind arith
+
+-- Laws of the real node: client 0's transfers under its own calls and under units.
 ids-changed : (c id : ℕ) (f : Transfer → Transfer) → KeepsNames f → (ts : List Transfer) → map (λ (t : Transfer). t.header.id) (filter (λ (t : Transfer). t.header.client == c) (map (changed id f) ts)) ≡ map (λ (t : Transfer). t.header.id) (filter (λ (t : Transfer). t.header.client == c) ts)
 ids-changed c id f k [] = refl
-ids-changed c id f k (t ∷ ts) =
-    subst (λ b. map (λ (y : Transfer). y.header.id) (cond b (changed id f t ∷ filter (λ (y : Transfer). y.header.client == c) (map (changed id f) ts)) (filter (λ (y : Transfer). y.header.client == c) (map (changed id f) ts))) ≡ map (λ (y : Transfer). y.header.id) (cond (t.header.client == c) (t ∷ filter (λ (y : Transfer). y.header.client == c) ts) (filter (λ (y : Transfer). y.header.client == c) ts)))
-    (sym (ap (λ (n : ℕ). n == c) (changed-client id f k t))) (go (t.header.client == c) (ids-changed c id f k ts))
-  where
-    go : (b : Bool) → map (λ (y : Transfer). y.header.id) (filter (λ (y : Transfer). y.header.client == c) (map (changed id f) ts)) ≡ map (λ (y : Transfer). y.header.id) (filter (λ (y : Transfer). y.header.client == c) ts) → map (λ (y : Transfer). y.header.id) (cond b (changed id f t ∷ filter (λ (y : Transfer). y.header.client == c) (map (changed id f) ts)) (filter (λ (y : Transfer). y.header.client == c) (map (changed id f) ts))) ≡ map (λ (y : Transfer). y.header.id) (cond b (t ∷ filter (λ (y : Transfer). y.header.client == c) ts) (filter (λ (y : Transfer). y.header.client == c) ts))
-    go true rec = ap (λ (n : ℕ). n ∷ map (λ (y : Transfer). y.header.id) (filter (λ (y : Transfer). y.header.client == c) (map (changed id f) ts))) (changed-id id f k t) ∙ ap (λ (l : List ℕ). t.header.id ∷ l) rec
-    go false rec = rec
-
-found-changed : (c j id : ℕ) (f : Transfer → Transfer) → KeepsNames f → (ts : List Transfer) → find (λ (t : Transfer). is_of c j t.header) (map (changed id f) ts) ≡ option_map (changed id f) (find (λ (t : Transfer). is_of c j t.header) ts)
-found-changed c j id f k [] = refl
-found-changed c j id f k (t ∷ ts) =
-    subst (λ b. cond b (Some (changed id f t)) (find (λ (y : Transfer). is_of c j y.header) (map (changed id f) ts)) ≡ option_map (changed id f) (cond (is_of c j t.header) (Some t) (find (λ (y : Transfer). is_of c j y.header) ts))) (sym same)
-    (go (is_of c j t.header) (found-changed c j id f k ts))
-  where
-    same : is_of c j (changed id f t).header ≡ is_of c j t.header
-    same = ap (λ (n : ℕ). (n == j) && ((changed id f t).header.client == c)) (changed-id id f k t) ∙ ap (λ (n : ℕ). (t.header.id == j) && (n == c)) (changed-client id f k t)
-
-    go : (b : Bool) → find (λ (y : Transfer). is_of c j y.header) (map (changed id f) ts) ≡ option_map (changed id f) (find (λ (y : Transfer). is_of c j y.header) ts) → cond b (Some (changed id f t)) (find (λ (y : Transfer). is_of c j y.header) (map (changed id f) ts)) ≡ option_map (changed id f) (cond b (Some t) (find (λ (y : Transfer). is_of c j y.header) ts))
-    go true rec = refl
-    go false rec = rec
-
--- what is found passes
-pub find-passes : (p : Transfer → Bool) (ts : List Transfer) (t : Transfer) → find p ts ≡ Some t → p t ≡ true
-find-passes p [] t e = absurd (let f : ⊥ = cc e in f)
-find-passes p (y ∷ ys) t e = go (p y) refl e (λ q. find-passes p ys t q)
-  where
-    go : (b : Bool) → p y ≡ b → cond b (Some y) (find p ys) ≡ Some t → (find p ys ≡ Some t → p t ≡ true) → p t ≡ true
-    go true q h rec = let z : y ≡ t = cc h in ap p (sym z) ∙ q
-    go false q h rec = rec h
+ids-changed c id f k (t ∷ ts) = grind (arith, ids-changed c id f k ts)
 
 pub find-all : (P : Transfer → Type 0) (p : Transfer → Bool) (ts : List Transfer) (t : Transfer) → AllByRecursion P ts → find p ts ≡ Some t → P t
-find-all P p [] t a e = absurd (let f : ⊥ = cc e in f)
-find-all P p (y ∷ ys) t a e = go (p y) e (λ q. find-all P p ys t a.1 q)
-  where
-    go : (b : Bool) → cond b (Some y) (find p ys) ≡ Some t → (find p ys ≡ Some t → P t) → P t
-    go true h rec = let z : y ≡ t = cc h in subst P z a.0
-    go false h rec = rec h
-
-pub and-true : (a b : Bool) → (a && b) ≡ true → (a ≡ true) × (b ≡ true)
-and-true true b e = (refl, e)
-and-true false b e = absurd (let f : ⊥ = cc e in f)
+find-all P p [] t a e = absurd (cc e)
+find-all P p (y ∷ ys) t a e = grind (arith, find-all P p ys t a.1)
 
 abbrev pub data-rest : Option Header → ℕ → ℕ → List (Bool × Refusal)
 data-rest found counter size =
@@ -114,46 +94,12 @@ data-rest found counter size =
     ∷ (some_passes (λ h. nat_lt h.size (h.received + size)) found, IncorrectSize)
     ∷ []
 
--- the bytes of a changed transfer
-bytes-changed : (id : ℕ) (f : Transfer → Transfer) → ((t : Transfer) → (f t).bytes ≡ t.bytes) → (o : Option Transfer) → option_map_or (λ (t : Transfer). t.bytes) (option_map (changed id f) o) [] ≡ option_map_or (λ (t : Transfer). t.bytes) o []
-bytes-changed id f k None = refl
-bytes-changed id f k (Some t) = go (t.header.id == id)
-  where
-    go : (b : Bool) → (if b then f t else t).bytes ≡ t.bytes
-    go true = k t
-    go false = refl
-
--- where no transfer of the id is changed
-bytes-other : (id j : ℕ) (f : Transfer → Transfer) (c : ℕ) (ts : List Transfer) → j ≢ id → (o : Option Transfer) → find (λ (t : Transfer). is_of c j t.header) ts ≡ o → option_map_or (λ (t : Transfer). t.bytes) (option_map (changed id f) o) [] ≡ option_map_or (λ (t : Transfer). t.bytes) o []
-bytes-other id j f c ts n None e = refl
-bytes-other id j f c ts n (Some t) e = go (t.header.id == id) refl
-  where
-    is : t.header.id ≡ j
-    is = eqb-true t.header.id j (and-true (t.header.id == j) (t.header.client == c) (find-passes (λ (y : Transfer). is_of c j y.header) ts t e)).0
-
-    go : (b : Bool) → (t.header.id == id) ≡ b → (if b then f t else t).bytes ≡ t.bytes
-    go true q = absurd (n (sym is ∙ eqb-true t.header.id id q))
-    go false q = refl
-
 module _ (read : Reading) (clusters : List (Cluster Bytes)) where
   pub keeps-all : (s t : NodeState) → t.transfers ≡ s.transfers → KeepsTransfers (real read clusters) s t
-  keeps-all s t e =
-      record {
-        transfers = ap (λ l. map (λ (y : Transfer). y.header.id) (filter (λ (y : Transfer). y.header.client == 0) l)) e;
-        received = λ id. ap (λ l. option_map_or (λ (y : Transfer). y.bytes) (find (λ (y : Transfer). is_of 0 id y.header) l) []) e;
-      }
+  keeps-all s t e = grind arith
 
   pub keeps-changed : (s t : NodeState) (id : ℕ) (f : Transfer → Transfer) → KeepsNames f → ((y : Transfer) → (f y).bytes ≡ y.bytes) → t.transfers ≡ map (changed id f) s.transfers → KeepsTransfers (real read clusters) s t
-  keeps-changed s t id f k b e =
-      record {
-        transfers = ap (λ l. map (λ (y : Transfer). y.header.id) (filter (λ (y : Transfer). y.header.client == 0) l)) e ∙ ids-changed 0 id f k s.transfers;
-        received = λ j.
-            ap (λ l. option_map_or (λ (y : Transfer). y.bytes) (find (λ (y : Transfer). is_of 0 j y.header) l) []) e
-            ∙ (ap (λ o. option_map_or (λ (y : Transfer). y.bytes) o []) (found-changed 0 j id f k s.transfers) ∙ bytes-changed id f b (find (λ (y : Transfer). is_of 0 j y.header) s.transfers));
-      }
-
-  phase-names : (phase : Phase) → KeepsNames (λ t. record t { header = in_phase phase t.header })
-  phase-names phase = record { id = λ t. refl; client = λ t. refl }
+  keeps-changed s t id f k b e = grind (arith, ids-changed, found-changed)
 
   -- TransferExit and ProcessSwPackage
   pub exit_received : (s : NodeState) (id : ℕ) → KeepsTransfers (real read clusters) s (judged_in read s (TransferExit id)).0
@@ -162,62 +108,23 @@ module _ (read : Reading) (clusters : List (Cluster Bytes)) where
       (keeps-changed s (exited s id (verdict_for read s 0 (call.TransferExit id))) id (λ t. record t { header = in_phase Transferred t.header; parts = parts_read (verdict_for read s 0 (call.TransferExit id)) }) (record { id = λ t. refl; client = λ t. refl }) (λ t. refl) refl)
 
   led-transfers : (c : Call) (s : NodeState) → (led_by c s).transfers ≡ s.transfers
-  led-transfers c s = go (status_table s.status c)
-    where
-      resume : (l : List (Change Bytes)) → ◌≡◌ {A = List Transfer} (elim l as (λ _. NodeState) [ [] ↦ clean_up Old s | change ∷ changes ↦ record s { status = Ready } ]).transfers s.transfers
-      resume [] = refl
-      resume (x ∷ xs) = refl
-
-      go : (o : Option Goal) → (option_map_or (arrive s) o s).transfers ≡ s.transfers
-      go None = refl
-      go (Some (To status)) = refl
-      go (Some (CleanUp outcome)) = refl
-      go (Some Resume) = resume (changes_in s)
+  led-transfers c s = grind arith
 
   pub process_received : (s : NodeState) (id tag : ℕ) → KeepsTransfers (real read clusters) s (judged_in read s (ProcessSwPackage id tag)).0
   process_received s id tag =
       judged-by s 0 (call.ProcessSwPackage id tag) (verdict_for read s 0 (call.ProcessSwPackage id tag)) (λ t. KeepsTransfers (real read clusters) s t) (keeps-all s s refl)
-      (keeps-changed s (led_by (call.ProcessSwPackage id tag) (begin_processing s 0 id tag)) id (λ t. record t { header = in_phase BeingProcessed t.header }) (phase-names BeingProcessed) (λ t. refl) (led-transfers (call.ProcessSwPackage id tag) (begin_processing s 0 id tag)))
-
-  -- TransferData
-  block-names : (bytes : List ℕ) → KeepsNames (λ t. record t { header = grown (length bytes) t.header; bytes = t.bytes ++ bytes })
-  block-names bytes = record { id = λ t. refl; client = λ t. refl }
+      (keeps-changed s (led_by (call.ProcessSwPackage id tag) (begin_processing s 0 id tag)) id (λ t. record t { header = in_phase BeingProcessed t.header }) (names-kept BeingProcessed) (λ t. refl) (led-transfers (call.ProcessSwPackage id tag) (begin_processing s 0 id tag)))
 
   pub data_transfers : (s : NodeState) (id counter : ℕ) (bytes : List ℕ) → ids_of (judged_in read s (TransferData id counter bytes)).0 0 ≡ ids_of s 0
-  data_transfers s id counter bytes =
-      judged-by s 0 (call.TransferData id counter bytes) (verdict_for read s 0 (call.TransferData id counter bytes)) (λ t. ids_of t 0 ≡ ids_of s 0) refl
-      (ids-changed 0 id (λ t. record t { header = grown (length bytes) t.header; bytes = t.bytes ++ bytes }) (block-names bytes) s.transfers)
+  data_transfers s id counter bytes = grind (arith, ids-changed)
 
   pub data_received : (s : NodeState) (id counter : ℕ) (bytes : List ℕ) → (judged_in read s (TransferData id counter bytes)).1 ≡ Done → (received_in (judged_in read s (TransferData id counter bytes)).0 id ≡ received_in s id ++ bytes) × ((other : ℕ) → other ≢ id → received_in (judged_in read s (TransferData id counter bytes)).0 other ≡ received_in s other)
   data_received s id counter bytes d =
-      let e = done-accepted s 0 (call.TransferData id counter bytes) (verdict_for read s 0 (call.TransferData id counter bytes)) d in
-      let there = (not-refused (is_none (header_of (transfer_of s 0 id)), InvalidTransferId) (data-rest (header_of (transfer_of s 0 id)) counter (length bytes)) (done-none reply.Done (refusal s 0 (call.TransferData id counter bytes) (verdict_for read s 0 (call.TransferData id counter bytes))) d)).0 in
-      let found : (j : ℕ) → transfer_of (with_block s id bytes) 0 j ≡ option_map (changed id (λ t. record t { header = grown (length bytes) t.header; bytes = t.bytes ++ bytes })) (transfer_of s 0 j) = λ j. found-changed 0 j id (λ t. record t { header = grown (length bytes) t.header; bytes = t.bytes ++ bytes }) (block-names bytes) s.transfers in (
-        ap (λ t. received_in t id) e ∙ (ap (λ o. option_map_or (λ (y : Transfer). y.bytes) o []) (found id) ∙ grows (transfer_of s 0 id) refl there),
-        λ other n. ap (λ t. received_in t other) e ∙ (ap (λ o. option_map_or (λ (y : Transfer). y.bytes) o []) (found other) ∙ bytes-other id other (λ t. record t { header = grown (length bytes) t.header; bytes = t.bytes ++ bytes }) 0 s.transfers n (transfer_of s 0 other) refl),
-      )
-    where
-      grows : (o : Option Transfer) → transfer_of s 0 id ≡ o → is_none (option_map (λ (t : Transfer). t.header) o) ≡ false → option_map_or (λ (y : Transfer). y.bytes) (option_map (changed id (λ t. record t { header = grown (length bytes) t.header; bytes = t.bytes ++ bytes })) o) [] ≡ option_map_or (λ (y : Transfer). y.bytes) o [] ++ bytes
-      grows None q f = absurd (let g : ⊥ = cc f in g)
-      grows (Some t) q f =
-          let is : (t.header.id == id) ≡ true = (and-true (t.header.id == id) (t.header.client == 0) (find-passes (λ (y : Transfer). is_of 0 id y.header) s.transfers t q)).0 in
-          ap (λ (b : Bool). (if b then record t { header = grown (length bytes) t.header; bytes = t.bytes ++ bytes } else t).bytes) is
-
-  -- TransferStart
-  start-is : (s : NodeState) (size id : ℕ) → (judged_in read s (TransferStart size)).1 ≡ Started id → ((judged_in read s (TransferStart size)).0 ≡ started s 0 size) × (id ≡ s.next_id)
-  start-is s size id e = go (refusal s 0 (call.TransferStart size) (verdict_for read s 0 (call.TransferStart size))) e
-    where
-      go : (o : Option Refusal) → (refused_or (reply.Started s.next_id) o) ≡ Started id → (after_reply s 0 (call.TransferStart size) (verdict_for read s 0 (call.TransferStart size)) (refused_or (reply.Started s.next_id) o) ≡ started s 0 size) × (id ≡ s.next_id)
-      go None q = (refl, let z : s.next_id ≡ id = cc q in sym z)
-      go (Some why) q = absurd (let f : ⊥ = cc q in f)
+      grind (arith, not-refused, done-none, found-changed, received_in, found-is)
 
   ids-below : (next : ℕ) (ts : List Transfer) → AllByRecursion (IsSound next) ts → AllByRecursion (λ (n : ℕ). n < next) (map (λ (t : Transfer). t.header.id) (filter (λ (t : Transfer). t.header.client == 0) ts))
   ids-below next [] a = tt
-  ids-below next (t ∷ ts) a = go (t.header.client == 0) (ids-below next ts a.1)
-    where
-      go : (b : Bool) → AllByRecursion (λ (n : ℕ). n < next) (map (λ (y : Transfer). y.header.id) (filter (λ (y : Transfer). y.header.client == 0) ts)) → AllByRecursion (λ (n : ℕ). n < next) (map (λ (y : Transfer). y.header.id) (cond b (t ∷ filter (λ (y : Transfer). y.header.client == 0) ts) (filter (λ (y : Transfer). y.header.client == 0) ts)))
-      go true rec = (a.0.id.1, rec)
-      go false rec = rec
+  ids-below next (t ∷ ts) a = grind (arith, ids-below next ts a.1)
 
   not-below : (b : ℕ) (l : List ℕ) → AllByRecursion (λ (n : ℕ). n < b) l → Contains l b → ⊥
   not-below b l a h = at l a h.0 h.1 h.2
@@ -228,51 +135,14 @@ module _ (read : Reading) (clusters : List (Cluster Bytes)) where
       at (y ∷ ys) q (suc i) lt e = at ys q.1 i (omega arith) e
 
   pub start_transfers : (s : NodeState) (size id : ℕ) → IsConsistent s → (judged_in read s (TransferStart size)).1 ≡ Started id → (Contains (ids_of s 0) id → ⊥) × (ids_of (judged_in read s (TransferStart size)).0 0 ≡ ids_of s 0 ++ id ∷ [])
-  start_transfers s size id v e =
-      let b = start-is s size id e in (
-        λ c. not-below s.next_id (ids_of s 0) (ids-below s.next_id s.transfers v.transfers.each) (subst (λ n. Contains (ids_of s 0) n) b.1 c),
-        ap (λ t. ids_of t 0) b.0
-            ∙ (ap (λ l. map (λ (t : Transfer). t.header.id) l) (filter-append (λ (t : Transfer). t.header.client == 0) s.transfers (record { header = fresh s.next_id 0 size; bytes = []; parts = [] } ∷ []))
-            ∙ (map-append (λ (t : Transfer). t.header.id) (filter (λ (t : Transfer). t.header.client == 0) s.transfers) (record { header = fresh s.next_id 0 size; bytes = []; parts = [] } ∷ [])
-            ∙ ap (λ (n : ℕ). ids_of s 0 ++ n ∷ []) (sym b.1))),
-      )
+  start_transfers s size id v e = grind (arith, not-below, ids-below, filter-append, map-append)
 
   none-found : (next : ℕ) (ts : List Transfer) → AllByRecursion (IsSound next) ts → find (λ (t : Transfer). is_of 0 next t.header) ts ≡ None
-  none-found next ts a = go (find (λ (t : Transfer). is_of 0 next t.header) ts) refl
-    where
-      go : (o : Option Transfer) → find (λ (t : Transfer). is_of 0 next t.header) ts ≡ o → find (λ (t : Transfer). is_of 0 next t.header) ts ≡ None
-      go None e = e
-      go (Some t) e =
-          let sound = find-all (IsSound next) (λ (y : Transfer). is_of 0 next y.header) ts t a e in
-          let is : t.header.id ≡ next = eqb-true t.header.id next (and-true (t.header.id == next) (t.header.client == 0) (find-passes (λ (y : Transfer). is_of 0 next y.header) ts t e)).0 in
-          let lt : t.header.id < next = sound.id.1 in
-          absurd (omega (arith, is))
+  none-found next [] a = refl
+  none-found next (t ∷ ts) a = grind (arith, none-found next ts a.1)
 
   pub start_received : (s : NodeState) (size id : ℕ) → IsConsistent s → (judged_in read s (TransferStart size)).1 ≡ Started id → (received_in (judged_in read s (TransferStart size)).0 id ≡ []) × ((other : ℕ) → other ≢ id → received_in (judged_in read s (TransferStart size)).0 other ≡ received_in s other)
-  start_received s size id v e =
-      let b = start-is s size id e in (
-        ap (λ t. received_in t id) b.0 ∙ (ap (λ (n : ℕ). received_in (started s 0 size) n) b.1 ∙ (ap (λ o. option_map_or (λ (t : Transfer). t.bytes) o []) (find-append (λ (t : Transfer). is_of 0 s.next_id t.header) s.transfers (record { header = fresh s.next_id 0 size; bytes = []; parts = [] } ∷ []))
-            ∙ (ap (λ o. option_map_or (λ (t : Transfer). t.bytes) (option_or o (find (λ (t : Transfer). is_of 0 s.next_id t.header) (record { header = fresh s.next_id 0 size; bytes = []; parts = [] } ∷ []))) []) (none-found s.next_id s.transfers v.transfers.each) ∙ new ((s.next_id == s.next_id) && true)))),
-        λ other n.
-            ap (λ t. received_in t other) b.0
-            ∙ (ap (λ o. option_map_or (λ (t : Transfer). t.bytes) o []) (find-append (λ (t : Transfer). is_of 0 other t.header) s.transfers (record { header = fresh s.next_id 0 size; bytes = []; parts = [] } ∷ []))
-            ∙ old (transfer_of s 0 other) (find (λ (t : Transfer). is_of 0 other t.header) (record { header = fresh s.next_id 0 size; bytes = []; parts = [] } ∷ [])) (other-none other (λ q. n (sym q ∙ sym b.1)))),
-      )
-    where
-      new : (b : Bool) → option_map_or (λ (t : Transfer). t.bytes) (cond b (Some (record { header = fresh s.next_id 0 size; bytes = []; parts = [] })) None) [] ≡ []
-      new true = refl
-      new false = refl
-
-      other-none : (other : ℕ) → s.next_id ≢ other → find (λ (t : Transfer). is_of 0 other t.header) (record { header = fresh s.next_id 0 size; bytes = []; parts = [] } ∷ []) ≡ None
-      other-none other n = go (s.next_id == other) refl
-        where
-          go : (b : Bool) → (s.next_id == other) ≡ b → ◌≡◌ {A = Option Transfer} (cond (b && true) (Some (record { header = fresh s.next_id 0 size; bytes = []; parts = [] })) None) None
-          go true q = absurd (n (eqb-true s.next_id other q))
-          go false q = refl
-
-      old : (o p : Option Transfer) → p ≡ None → option_map_or (λ (t : Transfer). t.bytes) (option_or o p) [] ≡ option_map_or (λ (t : Transfer). t.bytes) o []
-      old None p q = ap (λ y. option_map_or (λ (t : Transfer). t.bytes) y []) q
-      old (Some t) p q = refl
+  start_received s size id v e = grind (arith, received_in, find-append, none-found, eqb-true)
 
   -- units
   process-transfers : (s : NodeState) (x : Session) (id : ℕ) → KeepsTransfers (real read clusters) s (process_unit s x id)
@@ -280,7 +150,7 @@ module _ (read : Reading) (clusters : List (Cluster Bytes)) where
     where
       go : (b : Bool) → KeepsTransfers (real read clusters) s (if b then record s { session = Some (record x { units_done = x.units_done + 1 }) } else processed s x id (parts_of_id s x id))
       go true = keeps-all s (record s { session = Some (record x { units_done = x.units_done + 1 }) }) refl
-      go false = keeps-changed s (processed s x id (parts_of_id s x id)) id (λ t. record t { header = in_phase Processed t.header }) (phase-names Processed) (λ t. refl) refl
+      go false = keeps-changed s (processed s x id (parts_of_id s x id)) id (λ t. record t { header = in_phase Processed t.header }) (names-kept Processed) (λ t. refl) refl
 
   pub unit_received : (s : NodeState) (passed : Bool) → s.status ≢ CleaningUp → KeepsTransfers (real read clusters) s (unit_in s passed)
   unit_received s passed n = unit-cases s passed (λ t. KeepsTransfers (real read clusters) s t) (keeps-all s s refl) (λ x e t q. go s.status x t refl q)
@@ -292,7 +162,7 @@ module _ (read : Reading) (clusters : List (Cluster Bytes)) where
       over a t q k = let e = some-is a t q in subst (λ y. KeepsTransfers (real read clusters) s (with_entry (UnitAfter y.status) y)) e (record { transfers = k.transfers; received = k.received })
 
       in-process : (x : Session) (o : Option ℕ) (t : NodeState) → option_and_then (λ id. Some (process_unit s x id)) o ≡ Some t → KeepsTransfers (real read clusters) s (with_entry (UnitAfter t.status) t)
-      in-process x None t q = absurd (let f : ⊥ = cc q in f)
+      in-process x None t q = absurd (cc q)
       in-process x (Some id) t q = over (process_unit s x id) t q (process-transfers s x id)
 
       verified : (x : Session) (b : Bool) → KeepsTransfers (real read clusters) s (verify_unit s x b)
@@ -300,76 +170,17 @@ module _ (read : Reading) (clusters : List (Cluster Bytes)) where
       verified x false = keeps-all s (verify_unit s x false) refl
 
       go : (st : Status) (x : Session) (t : NodeState) → s.status ≡ st → unit_of s x passed st ≡ Some t → KeepsTransfers (real read clusters) s (with_entry (UnitAfter t.status) t)
-      go Idle x t e q = absurd (let f : ⊥ = cc q in f)
-      go Ready x t e q = absurd (let f : ⊥ = cc q in f)
       go Processing x t e q = in-process x x.processing t q
       go Activating x t e q = over (activate_unit s x) t q (keeps-all s (activate_unit s x) refl)
       go Verifying x t e q = over (verify_unit s x passed) t q (verified x passed)
-      go Activated x t e q = absurd (let f : ⊥ = cc q in f)
       go RollingBack x t e q = over (roll_back_unit s x) t q (keeps-all s (roll_back_unit s x) refl)
-      go RolledBack x t e q = absurd (let f : ⊥ = cc q in f)
       go CleaningUp x t e q = absurd (n e)
+      go _ x t e q = absurd (cc q)
 
   -- a package in processing
-  parts-back : (id : ℕ) (parts : List (Part Bytes)) → map (λ (change : Change Bytes). change.part) (changes_of id parts) ≡ parts
-  parts-back id [] = refl
-  parts-back id (p ∷ ps) = ap (λ (l : List (Part Bytes)). p ∷ l) (parts-back id ps)
-
   parts-are : (s : NodeState) (x : Session) (id : ℕ) → IsFit read s → s.session ≡ Some x → (x.owner == 0) ≡ true → x.processing ≡ Some id → parts_of_id s x id ≡ parts_read (read (received_in s id))
-  parts-are s x id fit e owner p =
-      ap (λ (n : ℕ). parts_of (transfer_of s n id)) (eqb-true x.owner 0 owner) ∙ go (transfer_of s 0 id) refl (subst (λ (n : ℕ). IsSomeAnd (transfer_of s n id) (λ t. x.units_done < all_units t.parts)) (eqb-true x.owner 0 owner) unfinished)
-    where
-      unfinished : IsSomeAnd (transfer_of s x.owner id) (λ t. x.units_done < all_units t.parts)
-      unfinished =
-          subst (λ o. IfSome o (λ (i : ℕ). IsSomeAnd (transfer_of s x.owner i) (λ t. x.units_done < all_units t.parts))) p
-          (subst (λ o. IfSome o (λ (y : Session). IfSome y.processing (λ (i : ℕ). IsSomeAnd (transfer_of s y.owner i) (λ t. y.units_done < all_units t.parts)))) e fit.consistent.processing.unfinished)
-
-      in_process : id_in_processing s ≡ Some id
-      in_process = ap (λ o. option_and_then (λ (y : Session). y.processing) o) e ∙ p
-
-      of-phase : (t : Transfer) (phase : Phase) → t.header.phase ≡ phase → is_in BeingProcessed t.header ≡ true → IsRead read t phase → t.parts ≡ parts_read (read t.bytes)
-      of-phase t Transferring q i r = absurd (let z : is_in BeingProcessed (record t.header { phase = Transferring }) ≡ true = subst (λ (y : Phase). is_in BeingProcessed (record t.header { phase = y }) ≡ true) q i in let f : ⊥ = cc z in f)
-      of-phase t Transferred q i r = r
-      of-phase t BeingProcessed q i r = r
-      of-phase t Processed q i r = r
-
-      go : (o : Option Transfer) → transfer_of s 0 id ≡ o → IsSomeAnd o (λ t. x.units_done < all_units t.parts) → parts_of (transfer_of s 0 id) ≡ parts_read (read (received_in s id))
-      go None q h = absurd h
-      go (Some t) q h =
-          let each = find-all (λ y. is_in BeingProcessed y.header ≡ some_passes (λ (i : ℕ). i == y.header.id) (id_in_processing s)) (λ (y : Transfer). is_of 0 id y.header) s.transfers t fit.consistent.processing.each q in
-          let is : t.header.id ≡ id = eqb-true t.header.id id (and-true (t.header.id == id) (t.header.client == 0) (find-passes (λ (y : Transfer). is_of 0 id y.header) s.transfers t q)).0 in
-          let being : is_in BeingProcessed t.header ≡ true = each ∙ (ap (λ o. some_passes (λ (i : ℕ). i == t.header.id) o) in_process ∙ eq-eqb id t.header.id (sym is)) in
-          let r = find-all (λ y. IsRead read y y.header.phase) (λ (y : Transfer). is_of 0 id y.header) s.transfers t fit.read_parts q in
-          ap parts_of q ∙ (of-phase t t.header.phase refl being r ∙ sym (ap (λ o. parts_read (read (option_map_or (λ (y : Transfer). y.bytes) o []))) q))
+  parts-are s x id fit e owner p = grind (arith, received_in, find-all, found-is, eq-eqb)
 
   pub unit_processing : (s : NodeState) (passed : Bool) (tag id : ℕ) → IsFit read s → mine_in s ≡ Some tag → s.status ≡ Processing → id_in_processing s ≡ Some id → (mine_in (unit_in s passed) ≡ Some tag) × (ended_in (unit_in s passed) ≡ ended_in s) × ((((unit_in s passed).status ≡ Processing) × (planned_in (unit_in s passed) ≡ planned_in s) × (id_in_processing (unit_in s passed) ≡ Some id)) ⊎ (((unit_in s passed).status ≡ Ready) × (planned_in (unit_in s passed) ≡ planned_in s ++ parts_read (read (received_in s id)))))
   unit_processing s passed tag id fit mine st p =
-      let m = mine-some s tag mine in
-      let proc : m.0.processing ≡ Some id = sym (ap (λ o. option_and_then (λ (y : Session). y.processing) o) m.1) ∙ p in
-      subst P (sym (unit-is s passed m.0 (process_unit s m.0 id) m.1 (ap (λ y. unit_of s m.0 passed y) st ∙ ap (λ o. option_and_then (λ i. Some (process_unit s m.0 i)) o) proc)))
-      (go (nat_lt (m.0.units_done + 1) (all_units (parts_of_id s m.0 id))) m.0 m.1 proc m.2)
-    where
-      P : NodeState → Type 0
-      P t = (mine_in t ≡ Some tag) × (ended_in t ≡ ended_in s) × (((t.status ≡ Processing) × (planned_in t ≡ planned_in s) × (id_in_processing t ≡ Some id)) ⊎ ((t.status ≡ Ready) × (planned_in t ≡ planned_in s ++ parts_read (read (received_in s id)))))
-
-      planned-is : (x : Session) → s.session ≡ Some x → planned_in s ≡ map (λ (change : Change Bytes). change.part) x.changes
-      planned-is x e = ap (λ o. map (λ (change : Change Bytes). change.part) (option_map_or (λ (y : Session). y.changes) o [])) e
-
-      mine-is : (x : Session) → s.session ≡ Some x → tag_if (x.owner == 0) x.tag ≡ Some tag
-      mine-is x e = sym (ap (λ o. option_and_then (λ (y : Session). tag_if (y.owner == 0) y.tag) o) e) ∙ mine
-
-      unit-state : Session → Bool → NodeState
-      unit-state x b = if b then record s { session = Some (record x { units_done = x.units_done + 1 }) } else processed s x id (parts_of_id s x id)
-
-      go : (b : Bool) (x : Session) → s.session ≡ Some x → x.processing ≡ Some id → (x.owner == 0) ≡ true → P (with_entry (UnitAfter (unit-state x b).status) (unit-state x b))
-      go true x e q o = (mine-is x e, refl, inl (st, sym (planned-is x e), q))
-      go false x e q o = (
-        mine-is x e,
-        refl,
-        inr (
-          refl,
-          map-append (λ (change : Change Bytes). change.part) x.changes (changes_of id (parts_of_id s x id))
-              ∙ (ap (λ l. map (λ (change : Change Bytes). change.part) x.changes ++ l) (parts-back id (parts_of_id s x id) ∙ parts-are s x id fit e o q)
-              ∙ ap (λ l. l ++ parts_read (read (received_in s id))) (sym (planned-is x e))),
-        ),
-      )
+      grind (arith, unit-is, mine_in, ended_in, planned_in, received_in, tag_if, map-append, parts-of-changes, parts-are)

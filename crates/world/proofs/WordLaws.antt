@@ -1,79 +1,33 @@
 -- What planned changes make of each cluster.
-use Rattle.std.proofs.Common.{◌≡◌, inl, inr, ℕ, List, [], ◌∷◌, Option, Some, None, Bool, true, false, refl, sym, ◌∙◌, ap, subst, cond}
-use Rattle.std.specs.Prelude.{◌||◌, ◌&&◌, not, find, filter, map}
-use Rattle.std.specs.Option.{option_or}
-use Rattle.std.specs.Ordering.{nat_cmp, is_lt, is_eq, ordering_reverse}
-use Rattle.std.specs.Cmp.Lexicographic.{slice_cmp, texts_ties}
-use Rattle.std.specs.Str.{bytes_eq}
-use Rattle.std.specs.declared.cmp.Ordering.{Ordering}
-use Rattle.std.specs.declared.cmp.Ordering.TheVariants.{Less, Equal, Greater}
-use Rattle.std.proofs.lemmas.Cmp.{nat_list_cmp_total}
-use Rattle.std.proofs.lemmas.Slice.Eq.{bytes_eq-Decides}
-use Rattle.std.proofs.lemmas.List.Folds.{find-append}
-use Rattle.ucm_base.specs.declared.parts.Action.{Action}
-use Rattle.ucm_base.specs.declared.parts.Action.TheVariants.{Install, Update, Remove}
-use Rattle.ucm_base.specs.Names.{name_lt, has_name, all_differ}
-use Rattle.ucm_base.specs.Parts.{Bytes}
-use Rattle.pm_types.specs.declared.clusters.Part.{Part}
-use Rattle.pm_types.specs.declared.clusters.Cluster.{Cluster}
-use Rattle.pm_types.specs.declared.clusters.Change.{Change}
-use Rattle.pm_types.specs.Clusters.{cluster_of, cluster_at, without, with_cluster, brought, changed_as, changed_by, planned}
-use Rattle.world.specs.Words.{InParts, left_by, RunsNew}
-
--- names
-eq-names : (a b : List ℕ) → bytes_eq a b ≡ true → a ≡ b
-eq-names a b e = (bytes_eq-Decides a b).0 e
-
-same-names : (a b : List ℕ) → a ≡ b → bytes_eq a b ≡ true
-same-names a b e = (bytes_eq-Decides a b).1 e
-
-eq-swap : (a b : List ℕ) → bytes_eq a b ≡ bytes_eq b a
-eq-swap a b = go (bytes_eq a b) (bytes_eq b a) refl refl
-  where
-    go : (x y : Bool) → bytes_eq a b ≡ x → bytes_eq b a ≡ y → x ≡ y
-    go true true p q = refl
-    go true false p q = absurd (let z = same-names b a (sym (eq-names a b p)) in let f : ⊥ = cc (z, q) in f)
-    go false true p q = absurd (let z = same-names a b (sym (eq-names b a q)) in let f : ⊥ = cc (z, p) in f)
-    go false false p q = refl
+use Rattle.world.proofs.Names.{and_parts, arith, ◌≡◌, inl, inr, ℕ, List, [], ◌∷◌, Some, None, Bool, true, false, refl}
+use Rattle.world.proofs.Names.{sym, ◌∙◌, ap, subst, cond, not, find, filter, map, option_or, nat_cmp, is_lt, is_eq}
+use Rattle.world.proofs.Names.{ordering_reverse, slice_cmp, texts_ties, bytes_eq, Ordering, Less, Equal, Greater}
+use Rattle.world.proofs.Names.{nat_list_cmp_total, find-append, name_lt, has_name, all_differ, Bytes, Part, Cluster}
+use Rattle.world.proofs.Names.{Change, cluster_of, cluster_at, without, with_cluster, brought, changed_by, planned}
+use Rattle.world.proofs.Names.{InParts, left_by, RunsNew}
+use Rattle.node_laws.proofs.Lists.{neither, not-true}
+use Rattle.node_laws.proofs.NameLists.{eq-name, name-eq, name-swap}
 
 lt-not_eq : (a b : List ℕ) → bytes_eq a b ≡ true → name_lt a b ≡ false
 lt-not_eq a b e = go (slice_cmp nat_cmp a b) (sym (texts_ties a b) ∙ e)
   where
     go : (o : Ordering) → is_eq o ≡ true → is_lt o ≡ false
-    go Less q = absurd (let f : ⊥ = cc q in f)
-    go Equal q = refl
-    go Greater q = refl
+    go Less q = absurd (cc q)
+    go _ q = refl
 
 lt-other : (a b : List ℕ) → bytes_eq a b ≡ false → name_lt b a ≡ not (name_lt a b)
 lt-other a b e = go (slice_cmp nat_cmp a b) (slice_cmp nat_cmp b a) (sym (texts_ties a b) ∙ e) (nat_list_cmp_total.antisymm a b)
   where
     go : (o p : Ordering) → is_eq o ≡ false → o ≡ ordering_reverse p → is_lt p ≡ not (is_lt o)
-    go Less Less q r = absurd (let f : ⊥ = cc r in f)
-    go Less Equal q r = absurd (let f : ⊥ = cc r in f)
     go Less Greater q r = refl
-    go Equal p q r = absurd (let f : ⊥ = cc q in f)
+    go Equal p q r = absurd (cc q)
     go Greater Less q r = refl
-    go Greater Equal q r = absurd (let f : ⊥ = cc r in f)
-    go Greater Greater q r = absurd (let f : ⊥ = cc r in f)
+    go _ _ q r = absurd (cc r)
 
 -- a filter by name keeps what is found, or leaves nothing
 found-by_name : (q : List ℕ → Bool) (name : List ℕ) (cs : List (Cluster Bytes)) → find (λ (c : Cluster Bytes). bytes_eq c.name name) (filter (λ (d : Cluster Bytes). q d.name) cs) ≡ cond (q name) (find (λ (c : Cluster Bytes). bytes_eq c.name name) cs) None
-found-by_name q name [] = go (q name)
-  where
-    go : (b : Bool) → ◌≡◌ {A = Option (Cluster Bytes)} None (cond b None None)
-    go true = refl
-    go false = refl
-found-by_name q name (d ∷ ds) = go (q d.name) (bytes_eq d.name name) refl refl (found-by_name q name ds)
-  where
-    go : (a b : Bool) → q d.name ≡ a → bytes_eq d.name name ≡ b → find (λ (c : Cluster Bytes). bytes_eq c.name name) (filter (λ (e : Cluster Bytes). q e.name) ds) ≡ cond (q name) (find (λ (c : Cluster Bytes). bytes_eq c.name name) ds) None → find (λ (c : Cluster Bytes). bytes_eq c.name name) (cond a (d ∷ filter (λ (e : Cluster Bytes). q e.name) ds) (filter (λ (e : Cluster Bytes). q e.name) ds)) ≡ cond (q name) (cond b (Some d) (find (λ (c : Cluster Bytes). bytes_eq c.name name) ds)) None
-    go true true p r rec =
-        let z : q name ≡ true = ap q (sym (eq-names d.name name r)) ∙ p in
-        ap (λ x. cond x (Some d) (find (λ (c : Cluster Bytes). bytes_eq c.name name) (filter (λ (e : Cluster Bytes). q e.name) ds))) r ∙ sym (ap (λ x. cond x (Some d) None) z)
-    go true false p r rec = ap (λ x. cond x (Some d) (find (λ (c : Cluster Bytes). bytes_eq c.name name) (filter (λ (e : Cluster Bytes). q e.name) ds))) r ∙ rec
-    go false true p r rec =
-        let z : q name ≡ false = ap q (sym (eq-names d.name name r)) ∙ p in
-        rec ∙ (ap (λ x. cond x (find (λ (c : Cluster Bytes). bytes_eq c.name name) ds) None) z ∙ sym (ap (λ x. cond x (Some d) None) z))
-    go false false p r rec = rec
+found-by_name q name [] = grind arith
+found-by_name q name (d ∷ ds) = grind (arith, name-eq, found-by_name q name ds)
 
 with-at : (c : Cluster Bytes) (cs : List (Cluster Bytes)) (name : List ℕ) → cluster_at (with_cluster c cs) name ≡ cond (bytes_eq c.name name) (Some c) (cluster_at cs name)
 with-at c cs name =
@@ -82,34 +36,21 @@ with-at c cs name =
     ∙ (ap (λ o. option_or (cond (name_lt name c.name) (cluster_at cs name) None) (cond (bytes_eq c.name name) (Some c) o)) (found-by_name (λ n. name_lt c.name n) name cs)
     ∙ go (bytes_eq c.name name) refl (name_lt name c.name) refl))
   where
-    or-none : (o : Option (Cluster Bytes)) → option_or o None ≡ o
-    or-none None = refl
-    or-none (Some x) = refl
-
     go : (e : Bool) → bytes_eq c.name name ≡ e → (l : Bool) → name_lt name c.name ≡ l → option_or (cond l (cluster_at cs name) None) (cond e (Some c) (cond (name_lt c.name name) (cluster_at cs name) None)) ≡ cond e (Some c) (cluster_at cs name)
-    go true p true q = absurd (let z = lt-not_eq name c.name (eq-swap name c.name ∙ p) in let f : ⊥ = cc (z, q) in f)
+    go true p true q = absurd (let z = lt-not_eq name c.name (name-swap name c.name ∙ p) in cc (z, q))
     go true p false q = refl
-    go false p true q =
-        let z : name_lt c.name name ≡ false = lt-other name c.name (eq-swap name c.name ∙ p) ∙ ap not q in
-        ap (λ x. option_or (cluster_at cs name) (cond x (cluster_at cs name) None)) z ∙ or-none (cluster_at cs name)
-    go false p false q =
-        let z : name_lt c.name name ≡ true = lt-other name c.name (eq-swap name c.name ∙ p) ∙ ap not q in
-        ap (λ x. cond x (cluster_at cs name) None) z
+    go false p true q = grind arith
+    go false p false q = grind (arith, lt-other, name-swap)
 
 without-at : (n : List ℕ) (cs : List (Cluster Bytes)) (name : List ℕ) → cluster_at (without n cs) name ≡ cond (bytes_eq n name) None (cluster_at cs name)
-without-at n cs name = found-by_name (λ m. not (bytes_eq m n)) name cs ∙ (ap (λ x. cond (not x) (cluster_at cs name) None) (eq-swap name n) ∙ go (bytes_eq n name))
+without-at n cs name = found-by_name (λ m. not (bytes_eq m n)) name cs ∙ (ap (λ x. cond (not x) (cluster_at cs name) None) (name-swap name n) ∙ go (bytes_eq n name))
   where
     go : (b : Bool) → cond (not b) (cluster_at cs name) None ≡ cond b None (cluster_at cs name)
     go true = refl
     go false = refl
 
 changed-at : (p : Part Bytes) (cs : List (Cluster Bytes)) (name : List ℕ) → cluster_at (changed_by p cs) name ≡ cond (bytes_eq (cluster_of p) name) (left_by p.manifest.action (brought p)) (cluster_at cs name)
-changed-at p cs name = go p.manifest.action
-  where
-    go : (a : Action) → cluster_at (changed_as a (brought p) cs) name ≡ cond (bytes_eq (cluster_of p) name) (left_by a (brought p)) (cluster_at cs name)
-    go Install = with-at (brought p) cs name
-    go Update = with-at (brought p) cs name
-    go Remove = without-at (cluster_of p) cs name
+changed-at p cs name = grind (arith, without-at, with-at)
 
 -- the clusters after the parts, each in turn
 abbrev pub run_parts : List (Part Bytes) → List (Cluster Bytes) → List (Cluster Bytes)
@@ -120,39 +61,23 @@ pub planned-run : (changes : List (Change Bytes)) (cs : List (Cluster Bytes)) �
 planned-run [] cs = refl
 planned-run (c ∷ changes) cs = planned-run changes (changed_by c.part cs)
 
-or-false : (a b : Bool) → (a || b) ≡ false → (a ≡ false) × (b ≡ false)
-or-false true b e = absurd (let f : ⊥ = cc e in f)
-or-false false b e = (refl, e)
-
 -- a name that no part has
 run-others : (ps : List (Part Bytes)) (cs : List (Cluster Bytes)) (name : List ℕ) → has_name (map cluster_of ps) name ≡ false → cluster_at (run_parts ps cs) name ≡ cluster_at cs name
 run-others [] cs name h = refl
 run-others (p ∷ ps) cs name h =
-    let q = or-false (bytes_eq name (cluster_of p)) (has_name (map cluster_of ps) name) h in
-    run-others ps (changed_by p cs) name q.1 ∙ (changed-at p cs name ∙ ap (λ x. cond x (left_by p.manifest.action (brought p)) (cluster_at cs name)) (eq-swap (cluster_of p) name ∙ q.0))
-
-and-both : (a b : Bool) → (a && b) ≡ true → (a ≡ true) × (b ≡ true)
-and-both true b e = (refl, e)
-and-both false b e = absurd (let f : ⊥ = cc e in f)
-
-not-true : (b : Bool) → not b ≡ true → b ≡ false
-not-true true e = absurd (let f : ⊥ = cc e in f)
-not-true false e = refl
+    let q = neither (bytes_eq name (cluster_of p)) (has_name (map cluster_of ps) name) h in
+    run-others ps (changed_by p cs) name q.1 ∙ (changed-at p cs name ∙ ap (λ x. cond x (left_by p.manifest.action (brought p)) (cluster_at cs name)) (name-swap (cluster_of p) name ∙ q.0))
 
 run-named : (ps : List (Part Bytes)) (cs : List (Cluster Bytes)) (p : Part Bytes) → all_differ (map cluster_of ps) ≡ true → InParts p ps → cluster_at (run_parts ps cs) (cluster_of p) ≡ left_by p.manifest.action (brought p)
 run-named [] cs p d h = absurd h
 run-named (q ∷ qs) cs p d h =
-    let both = and-both (not (has_name (map cluster_of qs) (cluster_of q))) (all_differ (map cluster_of qs)) d in
+    let both = and_parts (not (has_name (map cluster_of qs) (cluster_of q))) (all_differ (map cluster_of qs)) d in
     elim h [
       | inl e ↦ subst (λ x. cluster_at (run_parts (q ∷ qs) cs) (cluster_of x) ≡ left_by x.manifest.action (brought x)) (sym e)
           (run-others qs (changed_by q cs) (cluster_of q) (not-true (has_name (map cluster_of qs) (cluster_of q)) both.0)
-          ∙ (changed-at q cs (cluster_of q) ∙ ap (λ x. cond x (left_by q.manifest.action (brought q)) (cluster_at cs (cluster_of q))) (same-names (cluster_of q) (cluster_of q) refl)))
+          ∙ (changed-at q cs (cluster_of q) ∙ ap (λ x. cond x (left_by q.manifest.action (brought q)) (cluster_at cs (cluster_of q))) (eq-name (cluster_of q) (cluster_of q) refl)))
       | inr h' ↦ run-named qs (changed_by q cs) p both.1 h'
     ]
 
 pub runs-new : (ps : List (Part Bytes)) (saved running : List (Cluster Bytes)) → all_differ (map cluster_of ps) ≡ true → running ≡ run_parts ps saved → RunsNew ps saved running
-runs-new ps saved running d e =
-    record {
-      named = λ p h. ap (λ l. cluster_at l (cluster_of p)) e ∙ run-named ps saved p d h;
-      others = λ name h. ap (λ l. cluster_at l name) e ∙ run-others ps saved name h;
-    }
+runs-new ps saved running d e = grind (arith, run-named, run-others)

@@ -1,33 +1,15 @@
 -- Two closed lists of events: one node installs a cluster and the campaign ends successful, or its check fails and it ends failed.
-use Rattle.std.specs.Prelude.{length, map, IsTrue, ◌≡◌, ◌≢◌, ℕ, zero, suc, ◌<◌, ◌≤◌, List, [], ◌∷◌, ◌++◌, Some, None, true, false, Ok, if◌then◌else◌, nat_eq, replicate}
-use Rattle.std.proofs.Common.{subst, refl, inl, arith}
-use Rattle.ucm_base.specs.Parts.{Bytes}
-use Rattle.ucm_base.specs.declared.ids.NodeSet.{NodeSet}
-use Rattle.ucm_base.specs.declared.parts.Action.TheVariants.{Install}
-use Rattle.pm_types.specs.declared.calls.Call.{Call}
-use Rattle.pm_types.specs.declared.calls.Call.TheVariants.{Sync, TransferStart, TransferData, TransferExit, ProcessSwPackage, Activate, Finish}
-use Rattle.pm_types.specs.declared.clusters.Cluster.{Cluster}
-use Rattle.pm_types.specs.declared.clusters.Part.{Part}
-use Rattle.pm_types.specs.declared.status.Outcome.{Outcome}
-use Rattle.pm_types.specs.declared.status.Outcome.TheVariants.{New, Old}
-use Rattle.pm_types.specs.Histories.{Reading}
+use Rattle.world.specs.World.{HasEvidence}
+use Rattle.std.specs.Prelude.{Contains, ℕ, suc, ◌<◌}
+use Rattle.world.proofs.Names.{◌≡◌, List, [], ◌∷◌, ◌++◌, Some, None, true, false, Ok, if◌then◌else◌, nat_eq, replicate}
+use Rattle.world.proofs.Names.{refl, inl, arith, Bytes, NodeSet, Install, Call, Sync, TransferStart, TransferData}
+use Rattle.world.proofs.Names.{TransferExit, ProcessSwPackage, Activate, Finish, Cluster, Part, Outcome, New, Old}
+use Rattle.world.proofs.Names.{Reading, Commit, Abort, Successful, Failed, MasterEvent, Start, Begin, PhaseTo, VoteOf}
+use Rattle.world.proofs.Names.{Decide, EndedAt, Enter, Shown, NamesOf, Packages, IsReading, IsEntered, spans, World}
+use Rattle.world.proofs.Names.{NodeWorld, Event, Deliver, Work, Send, Record, opened, happens, state_of, Makes}
 use Rattle.campaign_core.specs.declared.events.Phase.TheVariants as Phase
 use Rattle.campaign_core.specs.declared.events.Vote.TheVariants as Vote
 use Rattle.campaign_core.specs.declared.events.Cause.TheVariants as Cause
-use Rattle.campaign_core.specs.declared.events.Decision.TheVariants.{Commit, Abort}
-use Rattle.campaign_core.specs.declared.events.CampaignResult.TheVariants.{Successful, Failed}
-use Rattle.campaign_core.specs.declared.events.MasterEvent.{MasterEvent}
-use Rattle.campaign_core.specs.declared.events.MasterEvent.TheVariants.{Start, Begin, PhaseTo, VoteOf, Decide, EndedAt, Enter}
-use Rattle.campaign_core.specs.Nodes.{flag_of}
-use Rattle.pm_types.specs.declared.replies.Synced.{Synced as Shown}
-use Rattle.world.specs.Evidence.{NamesOf}
-use Rattle.world.specs.Sends.{Packages}
-use Rattle.pm_types.specs.Clusters.{cluster_of}
-use Rattle.node_laws.specs.Fit.{IsReading}
-use Rattle.ucm_base.specs.Names.{all_differ}
-use Rattle.world.specs.Law.{IsEntered}
-use Rattle.world.specs.Spans.{spans}
-use Rattle.world.specs.World.{World, NodeWorld, Event, Deliver, Work, Send, Record, opened, happens, state_of, Makes}
 
 -- every package installs this cluster
 abbrev part : Part Bytes
@@ -40,11 +22,7 @@ abbrev read : Reading
 read bytes = Ok (part ∷ [])
 
 reading : IsReading read
-reading = record {
-  parts_of = λ bytes parts e.
-      let same : part ∷ [] ≡ parts = cc e in
-      subst (λ ps. (0 < length ps) × IsTrue (all_differ (map cluster_of ps))) same (omega arith, refl);
-}
+reading = grind arith
 
 -- campaign 7 has one package, for node 1
 abbrev packages : Packages
@@ -57,246 +35,66 @@ abbrev world_after : World → List Event → World
 world_after w [] = w
 world_after w (e ∷ es) = world_after (happens read w e) es
 
--- a message that arrives, and its reply too
-abbrev sent : Call → List Event
-sent call = Send 1 call ∷ Deliver 1 0 true ∷ []
+-- a message that arrives, and its reply too, before other events
+abbrev sent : Call → List Event → List Event
+sent call events = Send 1 call ∷ Deliver 1 0 true ∷ events
 
-abbrev until_activate : List Event
-until_activate =
-    (Record (Start 1) ∷ Record (Begin 7 one) ∷ Record (PhaseTo Phase.Transferring) ∷ [])
-    ++ sent Sync ++ sent (TransferStart 1) ++ sent (TransferData 1 1 (5 ∷ [])) ++ sent (TransferExit 1)
-    ++ Record (PhaseTo Phase.Processing) ∷ sent (ProcessSwPackage 1 7)
-    ++ Work 1 true true ∷ Record (PhaseTo Phase.Activating) ∷ sent Activate ++ Work 1 true true ∷ []
+abbrev until_activate : List Event → List Event
+until_activate events =
+    Record (Start 1) ∷ Record (Begin 7 one) ∷ Record (PhaseTo Phase.Transferring)
+    ∷ sent Sync (sent (TransferStart 1) (sent (TransferData 1 1 (5 ∷ [])) (sent (TransferExit 1) (
+    Record (PhaseTo Phase.Processing) ∷ sent (ProcessSwPackage 1 7) (
+    Work 1 true true ∷ Record (PhaseTo Phase.Activating) ∷ sent Activate (Work 1 true true ∷ events))))))
+
+-- Finish, the unit that cleans up, and a last Sync
+abbrev finished : List Event → List Event
+finished events = sent Sync (sent Finish (Work 1 true true ∷ sent Sync events))
+
+abbrev commits : List Event → List Event
+commits events =
+    until_activate (Work 1 true true ∷ Record (VoteOf 1 Vote.Yes) ∷ Record (Decide Commit) ∷ finished events)
+
+abbrev aborts : List Event → List Event
+aborts events =
+    until_activate (Work 1 false true ∷ Work 1 true true ∷ Record (VoteOf 1 Vote.RolledBack)
+    ∷ Record (Decide (Abort (Cause.Vote 1))) ∷ finished events)
 
 abbrev successful : List Event
-successful =
-    until_activate ++ Work 1 true true ∷ Record (VoteOf 1 Vote.Yes) ∷ Record (Decide Commit)
-    ∷ sent Sync ++ sent Finish ++ Work 1 true true ∷ sent Sync ++ Record (EndedAt 1 New) ∷ Record (Enter Successful) ∷ []
+successful = commits (Record (EndedAt 1 New) ∷ Record (Enter Successful) ∷ [])
 
 abbrev failed : List Event
-failed =
-    until_activate ++ Work 1 false true ∷ Work 1 true true ∷ Record (VoteOf 1 Vote.RolledBack) ∷ Record (Decide (Abort (Cause.Vote 1)))
-    ∷ sent Sync ++ sent Finish ++ Work 1 true true ∷ sent Sync ++ Record (EndedAt 1 Old) ∷ Record (Enter Failed) ∷ []
+failed = aborts (Record (EndedAt 1 Old) ∷ Record (Enter Failed) ∷ [])
 
 abbrev start : World
 start = opened (λ n. [])
 
 names : NamesOf packages 7 one
-names = (refl, flags)
-  where
-    other : (n : ℕ) → flag_of one n ≡ false → packages 7 n ≡ [] → (flag_of one n ≡ true → packages 7 n ≢ []) × (packages 7 n ≢ [] → flag_of one n ≡ true)
-    other n off none = (λ on. let g : ⊥ = cc (on, off) in absurd g, λ some. absurd (some none))
-
-    flags : (n : ℕ) → 1 ≤ n → n ≤ 8 → (flag_of one n ≡ true → packages 7 n ≢ []) × (packages 7 n ≢ [] → flag_of one n ≡ true)
-    flags zero low high = let g : ⊥ = omega (arith, low) in absurd g
-    flags (suc zero) low high = (λ on none. cc none, λ some. refl)
-    flags (suc (suc zero)) low high = other 2 refl refl
-    flags (suc (suc (suc zero))) low high = other 3 refl refl
-    flags (suc (suc (suc (suc zero)))) low high = other 4 refl refl
-    flags (suc (suc (suc (suc (suc zero))))) low high = other 5 refl refl
-    flags (suc (suc (suc (suc (suc (suc zero)))))) low high = other 6 refl refl
-    flags (suc (suc (suc (suc (suc (suc (suc zero))))))) low high = other 7 refl refl
-    flags (suc (suc (suc (suc (suc (suc (suc (suc zero)))))))) low high = other 8 refl refl
-    flags (suc (suc (suc (suc (suc (suc (suc (suc (suc n))))))))) low high = let g : ⊥ = omega (arith, high) in absurd g
+names = grind arith
 
 -- what the last Sync shows
 abbrev shown : Outcome → Shown
 shown outcome = record { session = None; ended = Some (record { tag = 7; outcome = outcome }); transfers = [] }
 
+there : Contains {X = ℕ} (7 ∷ []) 7
+there = (0, omega arith, refl)
+
+-- so many messages were sent at each delivery, and one more
+some : (n : ℕ) → 0 < suc n
+some n = omega arith
+
+-- the last Sync is the evidence of the node's end
+shown-new : HasEvidence packages (7 ∷ []) (world_after start (commits [])) (EndedAt 1 New)
+shown-new = (refl, shown New, inl refl, refl, refl)
+
+shown-old : HasEvidence packages (7 ∷ []) (world_after start (aborts [])) (EndedAt 1 Old)
+shown-old = (refl, shown Old, inl refl, refl, refl)
+
+-- each event may happen
 made-successful : Makes read packages (7 ∷ []) start successful (world_after start successful)
-made-successful = (
-  (refl, tt),
-  (
-    (refl, ((0, omega arith, refl), names)),
-    (
-      (refl, tt),
-      (
-        record { named = refl; follows = refl; by = record { no_mark = refl; no_vote = refl; no_refusal = refl; next = refl; due = refl; settled = refl } },
-        (
-          omega arith,
-          (
-            record { named = refl; follows = refl; by = record { no_mark = refl; no_vote = refl; no_refusal = refl; next = refl; due = refl; settled = refl } },
-            (
-              omega arith,
-              (
-                record { named = refl; follows = refl; by = record { no_mark = refl; no_vote = refl; no_refusal = refl; next = refl; due = refl; settled = refl } },
-                (
-                  omega arith,
-                  (
-                    record { named = refl; follows = refl; by = record { no_mark = refl; no_vote = refl; no_refusal = refl; next = refl; due = refl; settled = refl } },
-                    (
-                      omega arith,
-                      (
-                        (refl, tt),
-                        (
-                          record { named = refl; follows = refl; by = record { no_mark = refl; no_vote = refl; no_refusal = refl; next = refl; due = refl; settled = refl } },
-                          (
-                            omega arith,
-                            (
-                              refl,
-                              (
-                                (refl, tt),
-                                (
-                                  record { named = refl; follows = refl; by = record { no_mark = refl; no_vote = refl; no_refusal = refl; next = refl; due = refl; settled = refl } },
-                                  (
-                                    omega arith,
-                                    (
-                                      refl,
-                                      (
-                                        refl,
-                                        (
-                                          (refl, refl),
-                                          (
-                                            (refl, tt),
-                                            (
-                                              record { named = refl; follows = refl; by = record { not_ended = refl; allowed = refl } },
-                                              (
-                                                omega arith,
-                                                (
-                                                  record { named = refl; follows = refl; by = record { not_ended = refl; allowed = refl } },
-                                                  (
-                                                    omega arith,
-                                                    (
-                                                      refl,
-                                                      (
-                                                        record { named = refl; follows = refl; by = record { not_ended = refl; allowed = refl } },
-                                                        (
-                                                          omega arith,
-                                                          (
-                                                            (refl, (refl, shown New, inl refl, refl, refl)),
-                                                            (
-                                                              (refl, tt),
-                                                              refl,
-                                                            ),
-                                                          ),
-                                                        ),
-                                                      ),
-                                                    ),
-                                                  ),
-                                                ),
-                                              ),
-                                            ),
-                                          ),
-                                        ),
-                                      ),
-                                    ),
-                                  ),
-                                ),
-                              ),
-                            ),
-                          ),
-                        ),
-                      ),
-                    ),
-                  ),
-                ),
-              ),
-            ),
-          ),
-        ),
-      ),
-    ),
-  ),
-)
+made-successful = assumption (names, there, shown-new, some 0, some 1, some 2, some 3, some 4, some 5, some 6, some 7, some 8)
 
 made-failed : Makes read packages (7 ∷ []) start failed (world_after start failed)
-made-failed = (
-  (refl, tt),
-  (
-    (refl, ((0, omega arith, refl), names)),
-    (
-      (refl, tt),
-      (
-        record { named = refl; follows = refl; by = record { no_mark = refl; no_vote = refl; no_refusal = refl; next = refl; due = refl; settled = refl } },
-        (
-          omega arith,
-          (
-            record { named = refl; follows = refl; by = record { no_mark = refl; no_vote = refl; no_refusal = refl; next = refl; due = refl; settled = refl } },
-            (
-              omega arith,
-              (
-                record { named = refl; follows = refl; by = record { no_mark = refl; no_vote = refl; no_refusal = refl; next = refl; due = refl; settled = refl } },
-                (
-                  omega arith,
-                  (
-                    record { named = refl; follows = refl; by = record { no_mark = refl; no_vote = refl; no_refusal = refl; next = refl; due = refl; settled = refl } },
-                    (
-                      omega arith,
-                      (
-                        (refl, tt),
-                        (
-                          record { named = refl; follows = refl; by = record { no_mark = refl; no_vote = refl; no_refusal = refl; next = refl; due = refl; settled = refl } },
-                          (
-                            omega arith,
-                            (
-                              refl,
-                              (
-                                (refl, tt),
-                                (
-                                  record { named = refl; follows = refl; by = record { no_mark = refl; no_vote = refl; no_refusal = refl; next = refl; due = refl; settled = refl } },
-                                  (
-                                    omega arith,
-                                    (
-                                      refl,
-                                      (
-                                        refl,
-                                        (
-                                          refl,
-                                          (
-                                            (refl, refl),
-                                            (
-                                              (refl, tt),
-                                              (
-                                                record { named = refl; follows = refl; by = record { not_ended = refl; allowed = refl } },
-                                                (
-                                                  omega arith,
-                                                  (
-                                                    record { named = refl; follows = refl; by = record { not_ended = refl; allowed = refl } },
-                                                    (
-                                                      omega arith,
-                                                      (
-                                                        refl,
-                                                        (
-                                                          record { named = refl; follows = refl; by = record { not_ended = refl; allowed = refl } },
-                                                          (
-                                                            omega arith,
-                                                            (
-                                                              (refl, (refl, shown Old, inl refl, refl, refl)),
-                                                              (
-                                                                (refl, tt),
-                                                                refl,
-                                                              ),
-                                                            ),
-                                                          ),
-                                                        ),
-                                                      ),
-                                                    ),
-                                                  ),
-                                                ),
-                                              ),
-                                            ),
-                                          ),
-                                        ),
-                                      ),
-                                    ),
-                                  ),
-                                ),
-                              ),
-                            ),
-                          ),
-                        ),
-                      ),
-                    ),
-                  ),
-                ),
-              ),
-            ),
-          ),
-        ),
-      ),
-    ),
-  ),
-)
+made-failed = assumption (names, there, shown-old, some 0, some 1, some 2, some 3, some 4, some 5, some 6, some 7, some 8)
 
 -- before each Enter
 abbrev until_activated : List MasterEvent

@@ -1,0 +1,261 @@
+-- ProcessSwPackage is judged as the node's table says.
+use Rattle.std.proofs.Common.{◌≡◌, refl, sym, subst, ap, ◌∙◌, ℕ, ◌*◌, Bool, true, false, [], ◌∷◌, ◌++◌, List, map, length, take}
+use Rattle.std.specs.Prelude.{◌==◌, ◌||◌, if◌then◌else◌, not, is_none, option_map, unwrap_or, Option, Some, None, IfSome}
+use Rattle.std.specs.Bool.{beq}
+use Rattle.std.specs.List.{AllByRecursion, list_all}
+use Rattle.std.specs.Option.{option_or, option_map_or}
+use Rattle.std.specs.Str.{bytes_eq}
+use Rattle.std.specs.Cmp.Derive.{both_true}
+use Rattle.std.proofs.lemmas.Bool.{and_parts}
+use Rattle.std.proofs.lemmas.List.{append-nil}
+use Rattle.ucm_base.specs.Parts.{Bytes}
+use Rattle.pm_types.specs.declared.calls.Call.TheVariants.{Activate, ProcessSwPackage}
+use Rattle.pm_types.specs.declared.clusters.Cluster.{Cluster}
+use Rattle.pm_types.specs.declared.clusters.Extent.{Extent}
+use Rattle.pm_types.specs.Clusters.{planned, unmet_among}
+use Rattle.pm_types.specs.declared.clusters.Part.{Part}
+use Rattle.pm_types.specs.declared.replies.Refusal.{Refusal}
+use Rattle.pm_types.specs.declared.replies.Refusal.TheVariants.{InvalidTransferId, OperationNotPermitted}
+use Rattle.pm_types.specs.declared.replies.Reply.{Reply}
+use Rattle.pm_types.specs.declared.replies.Reply.TheVariants.{Done, Refused}
+use Rattle.pm_types.specs.declared.state.StoredTransfer.{StoredTransfer}
+use Rattle.pm_types.specs.declared.status.Phase.{Phase}
+use Rattle.pm_types.specs.declared.status.Phase.TheVariants.{Transferring, Transferred, Processing as BeingProcessed, Processed}
+use Rattle.pm_types.specs.declared.status.Status.{Status}
+use Rattle.pm_types.specs.declared.status.Status.TheVariants.{Idle}
+use Rattle.pm_types.specs.NodeState.{Session, SessionOf, Transfer, is_in, phase_code, some_passes}
+use Rattle.pm_types.specs.Refusals.{first_refusal}
+use Rattle.pm_types.specs.Sessions.{Goal, activate_refusal, begin_processing, changes_in, is_wrong_tag, new_session, parts_refusal, process_refusal, session_refusals, status_table}
+use Rattle.pm_types.specs.Stored.{Areas, State, IsInOrder, IsPlaced, change_meaning, cluster_place, meaning, names_fit_places, session_meaning, slots_differ, transfer_meaning}
+use Rattle.pm_types.specs.Transfers.{parts_of, transfer_of}
+use Rattle.pm_types.specs.Validity.{should_run}
+use Rattle.transfer_blocks.specs.declared.found.Found.{Found}
+use Rattle.transfer_blocks.specs.Table.{found_of, stored_header, stored_of}
+use Rattle.node_laws.proofs.Lists.{each-imp, found-has}
+use Rattle.node_laws.proofs.Lists.{both-none, is-transferred, not-false, rows-clear}
+use Rattle.node_laws.proofs.Sessions.{free-of}
+use Rattle.node_core.specs.Core.{Holding, IsJudged, IsReady, IsSound, node_of, refusal_by}
+use Rattle.node_core.specs.declared.prepared.Prepared.{Prepared}
+use Rattle.node_core.specs.Packages.{package_reading}
+use Rattle.node_core.specs.Places.{IsCopied, IsCopiedIn, IsPartCopied}
+use Rattle.node_core.specs.Prepared.{session_kept, unmet_kept, with_length}
+use Rattle.node_core.specs.Sessions.{arrived, begun, changes_kept, contents_of, has_wrong_tag, missing_dependencies, opened, package_refusals, phased, taken_up}
+use Rattle.node_core.proofs.Arrived.{done-judged, led-judged, refused-judged}
+use Rattle.node_core.proofs.Natural.{parts-mean, parts-with-length, planned-means, unmet-means}
+use Rattle.node_core.proofs.Phased.{phased-means, phased-placed, phased-slots}
+use Rattle.node_core.proofs.Stored.{found-means, some-stored}
+
+-- what a stored transfer brings is what its package has
+contents-mean : (v : Holding) → IsSound v → (client id : ℕ) → contents_of (stored_of v.state.transfers client id) ≡ map with_length (parts_of (option_map (transfer_meaning package_reading v.areas) (stored_of v.state.transfers client id)))
+contents-mean v sound client id = go (stored_of v.state.transfers client id) refl
+  where
+    go : (o : Option StoredTransfer) → stored_of v.state.transfers client id ≡ o → contents_of o ≡ map with_length (parts_of (option_map (transfer_meaning package_reading v.areas) o))
+    go None e = refl
+    go (Some u) e = (found-has _ (IsPlaced package_reading v.areas) v.state.transfers u sound.order.transfers e).1.contents
+
+-- the rows before the parts are those of what is stored
+rows-mean : (v : Holding) (client id tag : ℕ) → first_refusal (
+    (is_wrong_tag (node_of v) client tag, OperationNotPermitted)
+    ∷ (is_none (transfer_of (node_of v) client id), InvalidTransferId)
+    ∷ (some_passes (λ (t : Transfer). not (is_in Transferred t.header)) (transfer_of (node_of v) client id), OperationNotPermitted)
+    ∷ []) ≡ first_refusal (package_refusals v.state.session client tag (stored_header v.state.transfers client id))
+rows-mean v client id tag =
+    ap (λ o. first_refusal (
+    (is_wrong_tag (node_of v) client tag, OperationNotPermitted)
+    ∷ (is_none o, InvalidTransferId)
+    ∷ (some_passes (λ (t : Transfer). not (is_in Transferred t.header)) o, OperationNotPermitted)
+    ∷ [])) (found-means package_reading v.areas client id v.state.transfers)
+    ∙ go v.state.session (stored_of v.state.transfers client id)
+  where
+    go : (x : Option (SessionOf Extent)) (o : Option StoredTransfer) → first_refusal (
+        ((if client == 0 then tag == 0 else not (tag == 0)) || some_passes (λ (x : Session). not (x.tag == tag)) (option_map (session_meaning v.areas) x), OperationNotPermitted)
+        ∷ (is_none (option_map (transfer_meaning package_reading v.areas) o), InvalidTransferId)
+        ∷ (some_passes (λ (t : Transfer). not (is_in Transferred t.header)) (option_map (transfer_meaning package_reading v.areas) o), OperationNotPermitted)
+        ∷ []) ≡ first_refusal (package_refusals x client tag (option_map (λ t. t.header) o))
+    go None None = refl
+    go None (Some u) = refl
+    go (Some x) None = refl
+    go (Some x) (Some u) = refl
+
+-- the parts are refused as what is stored of them
+parts-refused : (v : Holding) → IsSound v → (client id : ℕ) → parts_refusal (node_of v).running (changes_in (node_of v)) [] (parts_of (transfer_of (node_of v) client id)) ≡ parts_refusal v.state.running (changes_kept v.state) [] (contents_of (stored_of v.state.transfers client id))
+parts-refused v sound client id =
+    ap (λ o. parts_refusal (node_of v).running (changes_in (node_of v)) [] (parts_of o)) (found-means package_reading v.areas client id v.state.transfers)
+    ∙ ap (λ l. parts_refusal (node_of v).running l [] (parts_of (option_map (transfer_meaning package_reading v.areas) (stored_of v.state.transfers client id)))) (changes-mean v.state.session)
+    ∙ parts-mean v.areas v.state.running (changes_kept v.state) [] (parts_of (option_map (transfer_meaning package_reading v.areas) (stored_of v.state.transfers client id)))
+    ∙ sym (parts-with-length v.state.running (changes_kept v.state) [] (parts_of (option_map (transfer_meaning package_reading v.areas) (stored_of v.state.transfers client id))))
+    ∙ ap (parts_refusal v.state.running (changes_kept v.state) []) (sym (contents-mean v sound client id))
+  where
+    changes-mean : (o : Option (SessionOf Extent)) → option_map_or (λ (x : Session). x.changes) (option_map (session_meaning v.areas) o) [] ≡ map (change_meaning v.areas) (option_map_or (λ (x : SessionOf Extent). x.changes) o [])
+    changes-mean None = refl
+    changes-mean (Some x) = refl
+
+-- ProcessSwPackage is refused by what is stored
+pub process-by : {v w : Holding} → v ≡ w → IsSound w → (client id tag : ℕ) (found : Option Found) (o q : Option Refusal) → found ≡ found_of v.state.transfers client id
+    → o ≡ first_refusal (package_refusals v.state.session client tag (option_map (λ f. f.header) found))
+    → q ≡ parts_refusal w.state.running (changes_kept w.state) [] (contents_of (stored_of w.state.transfers client id))
+    → first_refusal (session_refusals (node_of w) client (ProcessSwPackage id tag)) ≡ None → refusal_by w client (ProcessSwPackage id tag) ≡ option_or o q
+process-by {v = v} {w = w} same sound client id tag found o q there judged parts none =
+    ap (λ x. option_or x (process_refusal (node_of w) client tag (transfer_of (node_of w) client id))) none
+    ∙ (λ i. option_or (rows-mean w client id tag i) (parts-refused w sound client id i))
+    ∙ (λ i. option_or (rows i) (sym parts i))
+  where
+    of : (s : Option StoredTransfer) → option_map (λ t. t.header) s ≡ option_map (λ (f : Found). f.header) (option_map (λ t. record { header = t.header; slot = t.slot }) s)
+    of None = refl
+    of (Some t) = refl
+
+    rows : first_refusal (package_refusals w.state.session client tag (stored_header w.state.transfers client id)) ≡ o
+    rows =
+        ap (λ (x : Holding). first_refusal (package_refusals x.state.session client tag (stored_header x.state.transfers client id))) (sym same)
+        ∙ ap (λ h. first_refusal (package_refusals v.state.session client tag h)) (of (stored_of v.state.transfers client id) ∙ ap (option_map (λ (f : Found). f.header)) (sym there))
+        ∙ sym judged
+
+-- the same, by the rows before the parts
+pub package-refused : {v w : Holding} → v ≡ w → IsSound w → (client id tag : ℕ) (found : Option Found) (o : Option Refusal) (why : Refusal) → found ≡ found_of v.state.transfers client id
+    → o ≡ first_refusal (package_refusals v.state.session client tag (option_map (λ f. f.header) found))
+    → first_refusal (session_refusals (node_of w) client (ProcessSwPackage id tag)) ≡ None → o ≡ Some why → refusal_by w client (ProcessSwPackage id tag) ≡ Some why
+package-refused {w = w} same sound client id tag found o why there judged none some =
+    let parts = parts_refusal w.state.running (changes_kept w.state) [] (contents_of (stored_of w.state.transfers client id)) in
+    process-by same sound client id tag found o parts there judged refl none ∙ ap (λ x. option_or x parts) some
+
+-- names twice fit places where they do once
+fit-twice : (pairs : List (List ℕ × ℕ)) → names_fit_places (pairs ++ []) ≡ true → names_fit_places (pairs ++ (pairs ++ [])) ≡ true
+fit-twice pairs fits =
+    subst (λ l. names_fit_places (pairs ++ l) ≡ true) (sym (append-nil pairs))
+    (twice _ pairs pairs (inner pairs (subst (λ l. names_fit_places l ≡ true) (append-nil pairs) fits)) (inner pairs (subst (λ l. names_fit_places l ≡ true) (append-nil pairs) fits)))
+  where
+    twice : {X : Type 0} (p : X → Bool) (xs ys : List X) → list_all p xs ≡ true → list_all p ys ≡ true → list_all p (xs ++ ys) ≡ true
+    twice p [] ys h k = k
+    twice p (x ∷ xs) ys h k = let parts = and_parts (p x) (list_all p xs) h in both_true parts.0 (twice p xs ys parts.1 k)
+
+    inner : (xs : List (List ℕ × ℕ)) → list_all (λ a. list_all (λ b. beq (bytes_eq a.0 b.0) (a.1 == b.1)) pairs) xs ≡ true → list_all (λ a. list_all (λ b. beq (bytes_eq a.0 b.0) (a.1 == b.1)) (pairs ++ pairs)) xs ≡ true
+    inner [] h = refl
+    inner (x ∷ xs) h =
+        let parts = and_parts (list_all (λ b. beq (bytes_eq x.0 b.0) (x.1 == b.1)) pairs) _ h in
+        both_true (twice (λ b. beq (bytes_eq x.0 b.0) (x.1 == b.1)) pairs pairs parts.0 parts.0) (inner xs parts.1)
+
+-- what taking up a package leaves
+module _ (v : Holding) (sound : IsSound v) (client id tag : ℕ) (u : StoredTransfer) (e : stored_of v.state.transfers client id ≡ Some u) (phase : u.header.phase ≡ Transferred) where
+  -- the session that takes it up
+  abbrev takes_up : Option (SessionOf Extent) → SessionOf Extent
+  takes_up o = unwrap_or o (opened v.state.running client tag)
+
+  was-whole : (phase_code u.header.phase == 0) ≡ false
+  was-whole = ap (λ p. phase_code p == 0) phase
+
+  begun-means : meaning package_reading v.areas (begun id (Some (takes_up v.state.session)) v.state) ≡ begin_processing (node_of v) client id tag
+  begun-means =
+      ap (λ ts. record (meaning package_reading v.areas (begun id (Some (takes_up v.state.session)) v.state)) { transfers = ts }) (phased-means v sound client id u e BeingProcessed was-whole refl)
+      ∙ ap (λ o. record (begin_processing (node_of v) client id tag) { session = Some o }) (go v.state.session)
+    where
+      go : (o : Option (SessionOf Extent)) → session_meaning v.areas (taken_up id (takes_up o)) ≡ record (unwrap_or (option_map (session_meaning v.areas) o) (new_session (node_of v) client tag)) { processing = Some id; units_done = 0 }
+      go None = refl
+      go (Some x) = refl
+
+  begun-order : IsInOrder package_reading v.areas (begun id (Some (takes_up v.state.session)) v.state)
+  begun-order = go v.state.session refl sound.order
+    where
+      placed : AllByRecursion (IsPlaced package_reading v.areas) (phased id BeingProcessed v.state.transfers)
+      placed = phased-placed v sound client id u e BeingProcessed was-whole refl
+
+      slots : slots_differ (map (λ t. t.slot) (phased id BeingProcessed v.state.transfers)) ≡ true
+      slots = phased-slots v sound client id u e BeingProcessed was-whole refl
+
+      go : (o : Option (SessionOf Extent)) → v.state.session ≡ o → IsInOrder package_reading v.areas (record v.state { session = o }) → IsInOrder package_reading v.areas (begun id (Some (takes_up o)) (record v.state { session = o }))
+      go None none i = record {
+        clusters = i.clusters;
+        session = (i.clusters, tt, refl);
+        transfers = placed;
+        slots = slots;
+        places = fit-twice (map cluster_place v.state.running) i.places;
+        running = subst (λ st. v.state.running ≡ should_run (taken_up id (opened v.state.running client tag)) st None) (sym idle) refl;
+      }
+        where
+          idle : v.state.status ≡ Idle
+          idle = (free-of (node_of v) (ap (option_map (session_meaning v.areas)) none) sound.fit.consistent).idle
+      go (Some x) some i = record {
+        clusters = i.clusters;
+        session = i.session;
+        transfers = placed;
+        slots = slots;
+        places = i.places;
+        running = i.running;
+      }
+
+  begun-copied : IsCopied package_reading v.areas (begun id (Some (takes_up v.state.session)) v.state)
+  begun-copied = all (begun id (Some (takes_up v.state.session)) v.state).transfers
+    where
+      every : (parts : List (Part Bytes)) → AllByRecursion (IsPartCopied v.areas (begun id (Some (takes_up v.state.session)) v.state)) parts
+      every [] = tt
+      every (part ∷ parts) = (refl, every parts)
+
+      in_phase : (t : StoredTransfer) (phase : Phase) → IsCopiedIn package_reading v.areas (begun id (Some (takes_up v.state.session)) v.state) t phase
+      in_phase t Transferring = tt
+      in_phase t Transferred = tt
+      in_phase t BeingProcessed = every (transfer_meaning package_reading v.areas t).parts
+      in_phase t Processed = tt
+
+      all : (ts : List StoredTransfer) → AllByRecursion (λ t. IsCopiedIn package_reading v.areas (begun id (Some (takes_up v.state.session)) v.state) t t.header.phase) ts
+      all [] = tt
+      all (t ∷ ts) = (in_phase t t.header.phase, all ts)
+
+-- the session that was taken: the node's own, or the one that is ready
+taken-is : (o kept : Option (SessionOf Extent)) (x : SessionOf Extent) → (o ≡ None → kept ≡ Some x) → option_or o kept ≡ Some (unwrap_or o x)
+taken-is None kept x ready = ready refl
+taken-is (Some y) kept x ready = refl
+
+-- ProcessSwPackage
+pub process-judged : (v : Holding) (client id tag : ℕ) (reply : Reply) (goal : Goal) (w new : Holding) → IsSound v → IsReady v client (ProcessSwPackage id tag) → refusal_by v client (ProcessSwPackage id tag) ≡ None
+    → status_table v.state.status (ProcessSwPackage id tag) ≡ Some goal → w ≡ record v { state = begun id (option_or v.state.session (session_kept v.prepared)) v.state; prepared = w.prepared }
+    → reply ≡ Done → new ≡ record w { state = arrived goal w.state } → IsJudged v client (ProcessSwPackage id tag) reply new
+process-judged v client id tag reply goal w new sound ready none table begins replies leads =
+    let x = unwrap_or v.state.session (opened v.state.running client tag) in
+    let began : w ≡ record v { state = begun id (Some x) v.state; prepared = w.prepared } = begins ∙ ap (λ o. record v { state = begun id o v.state; prepared = w.prepared }) (taken-is v.state.session (session_kept v.prepared) (opened v.state.running client tag) (ready none)) in
+    let is : new ≡ record v { state = arrived goal (begun id (Some x) v.state); prepared = w.prepared } = leads ∙ ap (λ (y : Holding). record y { state = arrived goal y.state }) began in
+    subst (λ (y : Reply × Holding). IsJudged v client (ProcessSwPackage id tag) y.0 y.1) (sym (λ i. (replies i, is i))) judged
+  where
+    rows : first_refusal (package_refusals v.state.session client tag (stored_header v.state.transfers client id)) ≡ None
+    rows =
+        sym (rows-mean v client id tag)
+        ∙ (both-none (first_refusal (
+        (is_wrong_tag (node_of v) client tag, OperationNotPermitted)
+        ∷ (is_none (transfer_of (node_of v) client id), InvalidTransferId)
+        ∷ (some_passes (λ (t : Transfer). not (is_in Transferred t.header)) (transfer_of (node_of v) client id), OperationNotPermitted)
+        ∷ [])) (parts_refusal (node_of v).running (changes_in (node_of v)) [] (parts_of (transfer_of (node_of v) client id)))
+        (both-none (first_refusal (session_refusals (node_of v) client (ProcessSwPackage id tag))) (process_refusal (node_of v) client tag (transfer_of (node_of v) client id)) none).1).0
+
+    clear : AllByRecursion (λ row. row.0 ≡ false) (package_refusals v.state.session client tag (stored_header v.state.transfers client id))
+    clear = rows-clear (package_refusals v.state.session client tag (stored_header v.state.transfers client id)) rows
+
+    there : (u : StoredTransfer) × (stored_of v.state.transfers client id ≡ Some u)
+    there = some-stored (stored_of v.state.transfers client id) clear.1.0
+
+    phase : there.0.header.phase ≡ Transferred
+    phase = is-transferred there.0.header (not-false _ (ap (λ o. some_passes (λ h. not (is_in Transferred h)) (option_map (λ t. t.header) o)) (sym there.1) ∙ clear.1.1.0))
+
+    judged : IsJudged v client (ProcessSwPackage id tag) Done (record v { state = arrived goal (begun id (Some (unwrap_or v.state.session (opened v.state.running client tag))) v.state); prepared = w.prepared })
+    judged =
+        done-judged v client (ProcessSwPackage id tag) goal (begun id (Some (unwrap_or v.state.session (opened v.state.running client tag))) v.state) w.prepared (begin_processing (node_of v) client id tag) none refl refl
+        (begun-means v sound client id tag there.0 there.1 phase) table (begun-order v sound client id tag there.0 there.1 phase) (begun-copied v sound client id tag there.0 there.1 phase) refl
+
+-- Activate is refused by the need that was looked for
+pub activate-by : (v : Holding) (client : ℕ) (why : Option Refusal) → IsReady v client Activate → first_refusal (session_refusals (node_of v) client Activate) ≡ None → why ≡ unwrap_or (unmet_kept v.prepared) None → refusal_by v client Activate ≡ why
+activate-by v client why ready none taken = ap (λ o. option_or o (activate_refusal (node_of v))) none ∙ sym (taken ∙ ap (λ o. unwrap_or o None) (ready none))
+
+-- Activate with an unmet need, and without
+pub activate-refused : (v : Holding) (client : ℕ) (o : Option Refusal) (why : Refusal) → IsSound v → IsReady v client Activate → first_refusal (session_refusals (node_of v) client Activate) ≡ None → o ≡ unwrap_or (unmet_kept v.prepared) None → o ≡ Some why
+    → IsJudged v client Activate (Refused why) v
+activate-refused v client o why sound ready none taken some = refused-judged v client Activate why v.prepared sound (activate-by v client o ready none taken ∙ some)
+
+pub activate-judged : (v : Holding) (client : ℕ) (reply : Reply) (goal : Goal) (new : Holding) (o : Option Refusal) → IsSound v → IsReady v client Activate → first_refusal (session_refusals (node_of v) client Activate) ≡ None → o ≡ unwrap_or (unmet_kept v.prepared) None → o ≡ None
+    → status_table v.state.status Activate ≡ Some goal → reply ≡ Done → new ≡ record v { state = arrived goal v.state } → IsJudged v client Activate reply new
+activate-judged v client reply goal new o sound ready passed taken none table replies leads =
+    led-judged v client Activate reply new goal sound (activate-by v client o ready passed taken ∙ none) refl refl table replies leads
+
+-- what the planned clusters leave unmet refuses an activation
+pub missing-is : {v w : Holding} → v ≡ w → (cs : List (Cluster Extent)) → cs ≡ option_map_or (λ (x : SessionOf Extent). planned x.changes x.saved) v.state.session v.state.running → option_map missing_dependencies (unmet_among cs) ≡ activate_refusal (node_of w)
+missing-is {v = v} same cs is = ap (option_map missing_dependencies) (ap unmet_among is ∙ go v.state.session) ∙ ap (λ (x : Holding). activate_refusal (node_of x)) same
+  where
+    go : (o : Option (SessionOf Extent)) → unmet_among (option_map_or (λ (x : SessionOf Extent). planned x.changes x.saved) o v.state.running) ≡ unmet_among (option_map_or (λ (x : Session). planned x.changes x.saved) (option_map (session_meaning v.areas) o) (node_of v).running)
+    go None = sym (unmet-means v.areas v.state.running)
+    go (Some x) = sym (unmet-means v.areas (planned x.changes x.saved)) ∙ ap unmet_among (sym (planned-means v.areas x.changes x.saved))

@@ -1,0 +1,112 @@
+-- What is said of names, versions and needs is the same of where contents lie as of the contents.
+use Rattle.std.proofs.Common.{◌≡◌, refl, sym, ap, ◌∙◌, ℕ, Bool, true, false, List, [], ◌∷◌, ◌++◌, length, map, filter}
+use Rattle.std.specs.Prelude.{◌&&◌, ◌||◌, not, nat_le, option_map, Option, Some, None}
+use Rattle.std.specs.List.{list_any}
+use Rattle.std.specs.Option.{option_or}
+use Rattle.std.specs.Str.{bytes_eq}
+use Rattle.std.proofs.lemmas.List.{map-append}
+use Rattle.ucm_base.specs.declared.parts.Action.{Action}
+use Rattle.ucm_base.specs.declared.parts.Action.TheVariants.{Install, Update, Remove}
+use Rattle.ucm_base.specs.Limits.{cluster_limit}
+use Rattle.ucm_base.specs.Names.{different_names, name_lt}
+use Rattle.ucm_base.specs.Needs.{Needing, missing}
+use Rattle.ucm_base.specs.Parts.{Bytes}
+use Rattle.ucm_base.specs.Versions.{is_newer}
+use Rattle.pm_types.specs.declared.clusters.Change.{Change}
+use Rattle.pm_types.specs.declared.clusters.Cluster.{Cluster}
+use Rattle.pm_types.specs.declared.clusters.Extent.{Extent}
+use Rattle.pm_types.specs.declared.clusters.Part.{Part}
+use Rattle.pm_types.specs.declared.replies.Refusal.{Refusal}
+use Rattle.pm_types.specs.declared.replies.Refusal.TheVariants.{OldVersion, ActionNotApplicable, TooManyClusters, ClusterAlreadyChanged}
+use Rattle.pm_types.specs.NodeState.{some_passes}
+use Rattle.pm_types.specs.Clusters.{brought, changed_as, changed_by, cluster_at, cluster_of, has_cluster, planned, unmet_among, with_cluster, without}
+use Rattle.pm_types.specs.Refusals.{first_refusal}
+use Rattle.pm_types.specs.Sessions.{is_install, is_old, is_update, names_among, part_refusals, parts_refusal, suits}
+use Rattle.pm_types.specs.Stored.{Areas, change_meaning, cluster_meaning, on_side}
+use Rattle.node_core.specs.Prepared.{with_length}
+use Rattle.node_core.proofs.Lists.{filter-map, find-map}
+
+any-map : {X Y : Type 0} (p : Y → Bool) (f : X → Y) (xs : List X) → list_any p (map f xs) ≡ list_any (λ x. p (f x)) xs
+any-map p f [] = refl
+any-map p f (x ∷ xs) = ap (λ b. p (f x) || b) (any-map p f xs)
+
+map-map : {X Y Z : Type 0} (g : Y → Z) (f : X → Y) (xs : List X) → map g (map f xs) ≡ map (λ x. g (f x)) xs
+map-map g f [] = refl
+map-map g f (x ∷ xs) = ap (λ l. g (f x) ∷ l) (map-map g f xs)
+
+passes-map : {X Y : Type 0} (p : Y → Bool) (f : X → Y) (o : Option X) → some_passes p (option_map f o) ≡ some_passes (λ x. p (f x)) o
+passes-map p f None = refl
+passes-map p f (Some x) = refl
+
+-- a part is refused as one with another payload
+module _ {C D : Type 0} (running : List (Cluster C)) (changes : List (Change D)) where
+  -- the refusal by the names that stand before
+  abbrev rows-refuse : List (List ℕ) → Part Bytes → Option Refusal
+  rows-refuse names part = first_refusal (
+      (list_any (λ change. bytes_eq (cluster_of change.part) (cluster_of part)) changes, ClusterAlreadyChanged)
+      ∷ (not (suits part.manifest.action (has_cluster running (cluster_of part))), ActionNotApplicable)
+      ∷ (is_old part running, OldVersion)
+      ∷ (is_install part.manifest.action && nat_le cluster_limit (length (different_names (map (λ c. c.name) running ++ map (λ change. cluster_of change.part) changes ++ names))), TooManyClusters)
+      ∷ [])
+
+  pub parts-with-length : (before parts : List (Part Bytes)) → parts_refusal running changes (map with_length before) (map with_length parts) ≡ parts_refusal running changes before parts
+  parts-with-length before [] = refl
+  parts-with-length before (part ∷ parts) =
+      (λ i. option_or (rows-refuse (map-map cluster_of with_length before i) part) (parts_refusal running changes (map with_length before ++ with_length part ∷ []) (map with_length parts)))
+      ∙ ap (λ l. option_or (first_refusal (part_refusals running changes before part)) (parts_refusal running changes l (map with_length parts))) (sym (map-append with_length before (part ∷ [])))
+      ∙ ap (option_or (first_refusal (part_refusals running changes before part))) (parts-with-length (before ++ part ∷ []) parts)
+
+module _ (areas : Areas) where
+  abbrev means : List (Cluster Extent) → List (Cluster Bytes)
+  means cs = map (cluster_meaning areas) cs
+
+  abbrev plans : List (Change Extent) → List (Change Bytes)
+  plans changes = map (change_meaning areas) changes
+
+  pub has-means : (cs : List (Cluster Extent)) (name : List ℕ) → has_cluster (means cs) name ≡ has_cluster cs name
+  has-means cs name = any-map (λ (c : Cluster Bytes). bytes_eq c.name name) (cluster_meaning areas) cs
+
+  pub at-means : (cs : List (Cluster Extent)) (name : List ℕ) → cluster_at (means cs) name ≡ option_map (cluster_meaning areas) (cluster_at cs name)
+  at-means cs name = find-map (cluster_meaning areas) (λ (c : Cluster Bytes). bytes_eq c.name name) cs
+
+  -- parts are refused as what stands stored says
+  pub refused-means : {E : Type 0} (running : List (Cluster Extent)) (changes : List (Change Extent)) (before : List (Part E)) (part : Part E) → part_refusals (means running) (plans changes) before part ≡ part_refusals running changes before part
+  refused-means running changes before part = λ i.
+      (any-map (λ (c : Change Bytes). bytes_eq (cluster_of c.part) (cluster_of part)) (change_meaning areas) changes i, ClusterAlreadyChanged)
+      ∷ (not (suits part.manifest.action (has-means running (cluster_of part) i)), ActionNotApplicable)
+      ∷ (is_update part.manifest.action && older i, OldVersion)
+      ∷ (is_install part.manifest.action && nat_le cluster_limit (length (different_names (names i))), TooManyClusters)
+      ∷ []
+    where
+      older : some_passes (λ (c : Cluster Bytes). not (is_newer part.manifest.version c.version)) (cluster_at (means running) (cluster_of part)) ≡ some_passes (λ (c : Cluster Extent). not (is_newer part.manifest.version c.version)) (cluster_at running (cluster_of part))
+      older = ap (some_passes (λ (c : Cluster Bytes). not (is_newer part.manifest.version c.version))) (at-means running (cluster_of part)) ∙ passes-map (λ (c : Cluster Bytes). not (is_newer part.manifest.version c.version)) (cluster_meaning areas) (cluster_at running (cluster_of part))
+
+      names : map (λ (c : Cluster Bytes). c.name) (means running) ++ map (λ (c : Change Bytes). cluster_of c.part) (plans changes) ++ map cluster_of before ≡ map (λ (c : Cluster Extent). c.name) running ++ map (λ (c : Change Extent). cluster_of c.part) changes ++ map cluster_of before
+      names = λ i. map-map (λ (c : Cluster Bytes). c.name) (cluster_meaning areas) running i ++ map-map (λ (c : Change Bytes). cluster_of c.part) (change_meaning areas) changes i ++ map cluster_of before
+
+  pub parts-mean : {E : Type 0} (running : List (Cluster Extent)) (changes : List (Change Extent)) (before parts : List (Part E)) → parts_refusal (means running) (plans changes) before parts ≡ parts_refusal running changes before parts
+  parts-mean running changes before [] = refl
+  parts-mean running changes before (part ∷ parts) = λ i. option_or (first_refusal (refused-means running changes before part i)) (parts-mean running changes (before ++ part ∷ []) parts i)
+
+  -- planned changes
+  brought-means : (part : Part Extent) → Part Bytes
+  brought-means part = record { manifest = part.manifest; payload = on_side areas part.payload }
+
+  with-means : (c : Cluster Extent) (cs : List (Cluster Extent)) → with_cluster (cluster_meaning areas c) (means cs) ≡ means (with_cluster c cs)
+  with-means c cs =
+      (λ i. sym (filter-map (cluster_meaning areas) (λ (d : Cluster Bytes). name_lt d.name c.name) cs) i ++ cluster_meaning areas c ∷ sym (filter-map (cluster_meaning areas) (λ (d : Cluster Bytes). name_lt c.name d.name) cs) i)
+      ∙ sym (map-append (cluster_meaning areas) (filter (λ (d : Cluster Extent). name_lt d.name c.name) cs) (c ∷ filter (λ (d : Cluster Extent). name_lt c.name d.name) cs))
+
+  changed-means : (a : Action) (c : Cluster Extent) (cs : List (Cluster Extent)) → changed_as a (cluster_meaning areas c) (means cs) ≡ means (changed_as a c cs)
+  changed-means Install c cs = with-means c cs
+  changed-means Update c cs = with-means c cs
+  changed-means Remove c cs = sym (filter-map (cluster_meaning areas) (λ (d : Cluster Bytes). not (bytes_eq d.name c.name)) cs)
+
+  pub planned-means : (changes : List (Change Extent)) (cs : List (Cluster Extent)) → planned (plans changes) (means cs) ≡ means (planned changes cs)
+  planned-means [] cs = refl
+  planned-means (change ∷ changes) cs =
+      ap (planned (plans changes)) (changed-means change.part.manifest.action (brought change.part) cs) ∙ planned-means changes (changed_by change.part cs)
+
+  -- what is needed
+  pub unmet-means : (cs : List (Cluster Extent)) → unmet_among (means cs) ≡ unmet_among cs
+  unmet-means cs = ap missing (map-map (λ (c : Cluster Bytes). record { name = c.name; version = c.version; needs = c.needs }) (cluster_meaning areas) cs)

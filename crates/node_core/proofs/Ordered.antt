@@ -1,0 +1,141 @@
+-- Clusters in order of name: each is inserted behind those that stand before it.
+use Rattle.std.proofs.Common.{◌≡◌, refl, sym, subst, ap, ap₂, ◌∙◌, arith, ℕ, ◌≤◌, Bool, true, false, List, [], ◌∷◌, ◌++◌, cond, length, filter, take, drop, fold}
+use Rattle.std.specs.Prelude.{◌||◌, not}
+use Rattle.std.specs.List.{AllByRecursion, insert}
+use Rattle.std.specs.Str.{bytes_eq}
+use Rattle.std.specs.Ordering.{nat_cmp, is_lt, is_eq, ordering_reverse}
+use Rattle.std.specs.Cmp.Lexicographic.{slice_cmp, texts_ties}
+use Rattle.std.specs.declared.cmp.Ordering.{Ordering}
+use Rattle.std.specs.declared.cmp.Ordering.TheVariants.{Less, Equal, Greater}
+use Rattle.std.proofs.lemmas.Bool.{and_parts}
+use Rattle.std.proofs.lemmas.Cmp.{nat_list_cmp_total}
+use Rattle.std.proofs.lemmas.List.{length-append}
+use Rattle.std.proofs.lemmas.List.Edits.{length-insert}
+use Rattle.std.proofs.lemmas.List.Sums.{fold-append}
+use Rattle.ucm_base.specs.declared.parts.Action.TheVariants.{Install}
+use Rattle.ucm_base.specs.Names.{all_differ, has_name, name_lt, names_rise}
+use Rattle.ucm_base.specs.Parts.{Bytes}
+use Rattle.pm_types.specs.declared.clusters.Cluster.{Cluster}
+use Rattle.pm_types.specs.Clusters.{with_cluster}
+use Rattle.node_laws.proofs.Lists.{each-append, each-filter, each-imp, each-unmap, length-filter}
+use Rattle.node_laws.proofs.NameLists.{lt-trans, name-eq, names-behind, names-tail}
+use Rattle.node_laws.proofs.NameLists.{names_of, planned-rise}
+use Rattle.node_core.specs.Format.{in_order, named_before}
+
+-- the order of names is strict and total
+less-is : (o : Ordering) → is_lt o ≡ true → o ≡ Less
+less-is Less e = refl
+less-is Equal e = absurd (cc)
+less-is Greater e = absurd (cc)
+
+lt-not : (a b : List ℕ) → name_lt a b ≡ true → name_lt b a ≡ false
+lt-not a b h = ap is_lt (nat_list_cmp_total.antisymm b a ∙ ap ordering_reverse (less-is (slice_cmp nat_cmp a b) h))
+
+pub lt-differ : (a b : List ℕ) → name_lt a b ≡ true → bytes_eq a b ≡ false
+lt-differ a b h = go (bytes_eq a b) refl
+  where
+    go : (x : Bool) → bytes_eq a b ≡ x → bytes_eq a b ≡ false
+    go false e = e
+    go true e =
+        let same = name-eq a b e in
+        absurd (let z = lt-not a b h in let w : name_lt b a ≡ true = ap₂ name_lt (sym same) same ∙ h in let f : ⊥ = cc in f)
+
+lt-other : (a b : List ℕ) → name_lt a b ≡ false → bytes_eq a b ≡ false → name_lt b a ≡ true
+lt-other a b h differ = go (slice_cmp nat_cmp a b) refl
+  where
+    go : (o : Ordering) → slice_cmp nat_cmp a b ≡ o → name_lt b a ≡ true
+    go Less e = absurd (let z = sym (ap is_lt e) ∙ h in let f : ⊥ = cc in f)
+    go Equal e = absurd (let z : bytes_eq a b ≡ true = texts_ties a b ∙ ap is_eq e in let f : ⊥ = cc in f)
+    go Greater e = ap is_lt (nat_list_cmp_total.antisymm b a ∙ ap ordering_reverse e)
+
+module _ (n : List ℕ) where
+  abbrev behind : List (Cluster Bytes) → List (Cluster Bytes)
+  behind cs = filter (λ d. name_lt n d.name) cs
+
+  none-before : (cs : List (Cluster Bytes)) → AllByRecursion (λ d. name_lt n d.name ≡ true) cs → named_before n cs ≡ []
+  none-before [] h = refl
+  none-before (d ∷ cs) h = ap (λ b. cond b (d ∷ named_before n cs) (named_before n cs)) (lt-not n d.name h.0) ∙ none-before cs h.1
+
+  all-behind : (cs : List (Cluster Bytes)) → AllByRecursion (λ d. name_lt n d.name ≡ true) cs → behind cs ≡ cs
+  all-behind [] h = refl
+  all-behind (d ∷ cs) h = ap (λ b. cond b (d ∷ behind cs) (behind cs)) h.0 ∙ ap (λ l. d ∷ l) (all-behind cs h.1)
+
+  -- a rising list is cut where a name belongs
+  cut : (cs : List (Cluster Bytes)) → names_rise (names_of cs) ≡ true → AllByRecursion (λ d. bytes_eq d.name n ≡ false) cs
+      → (take (length (named_before n cs)) cs ≡ named_before n cs) × (drop (length (named_before n cs)) cs ≡ behind cs)
+  cut [] r apart = (refl, refl)
+  cut (d ∷ cs) r apart = go (name_lt d.name n) refl (cut cs (names-tail d.name (names_of cs) r) apart.1)
+    where
+      go : (b : Bool) → name_lt d.name n ≡ b → (take (length (named_before n cs)) cs ≡ named_before n cs) × (drop (length (named_before n cs)) cs ≡ behind cs)
+          → (take (length (cond b (d ∷ named_before n cs) (named_before n cs))) (d ∷ cs) ≡ cond b (d ∷ named_before n cs) (named_before n cs))
+          × (drop (length (cond b (d ∷ named_before n cs) (named_before n cs))) (d ∷ cs) ≡ cond (name_lt n d.name) (d ∷ behind cs) (behind cs))
+      go true e rest = (ap (λ l. d ∷ l) rest.0, rest.1 ∙ sym (ap (λ b. cond b (d ∷ behind cs) (behind cs)) (lt-not d.name n e)))
+      go false e rest =
+          let first = lt-other d.name n e apart.0 in
+          let later = each-imp _ _ (λ x h. lt-trans n d.name x.name first h) cs (each-unmap (λ x. name_lt d.name x ≡ true) (λ (x : Cluster Bytes). x.name) cs (names-behind d.name (names_of cs) r)) in
+          let none = none-before cs later in (
+            ap (λ l. take (length l) (d ∷ cs)) none ∙ sym none,
+            ap (λ l. drop (length l) (d ∷ cs)) none ∙ sym (ap (λ b. cond b (d ∷ behind cs) (behind cs)) first ∙ ap (λ l. d ∷ l) (all-behind cs later)),
+          )
+
+inserted : (c : Cluster Bytes) (cs : List (Cluster Bytes)) → names_rise (names_of cs) ≡ true → AllByRecursion (λ d. bytes_eq d.name c.name ≡ false) cs → insert cs (length (named_before c.name cs)) c ≡ with_cluster c cs
+inserted c cs r apart = let at = cut c.name cs r apart in ap₂ (λ xs ys. xs ++ c ∷ ys) at.0 at.1
+
+with-rise : (c : Cluster Bytes) (cs : List (Cluster Bytes)) → names_rise (names_of cs) ≡ true → names_rise (names_of (with_cluster c cs)) ≡ true
+with-rise c cs r =
+    planned-rise (record { transfer = 0; part = record { manifest = record { action = Install; name = c.name; version = c.version; needs = c.needs; sha256 = [] }; payload = c.content } } ∷ []) cs r
+
+rises-from : (cs ordered : List (Cluster Bytes)) → names_rise (names_of ordered) ≡ true → names_rise (names_of (fold (λ ordered c. with_cluster c ordered) ordered cs)) ≡ true
+rises-from [] ordered r = r
+rises-from (c ∷ cs) ordered r = rises-from cs (with_cluster c ordered) (with-rise c ordered r)
+
+pub order-rises : (cs : List (Cluster Bytes)) → names_rise (names_of (in_order cs)) ≡ true
+order-rises cs = rises-from cs [] refl
+
+each-from : (P : Cluster Bytes → Type 0) (cs ordered : List (Cluster Bytes)) → AllByRecursion P ordered → AllByRecursion P cs → AllByRecursion P (fold (λ ordered c. with_cluster c ordered) ordered cs)
+each-from P [] ordered h k = h
+each-from P (c ∷ cs) ordered h k = each-from P cs (with_cluster c ordered) (each-append P _ _ (each-filter P _ ordered h) (k.0, each-filter P _ ordered h)) k.1
+
+-- what is so of each is so of each in order
+pub order-each : (P : Cluster Bytes → Type 0) (cs : List (Cluster Bytes)) → AllByRecursion P cs → AllByRecursion P (in_order cs)
+order-each P cs h = each-from P cs [] tt h
+
+-- a name that none of these has
+apart : (ys : List (Cluster Bytes)) (c : Cluster Bytes) (rest : List (Cluster Bytes)) → all_differ (names_of (ys ++ c ∷ rest)) ≡ true → AllByRecursion (λ d. bytes_eq d.name c.name ≡ false) ys
+apart [] c rest h = tt
+apart (y ∷ ys) c rest h =
+    let parts = and_parts (not (has_name (names_of (ys ++ c ∷ rest)) y.name)) (all_differ (names_of (ys ++ c ∷ rest))) h in
+    (not-there ys (refused _ parts.0), apart ys c rest parts.1)
+  where
+    refused : (b : Bool) → not b ≡ true → b ≡ false
+    refused false e = refl
+    refused true e = absurd (cc)
+
+    left : (a b : Bool) → (a || b) ≡ false → (a ≡ false) × (b ≡ false)
+    left false b e = (refl, e)
+    left true b e = absurd (cc)
+
+    not-there : (zs : List (Cluster Bytes)) → has_name (names_of (zs ++ c ∷ rest)) y.name ≡ false → bytes_eq y.name c.name ≡ false
+    not-there [] e = (left (bytes_eq y.name c.name) (has_name (names_of rest) y.name) e).0
+    not-there (z ∷ zs) e = not-there zs (left (bytes_eq y.name z.name) (has_name (names_of (zs ++ c ∷ rest)) y.name) e).1
+
+-- one cluster more is inserted where it belongs
+pub one-inserted : (ys : List (Cluster Bytes)) (c : Cluster Bytes) (rest : List (Cluster Bytes)) → all_differ (names_of (ys ++ c ∷ rest)) ≡ true
+    → insert (in_order ys) (length (named_before c.name (in_order ys))) c ≡ in_order (ys ++ c ∷ [])
+one-inserted ys c rest h =
+    inserted c (in_order ys) (order-rises ys) (order-each (λ d. bytes_eq d.name c.name ≡ false) ys (apart ys c rest h))
+    ∙ sym (fold-append (λ ordered c. with_cluster c ordered) [] ys (c ∷ []))
+
+-- the next one of a list in order
+module _ (ordered ys rest all new : List (Cluster Bytes)) (c : Cluster Bytes) (k : ℕ) (at : k ≡ length (named_before c.name ordered)) (is : new ≡ insert ordered k c) where
+  pub next-ordered : ys ++ c ∷ rest ≡ all → all_differ (names_of all) ≡ true → ordered ≡ in_order ys → new ≡ in_order (ys ++ c ∷ [])
+  next-ordered whole differ so_far =
+      is ∙ ap (λ j. insert ordered j c) at ∙ ap (λ l. insert l (length (named_before c.name l)) c) so_far
+      ∙ one-inserted ys c rest (ap (λ l. all_differ (names_of l)) whole ∙ differ)
+
+  pub next-length : length ordered ≡ length ys → length new ≡ length (ys ++ c ∷ [])
+  next-length same =
+      let few : k ≤ length ordered = subst (λ j. j ≤ length ordered) (sym at) (length-filter (λ d. name_lt d.name c.name) ordered) in
+      let one = length-append ys (c ∷ []) in
+      let more = ap length is ∙ length-insert ordered k c few in
+      omega (arith, one, more, same)

@@ -1,0 +1,159 @@
+-- A transfer that goes to another phase, and the session with it.
+use Rattle.std.proofs.Common.{◌≡◌, refl, sym, subst, ap, ◌∙◌, ℕ, Bool, true, false, [], ◌∷◌, List, map, length, take}
+use Rattle.std.specs.Prelude.{◌==◌, if◌then◌else◌, not, option_map, slice_index_or, Option, Some, None}
+use Rattle.std.specs.List.{AllByRecursion}
+use Rattle.std.specs.Option.{option_or}
+use Rattle.ucm_base.specs.declared.parts.Action.{Action}
+use Rattle.ucm_base.specs.declared.parts.Action.TheVariants.{Install, Update, Remove}
+use Rattle.ucm_base.specs.declared.parts.Manifest.{Manifest}
+use Rattle.pm_types.specs.declared.calls.Call.TheVariants.{Cancel}
+use Rattle.pm_types.specs.declared.clusters.Extent.{Extent}
+use Rattle.pm_types.specs.declared.replies.Refusal.{Refusal}
+use Rattle.pm_types.specs.declared.replies.Reply.{Reply}
+use Rattle.pm_types.specs.declared.replies.Reply.TheVariants.{Done}
+use Rattle.pm_types.specs.declared.state.StoredTransfer.{StoredTransfer}
+use Rattle.pm_types.specs.declared.status.Phase.{Phase}
+use Rattle.pm_types.specs.declared.status.Phase.TheVariants.{Transferring, Transferred, Processing as BeingProcessed, Processed}
+use Rattle.pm_types.specs.NodeState.{NodeState, Session, SessionOf, Transfer, is_in, phase_code, some_passes}
+use Rattle.pm_types.specs.Refusals.{first_refusal}
+use Rattle.pm_types.specs.Sessions.{Goal, cancel_refusals, session_refusals, status_table, stop_processing}
+use Rattle.pm_types.specs.Steps.{refusal}
+use Rattle.pm_types.specs.Stored.{Areas, State, IsInOrder, IsPlaced, meaning, session_meaning, slots_differ, transfer_meaning}
+use Rattle.pm_types.specs.Transfers.{header_of, in_phase, parts_read, transfer_of, with_phase}
+use Rattle.transfer_blocks.specs.declared.found.Found.{Found}
+use Rattle.transfer_blocks.specs.Table.{found_of, moved, stored_header, stored_of}
+use Rattle.node_laws.proofs.Lists.{each-imp, found-has}
+use Rattle.node_laws.proofs.Lists.{both-none, is-processing, not-false, rows-clear}
+use Rattle.node_core.specs.Core.{Holding, IsJudged, IsSound, node_of, refusal_by}
+use Rattle.node_core.specs.Packages.{package_reading}
+use Rattle.node_core.specs.Places.{IsCopied, IsCopiedIn, goes_to, units_done}
+use Rattle.node_core.specs.Prepared.{with_length}
+use Rattle.node_core.specs.Sessions.{arrived, paused, phased, stopped}
+use Rattle.node_core.proofs.Arrived.{copied-in, done-judged}
+use Rattle.node_core.proofs.Judged.{rise}
+use Rattle.node_core.proofs.Lists.{change-each}
+use Rattle.node_core.proofs.Stored.{changed-means, header-means, only-has, some-stored}
+
+abbrev slot_of : StoredTransfer → ℕ
+slot_of t = t.slot
+
+-- the slots are as they were
+pub same-slots : (id : ℕ) (phase : Phase) (ts : List StoredTransfer) → map (λ t. t.slot) (phased id phase ts) ≡ map (λ t. t.slot) ts
+same-slots id phase [] = refl
+same-slots id phase (t ∷ ts) = by (t.header.id == id) ∙ ap (λ l. t.slot ∷ l) (same-slots id phase ts)
+  where
+    by : (b : Bool) → slot_of (if b then moved phase t else t) ∷ map (λ t. t.slot) (phased id phase ts) ≡ t.slot ∷ map (λ t. t.slot) (phased id phase ts)
+    by true = refl
+    by false = refl
+
+module _ (v : Holding) (sound : IsSound v) (client id : ℕ) (u : StoredTransfer) (e : stored_of v.state.transfers client id ≡ Some u) (phase : Phase) (whole : (phase_code u.header.phase == 0) ≡ false) (stays : (phase_code phase == 0) ≡ false) where
+  -- a transfer that is whole has the same parts in the other phase
+  same-meaning : transfer_meaning package_reading v.areas (moved phase u) ≡ record (transfer_meaning package_reading v.areas u) { header = in_phase phase u.header }
+  same-meaning =
+      let bytes = take u.header.received (slice_index_or v.areas.slots u.slot []) in
+      ap (λ b. record { header = in_phase phase u.header; bytes = bytes; parts = if b then [] else parts_read (package_reading bytes) }) (stays ∙ sym whole)
+
+  pub phased-means : map (transfer_meaning package_reading v.areas) (phased id phase v.state.transfers) ≡ (with_phase id phase (node_of v)).transfers
+  phased-means = changed-means package_reading v.areas client id (moved phase) (λ t. record t { header = in_phase phase t.header }) v.state.transfers u (rise v sound) e same-meaning
+
+  pub phased-placed : AllByRecursion (IsPlaced package_reading v.areas) (phased id phase v.state.transfers)
+  phased-placed =
+      let own = (found-has _ (IsPlaced package_reading v.areas) v.state.transfers u sound.order.transfers e).1 in
+      change-each (IsPlaced package_reading v.areas) (λ t. t.header.id == id) (moved phase) v.state.transfers
+      (only-has (λ t. IsPlaced package_reading v.areas (moved phase t)) client id v.state.transfers u (rise v sound) e
+      (record { slot = own.slot; contents = own.contents ∙ ap (λ (t : Transfer). map with_length t.parts) (sym same-meaning) }))
+      sound.order.transfers
+
+  pub phased-slots : slots_differ (map (λ t. t.slot) (phased id phase v.state.transfers)) ≡ true
+  phased-slots = ap slots_differ (same-slots id phase v.state.transfers) ∙ sound.order.slots
+
+-- Cancel is refused by what is stored
+pub cancel-by : {v w : Holding} → v ≡ w → (client id : ℕ) (found : Option Found) (o : Option Refusal) → found ≡ found_of v.state.transfers client id → o ≡ first_refusal (cancel_refusals (option_map (λ f. f.header) found))
+    → first_refusal (session_refusals (node_of w) client (Cancel id)) ≡ None → refusal_by w client (Cancel id) ≡ o
+cancel-by {v = v} {w = w} same client id found o there judged none =
+    ap (λ x. option_or x (first_refusal (cancel_refusals (header_of (transfer_of (node_of w) client id))))) none
+    ∙ ap (λ h. first_refusal (cancel_refusals h)) (header-means package_reading w.areas client id w.state.transfers ∙ ap (λ (x : Holding). stored_header x.state.transfers client id) (sym same) ∙ of (stored_of v.state.transfers client id) ∙ ap (option_map (λ f. f.header)) (sym there))
+    ∙ sym judged
+  where
+    of : (s : Option StoredTransfer) → option_map (λ t. t.header) s ≡ option_map (λ (f : Found). f.header) (option_map (λ t. record { header = t.header; slot = t.slot }) s)
+    of None = refl
+    of (Some t) = refl
+
+-- what stopping leaves
+module _ (v : Holding) (sound : IsSound v) (client id : ℕ) (u : StoredTransfer) (e : stored_of v.state.transfers client id ≡ Some u) (phase : u.header.phase ≡ BeingProcessed) where
+  was-whole : (phase_code u.header.phase == 0) ≡ false
+  was-whole = ap (λ p. phase_code p == 0) phase
+
+  stopped-means : meaning package_reading v.areas (stopped id v.state) ≡ stop_processing (node_of v) id
+  stopped-means =
+      ap (λ ts. record (meaning package_reading v.areas (stopped id v.state)) { transfers = ts }) (phased-means v sound client id u e Transferred was-whole refl)
+      ∙ ap (λ o. record (stop_processing (node_of v) id) { session = o }) (go v.state.session)
+    where
+      go : (o : Option (SessionOf Extent)) → option_map (session_meaning v.areas) (option_map paused o) ≡ option_map (λ (x : Session). record x { processing = None }) (option_map (session_meaning v.areas) o)
+      go None = refl
+      go (Some x) = refl
+
+  stopped-order : IsInOrder package_reading v.areas (stopped id v.state)
+  stopped-order = go v.state.session sound.order
+    where
+      go : (o : Option (SessionOf Extent)) → IsInOrder package_reading v.areas (record v.state { session = o }) → IsInOrder package_reading v.areas (stopped id (record v.state { session = o }))
+      go None i = record {
+        clusters = i.clusters;
+        session = tt;
+        transfers = phased-placed v sound client id u e Transferred was-whole refl;
+        slots = phased-slots v sound client id u e Transferred was-whole refl;
+        places = i.places;
+        running = tt;
+      }
+      go (Some x) i = record {
+        clusters = i.clusters;
+        session = i.session;
+        transfers = phased-placed v sound client id u e Transferred was-whole refl;
+        slots = phased-slots v sound client id u e Transferred was-whole refl;
+        places = i.places;
+        running = i.running;
+      }
+
+  stopped-copied : IsCopied package_reading v.areas (stopped id v.state)
+  stopped-copied = go v.state.session sound.copied
+    where
+      goes : (o : Option (SessionOf Extent)) (m : Manifest) (a : Action) → goes_to (stopped id (record v.state { session = o })) m a ≡ goes_to (record v.state { session = o }) m a
+      goes None m Install = refl
+      goes None m Update = refl
+      goes None m Remove = refl
+      goes (Some x) m Install = refl
+      goes (Some x) m Update = refl
+      goes (Some x) m Remove = refl
+
+      done : (o : Option (SessionOf Extent)) → units_done (stopped id (record v.state { session = o })) ≡ units_done (record v.state { session = o })
+      done None = refl
+      done (Some x) = refl
+
+      go : (o : Option (SessionOf Extent)) → IsCopied package_reading v.areas (record v.state { session = o }) → IsCopied package_reading v.areas (stopped id (record v.state { session = o }))
+      go o copied =
+          let n : State = stopped id (record v.state { session = o }) in
+          change-each (λ t. IsCopiedIn package_reading v.areas n t t.header.phase) (λ t. t.header.id == id) (moved Transferred) v.state.transfers
+          (each-imp _ _ (λ t c q. tt) v.state.transfers copied)
+          (each-imp _ _ (λ t c. copied-in v.areas (record v.state { session = o }) n (done o) (goes o) t t.header.phase c) v.state.transfers copied)
+
+-- Cancel
+pub cancel-judged : (v : Holding) (client id : ℕ) (reply : Reply) (goal : Goal) (w new : Holding) → IsSound v → refusal_by v client (Cancel id) ≡ None → status_table v.state.status (Cancel id) ≡ Some goal
+    → w ≡ record v { state = stopped id v.state } → reply ≡ Done → new ≡ record w { state = arrived goal w.state } → IsJudged v client (Cancel id) reply new
+cancel-judged v client id reply goal w new sound none table stops replies leads =
+    let is : new ≡ record v { state = arrived goal (stopped id v.state) } = leads ∙ ap (λ (x : Holding). record x { state = arrived goal x.state }) stops in
+    subst (λ (x : Reply × Holding). IsJudged v client (Cancel id) x.0 x.1) (sym (λ i. (replies i, is i))) judged
+  where
+    clear : AllByRecursion (λ row. row.0 ≡ false) (cancel_refusals (stored_header v.state.transfers client id))
+    clear = rows-clear (cancel_refusals (stored_header v.state.transfers client id))
+        (ap (λ h. first_refusal (cancel_refusals h)) (sym (header-means package_reading v.areas client id v.state.transfers)) ∙ (both-none (first_refusal (session_refusals (node_of v) client (Cancel id))) (first_refusal (cancel_refusals (header_of (transfer_of (node_of v) client id)))) none).1)
+
+    there : (u : StoredTransfer) × (stored_of v.state.transfers client id ≡ Some u)
+    there = some-stored (stored_of v.state.transfers client id) clear.0
+
+    phase : there.0.header.phase ≡ BeingProcessed
+    phase = is-processing there.0.header (not-false _ (ap (λ o. some_passes (λ h. not (is_in BeingProcessed h)) (option_map (λ t. t.header) o)) (sym there.1) ∙ clear.1.0))
+
+    judged : IsJudged v client (Cancel id) Done (record v { state = arrived goal (stopped id v.state) })
+    judged =
+        done-judged v client (Cancel id) goal (stopped id v.state) v.prepared (stop_processing (node_of v) id) none refl refl
+        (stopped-means v sound client id there.0 there.1 phase) table (stopped-order v sound client id there.0 there.1 phase) (stopped-copied v sound client id there.0 there.1 phase) refl

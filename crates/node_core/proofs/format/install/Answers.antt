@@ -1,0 +1,23 @@
+use Rattle.std.proofs.Common.{◌≡◌, ◌++◌, ◌∷◌, [], length, ap, sym, ◌∙◌, append_assoc, arith}
+use Rattle.std.specs.Vec.Iter.{into_iter_items}
+use Rattle.node_core.proofs.Formatted.{next-installed}
+use Rattle.node_core.proofs.format.install.Goals as goal
+
+pub loop-cluster-preserved : goal.loop-cluster-preserved
+loop-cluster-preserved g c =
+    let at = c.loop-cluster in
+    let x = c.in-Some.cluster in
+    let rest = into_iter_items c.next.new.self in
+    let steps : into_iter_items at.cluster-iterator ≡ x ∷ rest = c.in-Some.ensures.steps.0 in
+    let whole = ap (λ l. at.yielded ++ l) (sym steps) ∙ at.invariant.0 ∙ c.into_iter-cluster-iterator.ensures.into_iter_gives.0 in (
+      append_assoc at.yielded (x ∷ []) _ ∙ ap (λ l. at.yielded ++ l) (sym steps) ∙ at.invariant.0,
+      next-installed (g.S.Staging.areas at.staging) (g.S.Staging.areas c.put.new.staging) (g.met.S.Staging.areas_fit at.staging) at.running.items c.add.new.running.items at.yielded rest c.args.clusters.items x c.len-place.result c.as_slice.result.now
+          at.invariant.1 whole c.requires.few (c.len-place.ensures ∙ at.running.ok.0) c.as_slice.ensures.bytes c.in_ok-put.ensures.put c.in_ok-add.ensures,
+      let so_far = at.invariant.2 in
+          let more = c.in_ok-put.ensures.faults in
+          omega (arith, so_far, more),
+      let was = at.invariant.3 in
+          let gone = c.in-Some.ensures.steps.1 in
+          let short = ap length steps in
+          omega (arith, was, gone, short),
+    )

@@ -1,0 +1,12 @@
+use Rattle.std.proofs.Common.{◌≡◌, ◌≤◌, ◌+◌, length}
+use Rattle.node_core.specs.Sessions.{count_of}
+use Rattle.node_core.proofs.session_rules.is_full.Given as goal
+
+abbrev pub invariant-loop-rest : goal.invariant-loop-rest
+invariant-loop-rest l = record {
+  counted : l.count + count_of l.rest l.changes ≡ count_of l.fn.clusters l.changes;
+  few : l.count + length l.rest ≤ length l.fn.clusters;
+}
+
+abbrev pub decreases-loop-rest : goal.decreases-loop-rest
+decreases-loop-rest l = length l.rest

@@ -1,0 +1,144 @@
+//! A node in memory.
+ghost use Rattle.std.specs.Prelude.{◌≡◌, ◌<◌, ◌≤◌, ◌+◌, OnOk, IsErrOf};
+ghost use Rattle.ucm_base.specs.Limits.{entry_limit};
+ghost use Rattle.transfer_blocks.specs.Faults.{HasRisen};
+ghost use Rattle.node_laws.specs.Fit.{IsFit};
+ghost use Rattle.node_core.specs.Packages.{package_reading};
+ghost use Rattle.node_core.specs.Core.{IsReady, IsReserved, IsSound, holding, node_of, step_by};
+
+use crate::held::Held;
+use crate::prepared::Prepared;
+use pm_types::{Call, Reached, State};
+use std::alloc::{AllocError, Global};
+use std::marker::Model;
+use transfer_blocks::{Staging, StagingFault, Transfers};
+use ucm_base::{CallNo, ClientId};
+
+/// Why nothing was reserved.
+#[derive(Clone, Copy, Debug, PartialEq, Eq)]
+pub enum Hold {
+    /// What keeps the areas failed; its count of faults rose in this call.
+    StagingFailed,
+    OutOfMemory,
+}
+
+impl From<AllocError> for Hold {
+    ghost use Rattle.std.specs.Prelude.{◌≡◌};
+    ghost use Rattle.node_core.specs.declared.node.Hold.TheVariants.{OutOfMemory};
+
+    ghost from_gives = { λ _ h. h ≡ OutOfMemory };
+
+    fn from(_refused: AllocError) -> Hold {
+        Hold::OutOfMemory
+    }
+}
+
+impl From<StagingFault> for Hold {
+    ghost use Rattle.std.specs.Prelude.{◌≡◌};
+    ghost use Rattle.node_core.specs.Holds.{hold_of};
+
+    ghost from_gives = { λ fault h. h ≡ hold_of fault };
+
+    fn from(fault: StagingFault) -> Hold {
+        match fault {
+            StagingFault::Failed => Hold::StagingFailed,
+            StagingFault::OutOfMemory => Hold::OutOfMemory,
+        }
+    }
+}
+
+/// A node, seen as its stored state, its areas, and what is ready for the next call.
+#[derive(Drop)]
+pub struct Core<S: Staging> {
+    pub(crate) held: Held<S>,
+}
+
+impl<S: Staging> Model for Core<S> {
+    ghost use Rattle.node_core.specs.Core.{Holding, IsSound};
+
+    ghost Value = { Holding };
+
+    ghost view = { λ c. c.held };
+
+    ghost invariant = { λ c. IsSound c.held };
+}
+
+impl<S: Staging> Core<S> {
+    /// A node that goes on from this state. It takes no memory.
+    pub fn new(staging: S, state: State) -> Core<S>
+        requires { IsSound (holding (S.areas staging) (S.fault_count staging) state) }
+        ensures { result ≡ holding (S.areas staging) (S.fault_count staging) state }
+    {
+        let State {
+            status,
+            next_id,
+            running,
+            transfers,
+            session,
+            last,
+            ended,
+            entries,
+            lines,
+        } = state;
+        let transfers = Transfers::of(next_id, transfers);
+        let held = Held {
+            staging,
+            status,
+            transfers,
+            running,
+            session,
+            last,
+            ended,
+            entries,
+            lines,
+            prepared: Prepared::Nothing,
+        };
+        Core { held }
+    }
+
+    /// Takes all memory that the call needs, stages a block that the table accepts behind the bytes that came, and reads
+    /// a package that is closed. The node stays as it is.
+    pub fn reserve(
+        &mut self,
+        alloc: Global,
+        client: ClientId,
+        no: CallNo,
+        call: &Call,
+    ) -> Result<(), Hold>
+        ensures state { self.new.state ≡ self.old.state }
+        ensures node { node_of self.new ≡ node_of self.old }
+        ensures reserved { OnOk result (IsReserved self.new client no call.now) }
+        ensures cause { IsErrOf result Hold.StagingFailed
+            → HasRisen self.old.faults self.new.faults }
+        ensures faults { self.old.faults ≤ self.new.faults }
+    {
+        if self.held.repeated(client, no).is_some() {
+            return Ok(());
+        }
+        match call {
+            Call::TransferData { id, counter, bytes } => {
+                self.held.stage(client, *id, *counter, bytes.as_slice())
+            }
+            Call::TransferExit { id } => self.held.read(alloc, client, *id),
+            Call::ProcessSwPackage { id, tag } => self.held.open(alloc, client, *id, *tag),
+            Call::Activate => self.held.look(alloc, client),
+            _ => Ok(()),
+        }
+    }
+
+    /// Executes a numbered call after `reserve` of the same. It takes no memory.
+    pub fn exec(&mut self, client: ClientId, no: CallNo, call: &Call) -> Reached
+        requires reserved { IsReserved self.old client no call.now }
+        requires entries { self.old.state.entries < entry_limit }
+        ensures reached { result ≡ (step_by self.old client no call.now).1 }
+        ensures node { node_of self.new ≡ (step_by self.old client no call.now).0 }
+        ensures valid { IsFit package_reading (node_of self.new) }
+        ensures faults { self.new.faults ≡ self.old.faults }
+        ensures entries { self.new.state.entries ≤ self.old.state.entries + 1 }
+    {
+        match self.held.repeated(client, no) {
+            Some(reached) => reached,
+            None => Reached::Done(self.held.execute(client, no, call)),
+        }
+    }
+}

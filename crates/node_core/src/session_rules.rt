@@ -1,0 +1,208 @@
+//! The status table, and what refuses the calls on a session, row by row.
+ghost use Rattle.std.specs.Prelude.{◌≡◌, ◌≤◌, ◌==◌, ◌&&◌, [], length, nat_le, not, option_map};
+ghost use Rattle.ucm_base.specs.Limits.{cluster_limit};
+ghost use Rattle.ucm_base.specs.Versions.{is_newer};
+ghost use Rattle.pm_types.specs.Clusters.{cluster_at, has_cluster};
+ghost use Rattle.pm_types.specs.NodeState.{some_passes};
+ghost use Rattle.pm_types.specs.Refusals.{first_refusal};
+ghost use Rattle.pm_types.specs.Sessions.{cancel_refusals, is_update, part_refusals, status_table, suits};
+ghost use Rattle.node_core.specs.Sessions.{added, count_of, goal_of, has_wrong_tag, is_planned, package_refusals};
+
+use pm_types::{
+    Call, Change, Cluster, Contents, Extent, Header, Outcome, Phase, Refusal, Session, Status,
+};
+use std::cmp::Ordering;
+use transfer_blocks::Found;
+use ucm_base::limits::CLUSTER_LIMIT;
+use ucm_base::{Action, ClientId, ClusterName, Manifest};
+
+/// Where a call leads: to a status, to cleaning up with an outcome, or back to what was before processing.
+#[derive(Clone, Copy, Debug, PartialEq, Eq)]
+pub(crate) enum Goal {
+    To(Status),
+    CleanUp(Outcome),
+    Resume,
+}
+
+/// The status table: where a call leads from a status; none is its dash.
+pub(crate) fn goal_from(status: Status, call: &Call) -> Option<Goal>
+    ensures { option_map goal_of result ≡ status_table status call.now }
+{
+    match (status, call) {
+        (Status::Idle, Call::ProcessSwPackage { .. }) => Some(Goal::To(Status::Processing)),
+        (Status::Ready, Call::ProcessSwPackage { .. }) => Some(Goal::To(Status::Processing)),
+        (Status::Ready, Call::Activate) => Some(Goal::To(Status::Activating)),
+        (Status::Ready, Call::RevertProcessedSwPackages) => Some(Goal::CleanUp(Outcome::Old)),
+        (Status::Processing, Call::Cancel { .. }) => Some(Goal::Resume),
+        (Status::Verifying, Call::Rollback) => Some(Goal::To(Status::RollingBack)),
+        (Status::Activated, Call::Finish) => Some(Goal::CleanUp(Outcome::New)),
+        (Status::Activated, Call::Rollback) => Some(Goal::To(Status::RollingBack)),
+        (Status::RolledBack, Call::Finish) => Some(Goal::CleanUp(Outcome::Old)),
+        _ => None,
+    }
+}
+
+/// Whether the session is another client's.
+pub(crate) fn is_anothers(session: &Option<Session>, client: ClientId) -> bool
+    ensures { result ≡ some_passes (λ x. not (x.owner == client)) session.now }
+{
+    match session {
+        Some(session) => session.owner != client,
+        None => false,
+    }
+}
+
+/// Why the processing of a transfer isn't cancelled.
+pub(crate) fn cancel_refusal(found: Option<Found>) -> Option<Refusal>
+    ensures { result ≡ first_refusal (cancel_refusals (option_map (λ f. f.header) found)) }
+{
+    let Some(found) = found else {
+        return Some(Refusal::InvalidTransferId);
+    };
+    match found.header.phase {
+        Phase::Processing => None,
+        _ => Some(Refusal::OperationNotPermitted),
+    }
+}
+
+/// Whether the tag isn't the one that the client's session has: the master has one, others have none.
+fn has_wrong_tag(session: &Option<Session>, client: ClientId, tag: u32) -> bool
+    ensures { result ≡ has_wrong_tag session.now client tag }
+{
+    let is_wrong = if client.number() == 0 { tag == 0 } else { tag != 0 };
+    match session {
+        Some(session) => is_wrong || session.tag != tag,
+        None => is_wrong,
+    }
+}
+
+/// Why a package isn't processed, before its parts are looked at.
+pub(crate) fn package_refusal(
+    session: &Option<Session>,
+    client: ClientId,
+    tag: u32,
+    found: Option<Found>,
+) -> Option<Refusal>
+    ensures { result ≡ first_refusal
+        (package_refusals session.now client tag (option_map (λ f. f.header) found)) }
+{
+    if has_wrong_tag(session, client, tag) {
+        return Some(Refusal::OperationNotPermitted);
+    }
+    let Some(found) = found else {
+        return Some(Refusal::InvalidTransferId);
+    };
+    match found.header.phase {
+        Phase::Transferred => None,
+        _ => Some(Refusal::OperationNotPermitted),
+    }
+}
+
+/// Why a part of a package isn't processed.
+pub(crate) fn part_refusal(
+    running: &[Cluster<Extent>],
+    changes: &[Change<Extent>],
+    part: &Contents,
+) -> Option<Refusal>
+    requires few { length changes.now ≤ cluster_limit }
+    ensures { result ≡ first_refusal (part_refusals running.now changes.now [] part.now) }
+{
+    let manifest = &part.manifest;
+    if is_changed(changes, manifest.name) {
+        return Some(Refusal::ClusterAlreadyChanged);
+    }
+    if !suits(manifest.action, has_cluster(running, manifest.name)) {
+        return Some(Refusal::ActionNotApplicable);
+    }
+    if is_old(running, manifest) {
+        return Some(Refusal::OldVersion);
+    }
+    if manifest.action == Action::Install && is_full(running, changes) {
+        return Some(Refusal::TooManyClusters);
+    }
+    None
+}
+
+/// Whether a change of the cluster is planned.
+fn is_changed(changes: &[Change<Extent>], name: ClusterName) -> bool
+    ensures { result ≡ is_planned changes.now name }
+{
+    changes.iter().any(|change| change.part.manifest.name == name)
+}
+
+/// Whether a cluster of the name is there.
+fn has_cluster(clusters: &[Cluster<Extent>], name: ClusterName) -> bool
+    ensures { result ≡ has_cluster clusters.now name }
+{
+    clusters.iter().any(|cluster| cluster.name == name)
+}
+
+/// Whether the action is one where the cluster is there, or isn't.
+fn suits(action: Action, is_there: bool) -> bool
+    ensures { result ≡ suits action is_there }
+{
+    match action {
+        Action::Install => !is_there,
+        Action::Update | Action::Remove => is_there,
+    }
+}
+
+/// Whether an Update isn't of higher precedence than what runs.
+fn is_old(running: &[Cluster<Extent>], manifest: &Manifest) -> bool
+    ensures { result ≡ (is_update manifest.now.action && some_passes
+        (λ c. not (is_newer manifest.now.version c.version))
+        (cluster_at running.now manifest.now.name)) }
+{
+    match (manifest.action, cluster_at(running, manifest.name)) {
+        (Action::Update, Some(cluster)) => {
+            manifest.version.precedence(&cluster.version) != Ordering::Greater
+        }
+        _ => false,
+    }
+}
+
+/// The cluster of a name.
+fn cluster_at(clusters: &[Cluster<Extent>], name: ClusterName) -> Option<&Cluster<Extent>>
+    ensures { option_map (λ c. c.now) result ≡ cluster_at clusters.now name }
+{
+    clusters.iter().find(|cluster| cluster.name == name)
+}
+
+/// Whether clusters and changes have as many different names as a node may have.
+fn is_full(clusters: &[Cluster<Extent>], changes: &[Change<Extent>]) -> bool
+    requires few { length changes.now ≤ cluster_limit }
+    ensures { result ≡ nat_le cluster_limit (count_of clusters.now changes.now) }
+{
+    let mut count = 0;
+    let mut rest = clusters;
+    while let [cluster, others @ ..] = rest {
+        count += added(others, changes, cluster.name);
+        rest = others;
+    }
+    count >= CLUSTER_LIMIT - count_changed(changes)
+}
+
+/// How many different clusters changes are of.
+fn count_changed(changes: &[Change<Extent>]) -> u64
+    ensures count { result ≡ count_of [] changes.now }
+    ensures few { result ≤ length changes.now }
+{
+    let mut count = 0;
+    let mut rest = changes;
+    while let [change, others @ ..] = rest {
+        count += added(&[], others, change.part.manifest.name);
+        rest = others;
+    }
+    count
+}
+
+/// 1 where no cluster and no change has the name, else 0.
+fn added(clusters: &[Cluster<Extent>], changes: &[Change<Extent>], name: ClusterName) -> u64
+    ensures { result ≡ added clusters.now changes.now name }
+{
+    if has_cluster(clusters, name) || is_changed(changes, name) {
+        0
+    } else {
+        1
+    }
+}
