@@ -5,14 +5,14 @@
 //! cause.
 #![tactic(auto)]
 
+mod answers;
 mod commands;
 mod inspect;
+mod node;
 mod output;
 mod pack;
 mod plain;
 mod replay;
-mod script;
-mod served;
 mod status;
 #[cfg(test)]
 mod tests;
