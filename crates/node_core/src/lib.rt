@@ -11,10 +11,12 @@ mod node;
 mod opening;
 mod plan;
 mod prepared;
+mod process;
 mod query;
 mod session_rules;
 mod sessions;
 mod transfers;
+mod units;
 
 pub use format::{Installed, format_areas};
 pub use node::{Core, Hold};
