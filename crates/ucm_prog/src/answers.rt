@@ -5,8 +5,8 @@ ghost use Rattle.ucm_prog.specs.Answers.{answer_text, call_word, change_shown, c
 
 use crate::inspect::word_of;
 use pm_types::{
-    Answer, CallName, ChangeInfo, ClusterInfo, Happened, Line, PackageInfo, Phase, Reached,
-    Reply, Worked,
+    Answer, CallName, ChangeInfo, ClusterInfo, Happened, Line, PackageInfo, Phase, Reached, Reply,
+    Worked,
 };
 use std::alloc::AllocError;
 

@@ -47,11 +47,7 @@ fn made_clusters(
     Ok(clusters)
 }
 
-fn made(
-    alloc: Global,
-    installed: &Installed,
-    attached: &[u8],
-) -> Result<Cluster<Block>, AllocError>
+fn made(alloc: Global, installed: &Installed, attached: &[u8]) -> Result<Cluster<Block>, AllocError>
     ensures { IfOk result (λ c. c ≡ cluster_meant attached.now installed.now) }
 {
     Ok(Cluster {
@@ -63,10 +59,7 @@ fn made(
 }
 
 /// A node in memory that has just been formatted with these clusters.
-fn formatted(
-    alloc: Global,
-    clusters: Vec<Cluster<Block>>,
-) -> Result<Core<MemStaging>, AllocError>
+fn formatted(alloc: Global, clusters: Vec<Cluster<Block>>) -> Result<Core<MemStaging>, AllocError>
     requires differ { IsTrue (all_differ (map (λ c. c.name) clusters.items)) }
     requires few { length clusters.items ≤ cluster_limit }
     requires short { AllByRecursion (λ c. length c.content ≤ package_limit) clusters.items }

@@ -173,7 +173,8 @@ fn the_first_refused_line_is_named(rt: HostRuntime) -> Result<(), Fail> {
     Ok(())
 }
 
-const QUERIES: &[u8] = b"time 1000\ncall 1 1 1.5 start 10\ncall 1 1 1.5 start 10\ncall 1 1 1.4 sync\n\
+const QUERIES: &[u8] =
+    b"time 1000\ncall 1 1 1.5 start 10\ncall 1 1 1.5 start 10\ncall 1 1 1.4 sync\n\
 call 1 1 1.6 rollback\ncall 1 1 1.6 rollback\nask 1 1 history 1000 2000\nask 1 1 history 0 1001\n\
 ask 1 1 packages\nask 1 2 packages\nask 1 1 progress 1\nask 1 2 progress 1\nask 1 1 status\nask 1 1 changes\n\
 call 1 1 1.7 sync\n";
@@ -184,7 +185,8 @@ const ANSWERS: &[u8] = b"2 Started 1\n3 Again Started 1\n4 Stale 1.5\n\
 9 Packages 1:Transferring:0/10\n10 Packages\n11 Progress 0\n12 Refused 3 InvalidTransferId\n\
 13 Status kIdle\n14 Changes\n15 Synced - - 1\n";
 
-const SESSION: &[u8] = b"installed 1 core 1.0.0 fill:10:01\npackage p1 remove core 1.0.0 fill:0:00\n\
+const SESSION: &[u8] =
+    b"installed 1 core 1.0.0 fill:10:01\npackage p1 remove core 1.0.0 fill:0:00\n\
 package p2 install app 2.0.0 fill:5000:02 core@^1.0.0\ncall 1 1 1.1 start size:p1\n\
 call 1 1 1.2 data 1 1 block:p1:1\ncall 1 1 1.3 exit 1\ncall 1 1 1.4 start size:p2\n\
 call 1 1 1.5 data 2 1 block:p2:1\ncall 1 1 1.6 data 2 2 block:p2:2\ncall 1 1 1.7 exit 2\n\
