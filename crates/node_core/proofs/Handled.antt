@@ -1,31 +1,27 @@
 -- What a unit of a package leaves of a sound node.
-use Rattle.std.proofs.Common.{◌≡◌, refl, sym, subst, ap, ◌∙◌, ℕ, ◌+◌, ◌-◌, ◌*◌, ◌<◌, ◌≤◌, Bool, true, false, List, [], ◌∷◌, ◌++◌, length, map, take, drop, arith}
-use Rattle.std.specs.Prelude.{◌==◌, ◌&&◌, not, min, nat_lt, if◌then◌else◌, find, unwrap_or, option_map, slice_index_or, IfSome, IsSomeAnd, Option, Some, None, Result, Ok, Err}
-use Rattle.std.specs.List.{AllByRecursion, list_all}
-use Rattle.std.specs.Option.{option_map_or}
-use Rattle.std.specs.Str.{bytes_eq}
-use Rattle.std.proofs.lemmas.Bool.{eq-eqb, ltb-true, ltb-false}
+use Rattle.std.proofs.Common.{◌≡◌, refl, sym, subst, ap, ◌∙◌, ℕ, ◌+◌, ◌*◌, ◌<◌, ◌≤◌, Bool, true, List, [], ◌∷◌, length, map, take, drop, arith}
+use Rattle.std.specs.Prelude.{◌==◌, nat_lt, if◌then◌else◌, option_map, slice_index_or, IfSome, IsSomeAnd, Option, Some, None, Result, Ok, Err}
+use Rattle.std.specs.List.{AllByRecursion}
+use Rattle.std.proofs.lemmas.Bool.{eq-eqb, ltb-true}
 use Rattle.std.proofs.lemmas.Bool.Decides.{nat_tests}
-use Rattle.std.proofs.lemmas.List.{map-append, take_all, take-take, length-take, length-drop}
+use Rattle.std.proofs.lemmas.List.{length-take, length-drop}
 use Rattle.std.proofs.lemmas.List.Sums.{sum_by-cons}
 use Rattle.ucm_base.specs.declared.parts.Action.{Action}
 use Rattle.ucm_base.specs.declared.parts.Action.TheVariants.{Install, Update, Remove}
 use Rattle.ucm_base.specs.declared.parts.Manifest.{Manifest}
-use Rattle.ucm_base.specs.Limits.{block_limit, cluster_limit, package_limit}
+use Rattle.ucm_base.specs.Limits.{block_limit}
 use Rattle.ucm_base.specs.Parts.{Bytes}
-use Rattle.pm_types.specs.declared.clusters.Change.{Change}
-use Rattle.pm_types.specs.declared.clusters.Cluster.{Cluster}
 use Rattle.pm_types.specs.declared.clusters.Extent.{Extent}
 use Rattle.pm_types.specs.declared.clusters.Part.{Part}
 use Rattle.pm_types.specs.declared.state.StoredTransfer.{StoredTransfer}
 use Rattle.pm_types.specs.declared.status.Phase.{Phase}
 use Rattle.pm_types.specs.declared.status.Phase.TheVariants.{Transferring, Transferred, Processing as BeingProcessed, Processed}
-use Rattle.pm_types.specs.declared.status.Status.TheVariants.{Processing, Ready}
-use Rattle.pm_types.specs.NodeState.{NodeState, Session, SessionOf, Transfer, is_in, phase_code, some_passes}
+use Rattle.pm_types.specs.declared.status.Status.TheVariants.{Processing}
+use Rattle.pm_types.specs.NodeState.{NodeState, SessionOf, Transfer, is_in, phase_code}
 use Rattle.pm_types.specs.Clusters.{all_units, units_of}
 use Rattle.pm_types.specs.Stored.{Areas, State, session_meaning, transfer_meaning}
 use Rattle.pm_types.specs.Transfers.{is_of, parts_of, parts_read, transfer_of}
-use Rattle.pm_types.specs.Validity.{IsSound as IsSoundTransfer, IsWholeFromTransferred}
+use Rattle.pm_types.specs.Validity.{IsWholeFromTransferred}
 use Rattle.pm_types.specs.Work.{processed, unit}
 use Rattle.package_reader.specs.declared.fault.PackageFault.{PackageFault}
 use Rattle.package_reader.specs.declared.package.Package.{Package}

@@ -1,13 +1,12 @@
 -- What the last unit of a package leaves of a sound node.
-use Rattle.std.proofs.Common.{◌≡◌, refl, sym, subst, ap, ◌∙◌, ℕ, ◌+◌, ◌-◌, ◌*◌, ◌^◌, ◌<◌, ◌≤◌, Bool, true, false, List, [], ◌∷◌, ◌++◌, length, map, take, drop, arith}
-use Rattle.std.specs.Prelude.{cond, slice_index_or, ◌==◌, ◌&&◌, ◌||◌, not, min, nat_lt, if◌then◌else◌, find, unwrap_or, option_map, IfSome, Option, Some, None}
-use Rattle.std.specs.List.{AllByRecursion, list_all}
+use Rattle.std.proofs.Common.{◌≡◌, refl, sym, subst, ap, ◌∙◌, ℕ, ◌+◌, ◌-◌, ◌*◌, ◌^◌, ◌<◌, ◌≤◌, Bool, true, false, List, [], ◌∷◌, ◌++◌, length, map, take, arith}
+use Rattle.std.specs.Prelude.{cond, slice_index_or, ◌==◌, ◌||◌, not, nat_lt, if◌then◌else◌, unwrap_or, Option, Some, None}
+use Rattle.std.specs.List.{AllByRecursion}
 use Rattle.std.specs.Option.{option_map_or}
 use Rattle.std.specs.Str.{bytes_eq}
-use Rattle.std.specs.Cmp.Derive.{both_true}
-use Rattle.std.proofs.lemmas.Bool.{and_parts, eq-eqb, eqb-true, le-ltb, lt-ltb, ltb-false, ltb-true}
+use Rattle.std.proofs.lemmas.Bool.{and_parts, eq-eqb, le-ltb, lt-ltb, ltb-false, ltb-true}
 use Rattle.std.proofs.lemmas.Bool.Decides.{nat_tests}
-use Rattle.std.proofs.lemmas.List.{length-map, length-append, length-take, append-nil, map-append, take_all, take-take}
+use Rattle.std.proofs.lemmas.List.{length-map, length-append, length-take, append-nil, map-append, take_all}
 use Rattle.ucm_base.specs.declared.parts.Action.{Action}
 use Rattle.ucm_base.specs.declared.parts.Action.TheVariants.{Install, Update, Remove}
 use Rattle.ucm_base.specs.declared.parts.Manifest.{Manifest}
@@ -23,12 +22,11 @@ use Rattle.pm_types.specs.declared.status.Phase.TheVariants.{Processing as Being
 use Rattle.pm_types.specs.declared.status.Status.TheVariants.{Processing, Ready}
 use Rattle.pm_types.specs.declared.status.Status.{Status}
 use Rattle.pm_types.specs.NodeState.{SessionOf, Transfer, is_in, phase_code}
-use Rattle.pm_types.specs.Transfers.{is_of, with_phase}
+use Rattle.pm_types.specs.Transfers.{is_of}
 use Rattle.pm_types.specs.Clusters.{cluster_at, cluster_of, has_cluster, units_of}
-use Rattle.pm_types.specs.Sessions.{applies, names_among, suits}
+use Rattle.pm_types.specs.Sessions.{applies, suits}
 use Rattle.pm_types.specs.Validity.{parts_in}
-use Rattle.pm_types.specs.Stored.{Areas, State, meaning, session_meaning, IsExtent, change_meaning, change_place, cluster_meaning, cluster_place, names_fit_places, on_side, places_in, takes_side, transfer_meaning}
-use Rattle.transfer_blocks.specs.declared.area.Area.{Area}
+use Rattle.pm_types.specs.Stored.{Areas, State, session_meaning, IsExtent, change_meaning, change_place, cluster_meaning, cluster_place, names_fit_places, on_side, places_in, takes_side, transfer_meaning}
 use Rattle.transfer_blocks.specs.Areas.{content_of}
 use Rattle.node_laws.proofs.Lists.{each-append, each-first, each-imp, each-map, each-unmap, found-has}
 use Rattle.node_laws.proofs.NameLists.{Within, eq-name, has-append, name-swap, name-eq, within-left, within-right, within-self}
@@ -39,14 +37,14 @@ use Rattle.node_core.specs.declared.prepared.Prepared.{Prepared}
 use Rattle.node_core.specs.Packages.{package_reading}
 use Rattle.node_core.specs.Prepared.{with_length}
 use Rattle.node_core.specs.Units.{IsReservedWork, IsUnit, IsUnitReady, change_kept, extent_in, stored_units, unit_end}
-use Rattle.transfer_blocks.specs.Table.{IsTable, Table, moved as moved_to, stored_of, with_stored}
+use Rattle.transfer_blocks.specs.Table.{Table, moved as moved_to, stored_of, with_stored}
 use Rattle.node_core.proofs.Phased.{phased-means, phased-placed, phased-slots}
 use Rattle.node_core.proofs.Sound.{table-is}
-use Rattle.node_core.proofs.Worked.{moved, none-copied, ready-at, sound-at, unit-at}
+use Rattle.node_core.proofs.Worked.{none-copied, ready-at, sound-at, unit-at}
 use Rattle.node_core.proofs.Free.{Pair, differ-few, each-fits, free-place, fresh-fits, is_taken}
 use Rattle.node_core.proofs.Handled.{InHand, at_process, busy, bytes_of, end-last, in-hand, more-unit, part-ready, part_of, parts-found, payload-fits, stored-one, unit-done}
 use Rattle.node_core.proofs.Natural.{has-means}
-use Rattle.node_core.proofs.Planned.{IsAmong, all-each, among-fit, each-all}
+use Rattle.node_core.proofs.Planned.{all-each, among-fit, each-all}
 
 behind : {X : Type 0} (P : X → Type 0) (xs ys : List X) → AllByRecursion P (xs ++ ys) → AllByRecursion P ys
 behind P [] ys h = h

@@ -1,5 +1,5 @@
 -- What planned changes of stored clusters mean, and that planned clusters are in order.
-use Rattle.std.proofs.Common.{◌≡◌, refl, sym, ap, ◌∙◌, ℕ, Bool, true, false, List, [], ◌∷◌, ◌++◌, map, filter}
+use Rattle.std.proofs.Common.{◌≡◌, refl, ap, ◌∙◌, ℕ, Bool, true, List, [], ◌∷◌, ◌++◌, map, filter}
 use Rattle.std.specs.Prelude.{not}
 use Rattle.std.specs.List.{AllByRecursion, list_all}
 use Rattle.std.specs.Str.{bytes_eq}
@@ -14,7 +14,7 @@ use Rattle.pm_types.specs.declared.clusters.Change.{Change}
 use Rattle.pm_types.specs.declared.clusters.Cluster.{Cluster}
 use Rattle.pm_types.specs.declared.clusters.Extent.{Extent}
 use Rattle.pm_types.specs.declared.clusters.Part.{Part}
-use Rattle.pm_types.specs.Clusters.{brought, changed_as, changed_by, planned, with_cluster, without}
+use Rattle.pm_types.specs.Clusters.{brought, changed_as, changed_by, planned, with_cluster}
 use Rattle.pm_types.specs.Stored.{Areas, change_meaning, cluster_meaning, change_place, cluster_place, names_fit_places}
 use Rattle.std.specs.Bool.{beq}
 use Rattle.std.specs.Prelude.{◌==◌}

@@ -1,5 +1,5 @@
 -- What a unit of work leaves of a sound node.
-use Rattle.std.proofs.Common.{◌≡◌, refl, sym, subst, ap, ◌∙◌, ℕ, ◌+◌, ◌<◌, Bool, true, false, List, [], ◌∷◌, ◌++◌, length, map, filter}
+use Rattle.std.proofs.Common.{◌≡◌, refl, sym, subst, ap, ◌∙◌, ℕ, ◌+◌, ◌<◌, Bool, true, false, List, [], ◌∷◌, ◌++◌, length, map}
 use Rattle.std.specs.Prelude.{nat_lt, not, ◌==◌, is_some, ◌||◌, if◌then◌else◌, option_and_then, option_map, slice_set, Option, Some, None}
 use Rattle.std.specs.List.{AllByRecursion}
 use Rattle.std.proofs.lemmas.List.{length-map}
@@ -12,9 +12,8 @@ use Rattle.pm_types.specs.declared.status.Phase.{Phase}
 use Rattle.pm_types.specs.declared.status.Phase.TheVariants.{Transferring, Transferred, Processing as BeingProcessed, Processed}
 use Rattle.pm_types.specs.declared.status.Status.{Status}
 use Rattle.pm_types.specs.declared.status.Status.TheVariants.{Idle, Ready, Processing, Activating, Verifying, Activated, RollingBack, RolledBack, CleaningUp}
-use Rattle.pm_types.specs.declared.transfers.Header.{Header}
 use Rattle.pm_types.specs.Clusters.{planned}
-use Rattle.pm_types.specs.NodeState.{NodeState, SessionOf, Transfer, has_status, is_in, is_working, phase_code, some_passes}
+use Rattle.pm_types.specs.NodeState.{SessionOf, Transfer, has_status, is_in, is_working, some_passes}
 use Rattle.pm_types.specs.Stored.{Areas, State, IsExtent, IsPlaced, change_meaning, change_place, cluster_place, names_fit_places, session_meaning, transfer_meaning}
 use Rattle.pm_types.specs.Validity.{SessionIsDue, id_in_processing, should_run}
 use Rattle.pm_types.specs.Work.{end_mark, unit, unit_of}

@@ -21,3 +21,4 @@ mod units;
 pub use format::{Installed, format_areas};
 pub use node::{Core, Hold};
 pub use prepared::Prepared;
+

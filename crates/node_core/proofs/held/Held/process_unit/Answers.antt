@@ -1,7 +1,6 @@
-use Rattle.std.proofs.Common.{◌≡◌, refl, sym, ap, subst, ◌∙◌, ◌+◌, ◌<◌, ◌≤◌, Some, arith}
+use Rattle.std.proofs.Common.{sym, ap, ◌∙◌, Some, arith}
 use Rattle.std.specs.Prelude.{option_map}
 use Rattle.node_core.specs.Core.{Holding}
-use Rattle.node_core.specs.Units.{stored_units}
 use Rattle.node_core.proofs.Lastly.{has-room, last-done, more-done, next-fits, not-lost, some-change}
 use Rattle.node_core.proofs.held.Held.process_unit.Goals as goal
 
