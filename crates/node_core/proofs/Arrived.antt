@@ -1,8 +1,7 @@
 -- Where a call leads, a stored node stands for the node there, and stays in order.
 use Rattle.std.proofs.Common.{◌≡◌, refl, sym, subst, ap, ◌∙◌, ℕ, ◌*◌, [], ◌∷◌, List, take}
-use Rattle.std.specs.Prelude.{option_map, Option, Some, None, IfSome}
+use Rattle.std.specs.Prelude.{Option, Some, None, IfSome}
 use Rattle.std.specs.Option.{option_map_or}
-use Rattle.std.specs.List.{AllByRecursion}
 use Rattle.ucm_base.specs.declared.parts.Action.{Action}
 use Rattle.ucm_base.specs.declared.parts.Action.TheVariants.{Install, Update, Remove}
 use Rattle.ucm_base.specs.declared.parts.Manifest.{Manifest}
@@ -19,25 +18,24 @@ use Rattle.pm_types.specs.declared.replies.Refusal.{Refusal}
 use Rattle.pm_types.specs.declared.replies.Reply.{Reply}
 use Rattle.pm_types.specs.declared.replies.Reply.TheVariants.{Done, Refused}
 use Rattle.pm_types.specs.declared.status.Outcome.{Outcome}
-use Rattle.pm_types.specs.declared.status.Outcome.TheVariants.{New, Old}
+use Rattle.pm_types.specs.declared.status.Outcome.TheVariants.{Old}
 use Rattle.pm_types.specs.declared.status.Phase.{Phase}
 use Rattle.pm_types.specs.declared.status.Phase.TheVariants.{Transferring, Transferred, Processing as BeingProcessed, Processed}
 use Rattle.pm_types.specs.declared.status.Status.{Status}
-use Rattle.pm_types.specs.declared.status.Status.TheVariants.{Idle, Ready, Processing, Activating, Verifying, Activated, RollingBack, RolledBack, CleaningUp}
+use Rattle.pm_types.specs.declared.status.Status.TheVariants.{Idle, Ready, Processing, Verifying, Activated, RolledBack, CleaningUp}
 use Rattle.pm_types.specs.declared.state.StoredTransfer.{StoredTransfer}
 use Rattle.pm_types.specs.NodeState.{NodeState, SessionOf}
-use Rattle.pm_types.specs.Refusals.{first_refusal}
-use Rattle.pm_types.specs.Sessions.{Goal, To, CleanUp, Resume, arrive, led_by, session_refusals, status_table}
+use Rattle.pm_types.specs.Sessions.{Goal, To, CleanUp, Resume, arrive, led_by, status_table}
 use Rattle.pm_types.specs.Steps.{acceptance, accepted, refused_or}
-use Rattle.pm_types.specs.Stored.{Areas, State, IsInOrder, meaning, session_meaning}
+use Rattle.pm_types.specs.Stored.{Areas, State, IsInOrder, meaning}
 use Rattle.pm_types.specs.Validity.{RunsWhatItShould, should_run}
 use Rattle.transfer_blocks.specs.declared.area.Area.{Area}
 use Rattle.node_laws.proofs.Lists.{each-imp}
 use Rattle.node_core.specs.Core.{Holding, IsJudged, IsSound, node_of, refusal_by, verdict_on}
 use Rattle.node_core.specs.declared.prepared.Prepared.{Prepared}
 use Rattle.node_core.specs.Packages.{package_reading}
-use Rattle.node_core.specs.Places.{IsCopied, IsCopiedIn, IsPartCopied, goes_to, units_done}
-use Rattle.node_core.specs.Sessions.{arrived, changes_kept, cleaning_up, ended}
+use Rattle.node_core.specs.Places.{IsCopied, IsCopiedIn, goes_to, units_done}
+use Rattle.node_core.specs.Sessions.{arrived, changes_kept, cleaning_up}
 
 -- a call that is refused is judged, whatever was ready for it
 pub refused-judged : (v : Holding) (client : ℕ) (call : Call) (why : Refusal) (p : Prepared) → IsSound v → refusal_by v client call ≡ Some why → IsJudged v client call (Refused why) (record v { prepared = p })

@@ -1,6 +1,6 @@
 -- ProcessSwPackage is judged as the node's table says.
-use Rattle.std.proofs.Common.{◌≡◌, refl, sym, subst, ap, ◌∙◌, ℕ, ◌*◌, Bool, true, false, [], ◌∷◌, ◌++◌, List, map, length, take}
-use Rattle.std.specs.Prelude.{◌==◌, ◌||◌, if◌then◌else◌, not, is_none, option_map, unwrap_or, Option, Some, None, IfSome}
+use Rattle.std.proofs.Common.{◌≡◌, refl, sym, subst, ap, ◌∙◌, ℕ, Bool, true, false, [], ◌∷◌, ◌++◌, List, map}
+use Rattle.std.specs.Prelude.{◌==◌, ◌||◌, if◌then◌else◌, not, is_none, option_map, unwrap_or, Option, Some, None}
 use Rattle.std.specs.Bool.{beq}
 use Rattle.std.specs.List.{AllByRecursion, list_all}
 use Rattle.std.specs.Option.{option_or, option_map_or}
@@ -21,25 +21,22 @@ use Rattle.pm_types.specs.declared.replies.Reply.TheVariants.{Done, Refused}
 use Rattle.pm_types.specs.declared.state.StoredTransfer.{StoredTransfer}
 use Rattle.pm_types.specs.declared.status.Phase.{Phase}
 use Rattle.pm_types.specs.declared.status.Phase.TheVariants.{Transferring, Transferred, Processing as BeingProcessed, Processed}
-use Rattle.pm_types.specs.declared.status.Status.{Status}
 use Rattle.pm_types.specs.declared.status.Status.TheVariants.{Idle}
 use Rattle.pm_types.specs.NodeState.{Session, SessionOf, Transfer, is_in, phase_code, some_passes}
 use Rattle.pm_types.specs.Refusals.{first_refusal}
 use Rattle.pm_types.specs.Sessions.{Goal, activate_refusal, begin_processing, changes_in, is_wrong_tag, new_session, parts_refusal, process_refusal, session_refusals, status_table}
-use Rattle.pm_types.specs.Stored.{Areas, State, IsInOrder, IsPlaced, change_meaning, cluster_place, meaning, names_fit_places, session_meaning, slots_differ, transfer_meaning}
+use Rattle.pm_types.specs.Stored.{IsInOrder, IsPlaced, change_meaning, cluster_place, meaning, names_fit_places, session_meaning, slots_differ, transfer_meaning}
 use Rattle.pm_types.specs.Transfers.{parts_of, transfer_of}
 use Rattle.pm_types.specs.Validity.{should_run}
 use Rattle.transfer_blocks.specs.declared.found.Found.{Found}
 use Rattle.transfer_blocks.specs.Table.{found_of, stored_header, stored_of}
-use Rattle.node_laws.proofs.Lists.{each-imp, found-has}
-use Rattle.node_laws.proofs.Lists.{both-none, is-transferred, not-false, rows-clear}
+use Rattle.node_laws.proofs.Lists.{both-none, found-has, is-transferred, not-false, rows-clear}
 use Rattle.node_laws.proofs.Sessions.{free-of}
 use Rattle.node_core.specs.Core.{Holding, IsJudged, IsReady, IsSound, node_of, refusal_by}
-use Rattle.node_core.specs.declared.prepared.Prepared.{Prepared}
 use Rattle.node_core.specs.Packages.{package_reading}
 use Rattle.node_core.specs.Places.{IsCopied, IsCopiedIn, IsPartCopied}
 use Rattle.node_core.specs.Prepared.{session_kept, unmet_kept, with_length}
-use Rattle.node_core.specs.Sessions.{arrived, begun, changes_kept, contents_of, has_wrong_tag, missing_dependencies, opened, package_refusals, phased, taken_up}
+use Rattle.node_core.specs.Sessions.{arrived, begun, changes_kept, contents_of, missing_dependencies, opened, package_refusals, phased, taken_up}
 use Rattle.node_core.proofs.Arrived.{done-judged, led-judged, refused-judged}
 use Rattle.node_core.proofs.Natural.{parts-mean, parts-with-length, planned-means, unmet-means}
 use Rattle.node_core.proofs.Phased.{phased-means, phased-placed, phased-slots}

@@ -1,5 +1,5 @@
 -- What is said of names, versions and needs is the same of where contents lie as of the contents.
-use Rattle.std.proofs.Common.{◌≡◌, refl, sym, ap, ◌∙◌, ℕ, Bool, true, false, List, [], ◌∷◌, ◌++◌, length, map, filter}
+use Rattle.std.proofs.Common.{◌≡◌, refl, sym, ap, ◌∙◌, ℕ, Bool, List, [], ◌∷◌, ◌++◌, length, map, filter}
 use Rattle.std.specs.Prelude.{◌&&◌, ◌||◌, not, nat_le, option_map, Option, Some, None}
 use Rattle.std.specs.List.{list_any}
 use Rattle.std.specs.Option.{option_or}
@@ -9,7 +9,7 @@ use Rattle.ucm_base.specs.declared.parts.Action.{Action}
 use Rattle.ucm_base.specs.declared.parts.Action.TheVariants.{Install, Update, Remove}
 use Rattle.ucm_base.specs.Limits.{cluster_limit}
 use Rattle.ucm_base.specs.Names.{different_names, name_lt}
-use Rattle.ucm_base.specs.Needs.{Needing, missing}
+use Rattle.ucm_base.specs.Needs.{missing}
 use Rattle.ucm_base.specs.Parts.{Bytes}
 use Rattle.ucm_base.specs.Versions.{is_newer}
 use Rattle.pm_types.specs.declared.clusters.Change.{Change}
@@ -19,9 +19,9 @@ use Rattle.pm_types.specs.declared.clusters.Part.{Part}
 use Rattle.pm_types.specs.declared.replies.Refusal.{Refusal}
 use Rattle.pm_types.specs.declared.replies.Refusal.TheVariants.{OldVersion, ActionNotApplicable, TooManyClusters, ClusterAlreadyChanged}
 use Rattle.pm_types.specs.NodeState.{some_passes}
-use Rattle.pm_types.specs.Clusters.{brought, changed_as, changed_by, cluster_at, cluster_of, has_cluster, planned, unmet_among, with_cluster, without}
+use Rattle.pm_types.specs.Clusters.{brought, changed_as, changed_by, cluster_at, cluster_of, has_cluster, planned, unmet_among, with_cluster}
 use Rattle.pm_types.specs.Refusals.{first_refusal}
-use Rattle.pm_types.specs.Sessions.{is_install, is_old, is_update, names_among, part_refusals, parts_refusal, suits}
+use Rattle.pm_types.specs.Sessions.{is_install, is_old, is_update, part_refusals, parts_refusal, suits}
 use Rattle.pm_types.specs.Stored.{Areas, change_meaning, cluster_meaning, on_side}
 use Rattle.node_core.specs.Prepared.{with_length}
 use Rattle.node_core.proofs.Lists.{filter-map, find-map}

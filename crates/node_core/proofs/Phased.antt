@@ -1,5 +1,5 @@
 -- A transfer that goes to another phase, and the session with it.
-use Rattle.std.proofs.Common.{◌≡◌, refl, sym, subst, ap, ◌∙◌, ℕ, Bool, true, false, [], ◌∷◌, List, map, length, take}
+use Rattle.std.proofs.Common.{◌≡◌, refl, sym, subst, ap, ◌∙◌, ℕ, Bool, true, false, [], ◌∷◌, List, map, take}
 use Rattle.std.specs.Prelude.{◌==◌, if◌then◌else◌, not, option_map, slice_index_or, Option, Some, None}
 use Rattle.std.specs.List.{AllByRecursion}
 use Rattle.std.specs.Option.{option_or}
@@ -13,12 +13,11 @@ use Rattle.pm_types.specs.declared.replies.Reply.{Reply}
 use Rattle.pm_types.specs.declared.replies.Reply.TheVariants.{Done}
 use Rattle.pm_types.specs.declared.state.StoredTransfer.{StoredTransfer}
 use Rattle.pm_types.specs.declared.status.Phase.{Phase}
-use Rattle.pm_types.specs.declared.status.Phase.TheVariants.{Transferring, Transferred, Processing as BeingProcessed, Processed}
-use Rattle.pm_types.specs.NodeState.{NodeState, Session, SessionOf, Transfer, is_in, phase_code, some_passes}
+use Rattle.pm_types.specs.declared.status.Phase.TheVariants.{Transferred, Processing as BeingProcessed}
+use Rattle.pm_types.specs.NodeState.{Session, SessionOf, Transfer, is_in, phase_code, some_passes}
 use Rattle.pm_types.specs.Refusals.{first_refusal}
 use Rattle.pm_types.specs.Sessions.{Goal, cancel_refusals, session_refusals, status_table, stop_processing}
-use Rattle.pm_types.specs.Steps.{refusal}
-use Rattle.pm_types.specs.Stored.{Areas, State, IsInOrder, IsPlaced, meaning, session_meaning, slots_differ, transfer_meaning}
+use Rattle.pm_types.specs.Stored.{State, IsInOrder, IsPlaced, meaning, session_meaning, slots_differ, transfer_meaning}
 use Rattle.pm_types.specs.Transfers.{header_of, in_phase, parts_read, transfer_of, with_phase}
 use Rattle.transfer_blocks.specs.declared.found.Found.{Found}
 use Rattle.transfer_blocks.specs.Table.{found_of, moved, stored_header, stored_of}

@@ -1,5 +1,5 @@
 -- A stored node's session, and what a call makes of it.
-use Rattle.std.specs.Prelude.{ℕ, Bool, ◌==◌, ◌||◌, not, if◌then◌else◌, [], ◌∷◌, ◌++◌, List, length, map, is_none, option_map, unwrap_or, Option, Some, None}
+use Rattle.std.specs.Prelude.{ℕ, Bool, ◌==◌, ◌||◌, not, if◌then◌else◌, [], ◌∷◌, ◌++◌, List, length, map, is_none, option_map, Option, Some, None}
 use Rattle.std.specs.Option.{option_map_or}
 use Rattle.pm_types.specs.declared.clusters.Change.{Change}
 use Rattle.pm_types.specs.declared.clusters.Extent.{Extent}

@@ -1,7 +1,13 @@
 -- Units of work.
-use Rattle.std.specs.Prelude.{◌≡◌, ℕ, not, Bool, true, false, ⊤, List, unwrap_or, IfSome, Option, Some, None}
+use Rattle.std.specs.Prelude.{◌≡◌, ℕ, ◌+◌, ◌*◌, min, nat_lt, not, Bool, false, ⊤, List, length, sum_by, take, unwrap_or, IfSome, Option, Some, None}
+use Rattle.std.specs.List.{AllByRecursion}
 use Rattle.std.specs.Str.{bytes_eq}
+use Rattle.ucm_base.specs.Limits.{block_limit}
 use Rattle.ucm_base.specs.Names.{name_lt}
+use Rattle.ucm_base.specs.Parts.{Bytes}
+use Rattle.pm_types.specs.declared.clusters.Change.{Change}
+use Rattle.pm_types.specs.declared.clusters.Part.{Part}
+use Rattle.pm_types.specs.declared.state.StoredTransfer.{StoredTransfer}
 use Rattle.pm_types.specs.declared.clusters.Cluster.{Cluster}
 use Rattle.pm_types.specs.declared.clusters.Extent.{Extent}
 use Rattle.pm_types.specs.declared.replies.Worked.{Worked}
@@ -9,17 +15,22 @@ use Rattle.pm_types.specs.declared.replies.Worked.TheVariants.{Unit, Nothing}
 use Rattle.pm_types.specs.declared.status.Status.{Status}
 use Rattle.pm_types.specs.declared.status.Status.TheVariants.{Processing, Activating, RollingBack}
 use Rattle.pm_types.specs.NodeState.{NodeState, SessionOf}
-use Rattle.pm_types.specs.Clusters.{planned}
+use Rattle.pm_types.specs.Clusters.{planned, units_of}
 use Rattle.pm_types.specs.Histories.{unit_passes, worked}
-use Rattle.pm_types.specs.Stored.{IsInOrder}
+use Rattle.pm_types.specs.Stored.{IsInOrder, State, transfer_meaning}
+use Rattle.transfer_blocks.specs.declared.area.Area.{Area}
+use Rattle.transfer_blocks.specs.declared.area.Area.TheVariants.{Side, Transfer}
+use Rattle.transfer_blocks.specs.Areas.{content_of}
+use Rattle.transfer_blocks.specs.Table.{stored_of}
 use Rattle.pm_types.specs.Work.{unit}
 use Rattle.node_core.specs.declared.plan.Pick.{Pick}
 use Rattle.node_core.specs.declared.plan.Pick.TheVariants.{Before, Behind, Others}
 use Rattle.node_core.specs.declared.prepared.Prepared.{Prepared}
-use Rattle.node_core.specs.declared.prepared.Prepared.TheVariants.{Clusters}
+use Rattle.node_core.specs.declared.prepared.Prepared.TheVariants.{Change as Planned, Clusters}
 use Rattle.node_core.specs.Core.{Holding, node_of}
 use Rattle.node_core.specs.Packages.{package_reading}
-use Rattle.node_core.specs.Places.{IsCopied}
+use Rattle.node_core.specs.Places.{IsCopied, goes_to}
+use Rattle.node_core.specs.Prepared.{with_length}
 
 -- the unit that was done, or that there is none
 abbrev pub answer_of : Status → Bool → Option NodeState → Worked
@@ -46,13 +57,45 @@ abbrev pub clusters_kept : Prepared → Option (List (Cluster Extent))
 clusters_kept (Clusters clusters) = Some clusters
 clusters_kept _ = None
 
--- the units that are done so far
-abbrev pub is_worked : Status → Bool
-is_worked Processing = false
-is_worked _ = true
+-- the change that is ready
+abbrev pub change_kept : Prepared → Option (Change Extent)
+change_kept (Planned change) = Some change
+change_kept _ = None
+
+-- the units that bring parts of these lengths
+abbrev pub stored_units : List (Part ℕ) → ℕ
+stored_units parts = sum_by (λ part. units_of part.payload) parts
+
+-- the end of the unit behind these done ones, in a payload of this size
+abbrev pub unit_end : ℕ → ℕ → ℕ
+unit_end done size = min ((done + 1) * block_limit) size
+
+-- the first bytes of an area, as an extent
+abbrev pub extent_in : Area → ℕ → Extent
+extent_in (Side place side) size = record { place = place; side = side; length = size }
+extent_in (Transfer slot) size = record { place = slot; side = 0; length = size }
+
+-- the change that a part's last unit plans
+abbrev pub change_next : State → ℕ → Part ℕ → Change Extent
+change_next s id part = record {
+  transfer = id;
+  part = record { manifest = part.manifest; payload = extent_in (goes_to s part.manifest part.manifest.action) part.payload };
+}
+
+-- what the next unit of a part needs: its bytes lie behind the done ones, and the last one's change is ready
+pub record IsPartReady (v : Holding) (x : SessionOf Extent) (id : ℕ) (part : Part Bytes) : Type 0 where
+  pub bytes : take (unit_end x.units_done (length part.payload)) (content_of (goes_to v.state part.manifest part.manifest.action) v.areas)
+      ≡ take ((x.units_done + 1) * block_limit) part.payload
+  pub change : nat_lt (x.units_done + 1) (units_of (length part.payload)) ≡ false
+      → change_kept v.prepared ≡ Some (change_next v.state id (with_length part))
+
+-- what the next unit of a transfer needs
+abbrev pub IsPackageReady : Holding → SessionOf Extent → ℕ → StoredTransfer → Type 0
+IsPackageReady v x id t = AllByRecursion (IsPartReady v x id) (transfer_meaning package_reading v.areas t).parts
 
 -- what the next unit of a session needs is there
 abbrev pub IsUnitReady : Status → Holding → SessionOf Extent → Type 0
+IsUnitReady Processing v x = IfSome x.processing (λ id. IfSome (stored_of v.state.transfers x.owner id) (IsPackageReady v x id))
 IsUnitReady Activating v x = clusters_kept v.prepared ≡ Some (planned x.changes x.saved)
 IsUnitReady RollingBack v x = clusters_kept v.prepared ≡ Some x.saved
 IsUnitReady _ v x = ⊤

@@ -11,11 +11,14 @@ mod node;
 mod opening;
 mod plan;
 mod prepared;
+mod process;
 mod query;
 mod session_rules;
 mod sessions;
 mod transfers;
+mod units;
 
 pub use format::{Installed, format_areas};
 pub use node::{Core, Hold};
 pub use prepared::Prepared;
+

@@ -1,18 +1,19 @@
 //! A node in memory.
-ghost use Rattle.std.specs.Prelude.{◌≡◌, ◌<◌, ◌≤◌, ◌+◌, OnOk, IsErrOf};
+ghost use Rattle.std.specs.Prelude.{◌≡◌, ◌≢◌, ◌<◌, ◌≤◌, ◌+◌, OnOk, IsErrOf};
 ghost use Rattle.ucm_base.specs.Limits.{entry_limit};
 ghost use Rattle.transfer_blocks.specs.Faults.{HasRisen};
 ghost use Rattle.node_laws.specs.Fit.{IsFit};
 ghost use Rattle.node_core.specs.Packages.{package_reading};
 ghost use Rattle.node_core.specs.Core.{IsReady, IsReserved, IsSound, holding, node_of, step_by};
+ghost use Rattle.node_core.specs.Units.{IsReservedWork, after_work, answer_to};
 
 use crate::held::Held;
 use crate::prepared::Prepared;
-use pm_types::{Call, Reached, State};
+use pm_types::{Call, Reached, State, Status, Worked};
 use std::alloc::{AllocError, Global};
 use std::marker::Model;
 use transfer_blocks::{Staging, StagingFault, Transfers};
-use ucm_base::{CallNo, ClientId};
+use ucm_base::{CallNo, ClientId, ClusterName};
 
 /// Why nothing was reserved.
 #[derive(Clone, Copy, Debug, PartialEq, Eq)]
@@ -140,5 +141,32 @@ impl<S: Staging> Core<S> {
             Some(reached) => reached,
             None => Reached::Done(self.held.execute(client, no, call)),
         }
+    }
+
+    /// Takes all memory that the next unit of work needs. The node stays as it is.
+    pub fn reserve_work(&mut self, alloc: Global) -> Result<(), Hold>
+        ensures state { self.new.state ≡ self.old.state }
+        ensures node { node_of self.new ≡ node_of self.old }
+        ensures reserved { OnOk result
+            (self.old.state.status ≢ Status.Processing → IsReservedWork self.new) }
+        ensures cause { IsErrOf result Hold.StagingFailed
+            → HasRisen self.old.faults self.new.faults }
+        ensures faults { self.old.faults ≤ self.new.faults }
+    {
+        self.held.reserve_work(alloc)
+    }
+
+    /// Does the next unit of work after `reserve_work`, where clusters of these names fail when they are verified. It
+    /// takes no memory.
+    pub fn work(&mut self, fails: &[ClusterName]) -> Worked
+        requires reserved { IsReservedWork self.old }
+        requires entries { self.old.state.entries < entry_limit }
+        ensures answer { result ≡ answer_to fails.now (node_of self.old) }
+        ensures node { node_of self.new ≡ after_work fails.now (node_of self.old) }
+        ensures valid { IsFit package_reading (node_of self.new) }
+        ensures faults { self.new.faults ≡ self.old.faults }
+        ensures entries { self.new.state.entries ≤ self.old.state.entries + 1 }
+    {
+        self.held.work(fails)
     }
 }

@@ -8,8 +8,8 @@ ghost use Rattle.transfer_blocks.specs.Faults.{HasRisen};
 ghost use Rattle.node_core.specs.Core.{IsKept, IsReady, IsSound, node_of};
 ghost use Rattle.node_core.specs.Sessions.{missing_dependencies, needing_of, opened};
 
-use crate::node::Hold;
 use crate::held::Held;
+use crate::node::Hold;
 use crate::plan::planned;
 use crate::prepared::Prepared;
 use dependency_check::missing;
@@ -86,10 +86,7 @@ impl<S: Staging> Held<S> {
 }
 
 /// The refusal of clusters that would run, where they leave a need unmet.
-fn unmet_refusal(
-    alloc: Global,
-    clusters: &[Cluster<Extent>],
-) -> Result<Option<Refusal>, AllocError>
+fn unmet_refusal(alloc: Global, clusters: &[Cluster<Extent>]) -> Result<Option<Refusal>, AllocError>
     ensures { IfOk result (λ why. why
         ≡ option_map missing_dependencies (unmet_among clusters.now)) }
 {
@@ -113,7 +110,11 @@ fn needing(
 {
     let mut all = Vec::new(alloc);
     for cluster in clusters {
-        all.push((cluster.name, cluster.version.clone()?, cluster.needs.copied(alloc)?))?;
+        all.push((
+            cluster.name,
+            cluster.version.clone()?,
+            cluster.needs.copied(alloc)?,
+        ))?;
     }
     Ok(all)
 }

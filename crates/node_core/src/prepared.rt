@@ -1,6 +1,7 @@
 //! What is made ready before a call or a unit, so that making it takes no memory.
 ghost use Rattle.std.specs.Prelude.{◌≡◌, None, unwrap_or};
 ghost use Rattle.node_core.specs.Prepared.{session_kept, unmet_kept, verdict_in, verdict_kept};
+ghost use Rattle.node_core.specs.Units.{change_kept, clusters_kept};
 
 use pm_types::{Change, Clusters, ExitVerdict, Extent, Refusal, Session};
 use std::mem;
@@ -48,6 +49,26 @@ impl Prepared {
     {
         match self {
             Prepared::Unmet(why) => *why,
+            _ => None,
+        }
+    }
+
+    /// Takes the clusters that are ready.
+    pub(crate) fn take_clusters(&mut self) -> Option<Clusters>
+        ensures { result ≡ clusters_kept self.old }
+    {
+        match mem::replace(self, Prepared::Nothing) {
+            Prepared::Clusters(clusters) => Some(clusters),
+            _ => None,
+        }
+    }
+
+    /// Takes the change that is ready.
+    pub(crate) fn take_change(&mut self) -> Option<Change<Extent>>
+        ensures { result ≡ change_kept self.old }
+    {
+        match mem::replace(self, Prepared::Nothing) {
+            Prepared::Change(change) => Some(change),
             _ => None,
         }
     }

@@ -177,7 +177,8 @@ impl<S: Staging> Held<S> {
     fn arrive(&mut self, goal: Goal) -> Reply
         ensures done { result ≡ Reply.Done }
         ensures arrived { self.new ≡ record self.old {
-            state = arrived (goal_of goal) self.old.state } }
+          state = arrived (goal_of goal) self.old.state;
+        } }
     {
         match goal {
             Goal::To(status) => self.status = status,
@@ -213,9 +214,10 @@ impl<S: Staging> Held<S> {
     /// The session takes up the package, or the one that is ready begins with it.
     fn begin(&mut self, id: u32)
         ensures { self.new ≡ record self.old {
-            state = begun id (option_or self.old.state.session (session_kept self.old.prepared))
-                self.old.state;
-            prepared = self.new.prepared } }
+          state = begun id (option_or self.old.state.session (session_kept self.old.prepared))
+              self.old.state;
+          prepared = self.new.prepared;
+        } }
     {
         self.transfers.set_phase(id, Phase::Processing);
         if self.session.is_none() {

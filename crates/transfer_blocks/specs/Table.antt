@@ -1,5 +1,5 @@
 -- Transfers as they are stored, and what each call makes of them.
-use Rattle.std.specs.Prelude.{ℕ, ◌+◌, ◌<◌, ◌≤◌, Bool, not, ◌==◌, IsTrue, if◌then◌else◌, List, [], ◌∷◌, ◌++◌, length, map, filter, find, Option, Some, None, option_map, unwrap_or}
+use Rattle.std.specs.Prelude.{ℕ, ◌+◌, ◌<◌, ◌≤◌, Bool, not, ◌||◌, ◌==◌, IsTrue, if◌then◌else◌, List, [], ◌∷◌, ◌++◌, length, map, filter, find, Option, Some, None, option_map, unwrap_or}
 use Rattle.std.specs.List.{list_all, range_with_len, AllByRecursion}
 use Rattle.ucm_base.specs.Limits.{transfer_limit, package_limit}
 use Rattle.pm_types.specs.declared.clusters.Part.{Part}
@@ -8,10 +8,11 @@ use Rattle.pm_types.specs.declared.replies.Reply.{Reply}
 use Rattle.pm_types.specs.declared.replies.Reply.TheVariants.{Refused}
 use Rattle.pm_types.specs.declared.state.StoredTransfer.{StoredTransfer}
 use Rattle.pm_types.specs.declared.status.Phase.{Phase}
-use Rattle.pm_types.specs.declared.status.Phase.TheVariants.{Transferred}
+use Rattle.pm_types.specs.declared.status.Phase.TheVariants.{Transferred, Processing, Processed}
 use Rattle.pm_types.specs.declared.transfers.ExitVerdict.{ExitVerdict}
 use Rattle.pm_types.specs.declared.transfers.ExitVerdict.TheVariants.{Good, Bad}
 use Rattle.pm_types.specs.declared.transfers.Header.{Header}
+use Rattle.pm_types.specs.NodeState.{is_in}
 use Rattle.pm_types.specs.Stored.{slots_differ}
 use Rattle.pm_types.specs.Transfers.{is_of, fresh, grown, in_phase}
 use Rattle.transfer_blocks.specs.declared.found.Found.{Found}
@@ -81,6 +82,10 @@ moved phase t = record t { header = in_phase phase t.header }
 -- the transfer of this id gone
 abbrev pub without : ℕ → Table → Table
 without id s = record s { transfers = filter (λ t. not (t.header.id == id)) s.transfers }
+
+-- the transfers that a session leaves: those that weren't processed, and aren't in processing
+abbrev pub cleaned : Table → Table
+cleaned s = record s { transfers = filter (λ t. not (is_in Processing t.header || is_in Processed t.header)) s.transfers }
 
 -- a refusal leaves the table
 abbrev pub unless_refused : Reply → Table → Table → Table

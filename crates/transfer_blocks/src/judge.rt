@@ -1,6 +1,7 @@
 // The refusals of the transfer table, row by row; of a transfer that is there, from the second row on.
-ghost use Rattle.std.specs.Prelude.{◌≡◌, ◌+◌, ◌<◌, ◌≤◌, None, Some};
+ghost use Rattle.std.specs.Prelude.{◌≡◌, ◌+◌, ◌<◌, ◌≤◌, ◌||◌, not, None, Some};
 ghost use Rattle.ucm_base.specs.Limits.{transfer_limit, package_limit, last_id};
+ghost use Rattle.pm_types.specs.NodeState.{is_in};
 ghost use Rattle.pm_types.specs.Refusals.{first_refusal};
 ghost use Rattle.pm_types.specs.Transfers.{start_refusals, data_refusals, exit_refusals, delete_refusals};
 
@@ -63,5 +64,15 @@ pub(crate) fn delete_refusal(header: Header) -> Option<Refusal>
     match header.phase {
         Phase::Processing | Phase::Processed => Some(Refusal::OperationNotPermitted),
         Phase::Transferring | Phase::Transferred => None,
+    }
+}
+
+/// Whether a transfer stays where a session ends.
+pub(crate) fn outlasts(header: Header) -> bool
+    ensures { result ≡ not (is_in Phase.Processing header || is_in Phase.Processed header) }
+{
+    match header.phase {
+        Phase::Processing | Phase::Processed => false,
+        Phase::Transferring | Phase::Transferred => true,
     }
 }

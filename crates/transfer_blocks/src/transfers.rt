@@ -5,10 +5,10 @@ ghost use Rattle.pm_types.specs.declared.state.StoredTransfer.{StoredTransfer as
 ghost use Rattle.pm_types.specs.Refusals.{first_refusal};
 ghost use Rattle.pm_types.specs.Steps.{refused_or};
 ghost use Rattle.pm_types.specs.Transfers.{start_refusals, data_refusals, exit_refusals, delete_refusals};
-ghost use Rattle.transfer_blocks.specs.Table.{IsTable, bad_refusal, found_of, good_parts, is_free, moved, received, stored_header, stored_ids, stored_of, unless_refused, whole, with_fresh, with_stored, without};
+ghost use Rattle.transfer_blocks.specs.Table.{IsTable, bad_refusal, cleaned, found_of, good_parts, is_free, moved, received, stored_header, stored_ids, stored_of, unless_refused, whole, with_fresh, with_stored, without};
 
 use crate::Found;
-use crate::judge::{data_refusal, delete_refusal, exit_refusal, start_refusal};
+use crate::judge::{data_refusal, delete_refusal, exit_refusal, outlasts, start_refusal};
 use crate::lookup::{lowest_free, place_of, place_of_id};
 use pm_types::{
     ExitVerdict, Header, IdList, PartList, Phase, Refusal, Reply, StoredTransfer, TransferList,
@@ -185,6 +185,14 @@ impl Transfers {
         }
         self.held.retain(|t| t.header.id != id);
         Reply::Done
+    }
+
+    /// The transfers that were processed or are in processing are gone, and their slots are free.
+    pub fn clean(&mut self)
+        ensures table { self.new ≡ cleaned self.old }
+        ensures form { IsTable self.new }
+    {
+        self.held.retain(|t| outlasts(t.header));
     }
 
     /// The client's transfer of this id, as it is stored.

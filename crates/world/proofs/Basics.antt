@@ -1,6 +1,6 @@
 -- Laws of the real node: what is kept, what a refusal leaves, Sync, and the calls on a session.
 use Rattle.world.proofs.Names.{nat_tests, ◌≡◌, ◌⊎◌, inl, inr, ℕ, List, ◌∷◌, Option, Some, None, Bool, true, false, refl}
-use Rattle.world.proofs.Names.{sym, ◌∙◌, ap, arith, ◌==◌, not, option_map, option_and_then, if◌then◌else◌, option_or}
+use Rattle.world.proofs.Names.{sym, ◌∙◌, ap, arith, ◌==◌, not, option_map, option_and_then, if◌then◌else◌}
 use Rattle.world.proofs.Names.{option_map_or, eqb-true, get_or-set_same, CallNo, Bytes, SessionMark, Refusal, Cluster}
 use Rattle.world.proofs.Names.{Status, Idle, Kept, NodeState, Session, of_client, first_refusal, Verdict, ids_of, judge}
 use Rattle.world.proofs.Names.{reply_to, refusal, accepted, refused_or, Reading, verdict_for, IsConsistent}
@@ -19,17 +19,11 @@ judged-by s client c v P here there = grind arith
 pub refused-leaves : (s : NodeState) (client : ℕ) (c : Call) (v : Verdict) (why : Refusal) → (reply_to s client c v) ≡ Refused why → (judge s client c v).0 ≡ s
 refused-leaves s client c v why e = grind arith
 
-pub done-accepted : (s : NodeState) (client : ℕ) (c : Call) (v : Verdict) → (reply_to s client c v) ≡ Done → (judge s client c v).0 ≡ accepted s client c v
-done-accepted s client c v e = grind arith
-
 pub done-none : (r : Reply) (o : Option Refusal) → (refused_or r o) ≡ Done → o ≡ None
 done-none r x e = grind arith
 
 pub done-or-refused : (r : Reply) (o : Option Refusal) → r ≡ Done → ((refused_or r o) ≡ Done) ⊎ ((why : Refusal) × ((refused_or r o) ≡ Refused why))
 done-or-refused r x e = grind arith
-
-pub or-none : {A : Type 0} (a b : Option A) → option_or a b ≡ None → (a ≡ None) × (b ≡ None)
-or-none x b e = grind arith
 
 pub not-refused : (row : Bool × Refusal) (rows : List (Bool × Refusal)) → first_refusal (row ∷ rows) ≡ None → (row.0 ≡ false) × (first_refusal rows ≡ None)
 not-refused x rows e = grind arith

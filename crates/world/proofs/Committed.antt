@@ -4,10 +4,10 @@ use Rattle.world.proofs.Names.{Bool, true, false, refl, sym, ◌∙◌, subst, N
 use Rattle.world.proofs.Names.{Call, Sync, DeleteTransfer, Finish, is_status, Message, is_sync, end_call_at, delete_at}
 use Rattle.world.proofs.Names.{◌≢◌, ◌++◌, ◌≤◌, None, is_some, ap, nat_tests, flat_map, Decision, CampaignResult}
 use Rattle.world.proofs.Names.{Successful, Fold, Current, flag_of, all_ended, is_result_of, IsBelow, Told, InSent}
-use Rattle.world.proofs.Names.{Packages, last_status, last_shown, next_number, MaySend, MaySendBy, MaySendLate, has_tag}
+use Rattle.world.proofs.Names.{Packages, last_status, last_shown, next_number, MaySend, MaySendBy, MaySendLate}
 use Rattle.world.proofs.Rules.{NodeRules, NodeLaws, Move, Delivered, Foreign, Unit_done, after, Spans, spans}
-use Rattle.world.proofs.Rules.{begins_span, IsNew, reached, delivered, NodeWorld, state_of, is_fresh_done, InEarlier}
-use Rattle.world.proofs.Invariant.{Executable, KeptOld, KeptFold, refused-or}
+use Rattle.world.proofs.Rules.{begins_span, IsNew, delivered, NodeWorld, state_of, InEarlier}
+use Rattle.world.proofs.Invariant.{Executable, KeptOld, KeptFold}
 use Rattle.world.proofs.Events.{above-last, begins-mine}
 use Rattle.world.proofs.Records.{flagged-ended, SameFold, some-inj, in-append}
 
@@ -34,13 +34,7 @@ module _ (N : NodeRules) (laws : NodeLaws N) (k : ℕ) (changes : List N.Change)
   waits-judge s call calm w = grind (arith, finished, laws.sync_state, laws.delete_session)
     where
       finished : Waits (N.judge s Finish).0
-      finished =
-          refused-or N laws s Finish (λ t. Waits t) w (laws.six_replies s Finish (inr (inl refl))) (λ d.
-          let m = laws.finish_mine s d in
-          elim m.2 [
-            | inl a ↦ (let o = laws.finish_new.only s k w.mine d a in record { mine = o.0; status = inr (o.1, o.3); planned = o.2 ∙ w.planned })
-            | inr b ↦ absurd (elim w.status [ inl x ↦ (cc (b, x)) | inr y ↦ (cc (b, y.0)) ])
-          ])
+      finished = grind (arith, laws.six_replies s Finish (inr (inl refl)), laws.refused s Finish, laws.finish_mine s, laws.finish_new.only s, laws.finish_old.only s)
 
   pub waiting-delivered : (moves : List (Move N)) (m : Message) → (Executable N (after N moves) m → IsCalm m.call) → IsWaiting moves → IsWaiting (Delivered m ∷ moves)
   waiting-delivered moves m calm w =
@@ -89,9 +83,6 @@ bool-cases : (b : Bool) → (b ≡ true → ⊥) → b ≡ false
 bool-cases true f = absurd (f refl)
 bool-cases false f = refl
 
-has-tag-process : (k : ℕ) (call : Call) → IsCalm call → has_tag k call ≡ false
-has-tag-process k call x = grind arith
-
 module _ (N : NodeRules) (laws : NodeLaws N) (packages : Packages) (n : ℕ) where
   abbrev pub changes_of : ℕ → List N.Change
   changes_of k = flat_map N.changes_of (packages k n)
@@ -100,10 +91,6 @@ module _ (N : NodeRules) (laws : NodeLaws N) (packages : Packages) (n : ℕ) whe
     pub calm : (c : Current) → f.current ≡ Some c → c.decision ≡ Some Commit → (m : Message) → InSent m x.sent → Executable N (state_of N x) m → IsCalm m.call
     pub committed : (c : Current) → f.current ≡ Some c → c.decision ≡ Some Commit → flag_of c.named n ≡ true → IsWaiting N laws c.campaign (changes_of c.campaign) x.moves ⊎ IsNew N c.campaign (changes_of c.campaign) x.moves
     pub entered : (k : ℕ) → InEarlier (k, Successful) f.earlier → 1 ≤ n → n ≤ 8 → packages k n ≢ [] → IsNew N k (changes_of k) x.moves
-
-  -- an executed delivery was executable
-  fresh-exec : (s : N.State) (m : Message) → is_fresh_done (reached N s m.at m.call) ≡ true → Executable N s m
-  fresh-exec s m e = grind (arith, nat_tests)
 
   exec-back : (s : N.State) (m m' : Message) → Executable N (delivered N s m.at m.call) m' → Executable N s m'
   exec-back s m m' = grind (arith, nat_tests)

@@ -2,9 +2,9 @@
 use Rattle.world.proofs.Names.{List, Bool, true, false, Bytes, Part, Cluster, NodeState, is_working, ids_of, parts_read}
 use Rattle.world.proofs.Names.{Reading, formatted, id_in_processing, IsFit, Call, Reply, Synced, Refused, CallNo, arith}
 use Rattle.world.proofs.Names.{◌≡◌, ◌≢◌, ◌⊎◌, inl, inr, ℕ, [], ◌∷◌, ◌++◌, Some, None, refl, sym, ap, subst, Contains}
-use Rattle.world.proofs.Names.{Refusal, Outcome, New, Old, Idle, Ready, Processing, Activating, Verifying, Activated}
+use Rattle.world.proofs.Names.{Refusal, New, Old, Idle, Ready, Processing, Activating, Verifying, Activated}
 use Rattle.world.proofs.Names.{RollingBack, RolledBack, CleaningUp, TransferStart, TransferData, TransferExit}
-use Rattle.world.proofs.Names.{DeleteTransfer, ProcessSwPackage, Activate, Finish, Rollback, Revert, Cancel, Done}
+use Rattle.world.proofs.Names.{DeleteTransfer, ProcessSwPackage, Activate, Finish, Rollback, Revert, Cancel}
 use Rattle.world.proofs.Rules.{NodeRules, NodeLaws, KeepsSession, KeepsTransfers}
 use Rattle.world.proofs.Instance.{Outside, last_in, kept_in, mine_in, owner_in, planned_in, outcome_in, ended_in}
 use Rattle.world.proofs.Instance.{received_in, judged_in, kept_after, outside_in, unit_in, BringsIn, LeavesIn, Opens}
@@ -95,21 +95,6 @@ module _ (read : Reading) (clusters : List (Cluster Bytes)) (keeps : KeepsNode r
   worked : (x : FitState read) (passed : Bool) (P : NodeState → Type 0) → P (unit_in x.state passed) → P (fit_unit read clusters keeps x passed (is_working x.state.status)).state
   worked x passed P h = subst P (sym (unit-is x passed)) h
 
-  refused : (x : FitState read) (c : Call) (why : Refusal) → (judged_in read x.state c).1 ≡ Refused why → fit_after read clusters keeps x c (judged_in read x.state c).1 ≡ x
-  refused x c why e = ap (fit_after read clusters keeps x c) e
-
-  unit_still : (x : FitState read) (passed : Bool) → is_working x.state.status ≡ false → fit_unit read clusters keeps x passed (is_working x.state.status) ≡ x
-  unit_still x passed e = ap (fit_unit read clusters keeps x passed) e
-
-  process_idle : (x : FitState read) (id tag : ℕ) → mine_in x.state ≡ None → (judged_in read x.state (ProcessSwPackage id tag)).1 ≡ Done → (x.state.status ≡ Idle) × (mine_in (fit_after read clusters keeps x (ProcessSwPackage id tag) (judged_in read x.state (ProcessSwPackage id tag)).1).state ≡ Some tag) × ((fit_after read clusters keeps x (ProcessSwPackage id tag) (judged_in read x.state (ProcessSwPackage id tag)).1).state.status ≡ Processing) × (planned_in (fit_after read clusters keeps x (ProcessSwPackage id tag) (judged_in read x.state (ProcessSwPackage id tag)).1).state ≡ []) × (id_in_processing (fit_after read clusters keeps x (ProcessSwPackage id tag) (judged_in read x.state (ProcessSwPackage id tag)).1).state ≡ Some id)
-  process_idle x id tag none d = judged x (ProcessSwPackage id tag) (λ t. (x.state.status ≡ Idle) × (mine_in t ≡ Some tag) × (t.status ≡ Processing) × (planned_in t ≡ []) × (id_in_processing t ≡ Some id)) (sessions.process_idle read clusters x.state id tag x.fit.consistent none d)
-
-  process_ready : (x : FitState read) (id tag old : ℕ) → mine_in x.state ≡ Some old → (judged_in read x.state (ProcessSwPackage id tag)).1 ≡ Done → (x.state.status ≡ Ready) × (tag ≡ old) × (mine_in (fit_after read clusters keeps x (ProcessSwPackage id tag) (judged_in read x.state (ProcessSwPackage id tag)).1).state ≡ Some old) × ((fit_after read clusters keeps x (ProcessSwPackage id tag) (judged_in read x.state (ProcessSwPackage id tag)).1).state.status ≡ Processing) × (planned_in (fit_after read clusters keeps x (ProcessSwPackage id tag) (judged_in read x.state (ProcessSwPackage id tag)).1).state ≡ planned_in x.state) × (id_in_processing (fit_after read clusters keeps x (ProcessSwPackage id tag) (judged_in read x.state (ProcessSwPackage id tag)).1).state ≡ Some id)
-  process_ready x id tag old mine d = judged x (ProcessSwPackage id tag) (λ t. (x.state.status ≡ Ready) × (tag ≡ old) × (mine_in t ≡ Some old) × (t.status ≡ Processing) × (planned_in t ≡ planned_in x.state) × (id_in_processing t ≡ Some id)) (sessions.process_ready read clusters x.state id tag old x.fit.consistent mine d)
-
-  unit_last : (x : FitState read) (p : Bool) → (last_in (fit_unit read clusters keeps x p (is_working x.state.status)).state ≡ last_in x.state) × (kept_in (fit_unit read clusters keeps x p (is_working x.state.status)).state ≡ kept_in x.state)
-  unit_last x p = worked x p (λ t. (last_in t ≡ last_in x.state) × (kept_in t ≡ kept_in x.state)) (transfers.unit_last x.state p)
-
   unit_none : (x : FitState read) (p : Bool) → mine_in x.state ≡ None → (mine_in (fit_unit read clusters keeps x p (is_working x.state.status)).state ≡ None) × (ended_in (fit_unit read clusters keeps x p (is_working x.state.status)).state ≡ ended_in x.state) × KeepsTransfers (fit read clusters keeps) x (fit_unit read clusters keeps x p (is_working x.state.status))
   unit_none x p none =
       let h = others.unit_none read clusters x.state p x.fit.consistent none in
@@ -120,15 +105,6 @@ module _ (read : Reading) (clusters : List (Cluster Bytes)) (keeps : KeepsNode r
 
   unit_processing : (x : FitState read) (p : Bool) (tag id : ℕ) → mine_in x.state ≡ Some tag → x.state.status ≡ Processing → id_in_processing x.state ≡ Some id → Processed' x.state (fit_unit read clusters keeps x p (is_working x.state.status)).state tag id
   unit_processing x p tag id mine st pr = worked x p (λ t. Processed' x.state t tag id) (transfers.unit_processing read clusters x.state p tag id x.fit mine st pr)
-
-  unit_cleaning : (x : FitState read) (p : Bool) (tag : ℕ) (o : Outcome) → mine_in x.state ≡ Some tag → x.state.status ≡ CleaningUp → outcome_in x.state ≡ Some o → (mine_in (fit_unit read clusters keeps x p (is_working x.state.status)).state ≡ None) × ((fit_unit read clusters keeps x p (is_working x.state.status)).state.status ≡ Idle) × (ended_in (fit_unit read clusters keeps x p (is_working x.state.status)).state ≡ Some (record { tag = tag; outcome = o }))
-  unit_cleaning x p tag o mine st out = worked x p (λ t. (mine_in t ≡ None) × (t.status ≡ Idle) × (ended_in t ≡ Some (record { tag = tag; outcome = o }))) (transfers.unit_cleaning x.state p tag o x.fit.consistent mine st out)
-
-  cleaning_new : (x : FitState read) (p : Bool) (tag : ℕ) → mine_in x.state ≡ Some tag → x.state.status ≡ CleaningUp → outcome_in x.state ≡ Some New → BringsIn (planned_in x.state) x.state (fit_unit read clusters keeps x p (is_working x.state.status)).state
-  cleaning_new x p tag mine st out = worked x p (λ t. BringsIn (planned_in x.state) x.state t) (transfers.cleaning_new x.state p tag x.fit.consistent mine st out)
-
-  cleaning_old : (x : FitState read) (p : Bool) (tag : ℕ) → mine_in x.state ≡ Some tag → x.state.status ≡ CleaningUp → outcome_in x.state ≡ Some Old → LeavesIn x.state (fit_unit read clusters keeps x p (is_working x.state.status)).state
-  cleaning_old x p tag mine st out = worked x p (λ t. LeavesIn x.state t) (transfers.cleaning_old x.state p tag x.fit.consistent mine st out)
 
   -- what happens beside the master's calls
   outside-session : (x : FitState read) (f : Outside) (tag : ℕ) → mine_in x.state ≡ Some tag → KeepsSession (real read clusters) x.state (outside_in read x.state f)
@@ -162,7 +138,7 @@ module _ (read : Reading) (clusters : List (Cluster Bytes)) (keeps : KeepsNode r
         keep_transfers = λ x at c r. transfers-of x (record { state = kept_after x.state at c r; fit = keeps.keep x.state at c r x.fit }) (kept_after x.state at c r) refl (basics.keep_transfers read clusters x.state at c r);
         keep_ended = λ x at c r. refl;
         judge_ended = λ x c. judged x c (λ t. ended_in t ≡ ended_in x.state) (basics.judge_ended read clusters x.state c);
-        refused = refused;
+        refused = λ x c why e. ap (fit_after read clusters keeps x c) e;
         sync_state = λ x. refl;
         sync_reply = λ x. basics.sync_reply read clusters x.state x.fit.consistent;
         start_session = λ x size. session-of x (fit_after read clusters keeps x (TransferStart size) (judged_in read x.state (TransferStart size)).1) (judged_in read x.state (TransferStart size)).0 (state-is x (TransferStart size)) (basics.start_session read clusters x.state size);
@@ -177,8 +153,8 @@ module _ (read : Reading) (clusters : List (Cluster Bytes)) (keeps : KeepsNode r
         start_transfers = λ x size id e. judged x (TransferStart size) (λ t. (Contains (ids_of x.state 0) id → ⊥) × (ids_of t 0 ≡ ids_of x.state 0 ++ id ∷ [])) (transfers.start_transfers read clusters x.state size id x.fit.consistent e);
         data_transfers = λ x id counter bytes. judged x (TransferData id counter bytes) (λ t. ids_of t 0 ≡ ids_of x.state 0) (transfers.data_transfers read clusters x.state id counter bytes);
         exit_received = λ x id. transfers-of x (fit_after read clusters keeps x (TransferExit id) (judged_in read x.state (TransferExit id)).1) (judged_in read x.state (TransferExit id)).0 (state-is x (TransferExit id)) (transfers.exit_received read clusters x.state id);
-        process_idle = λ x id tag none d. process_idle x id tag none d;
-        process_ready = λ x id tag old mine d. process_ready x id tag old mine d;
+        process_idle = λ x id tag none d. judged x (ProcessSwPackage id tag) (λ t. (x.state.status ≡ Idle) × (mine_in t ≡ Some tag) × (t.status ≡ Processing) × (planned_in t ≡ []) × (id_in_processing t ≡ Some id)) (sessions.process_idle read clusters x.state id tag x.fit.consistent none d);
+        process_ready = λ x id tag old mine d. judged x (ProcessSwPackage id tag) (λ t. (x.state.status ≡ Ready) × (tag ≡ old) × (mine_in t ≡ Some old) × (t.status ≡ Processing) × (planned_in t ≡ planned_in x.state) × (id_in_processing t ≡ Some id)) (sessions.process_ready read clusters x.state id tag old x.fit.consistent mine d);
         process_received = λ x id tag. transfers-of x (fit_after read clusters keeps x (ProcessSwPackage id tag) (judged_in read x.state (ProcessSwPackage id tag)).1) (judged_in read x.state (ProcessSwPackage id tag)).0 (state-is x (ProcessSwPackage id tag)) (transfers.process_received read clusters x.state id tag);
         activate_mine = λ x d. sessions.activate_mine read clusters x.state x.fit.consistent d;
         activate = record { only = λ x tag mine d st. judged x Activate (λ t. sessions.MovesTo read clusters x.state t tag Activating None) (sessions.activate read clusters x.state tag x.fit.consistent mine d st) };
@@ -192,22 +168,22 @@ module _ (read : Reading) (clusters : List (Cluster Bytes)) (keeps : KeepsNode r
         revert = record { only = λ x tag mine d st. judged x Revert (λ t. sessions.MovesTo read clusters x.state t tag CleaningUp (Some Old)) (sessions.revert read clusters x.state tag mine d st) };
         six_replies = λ x c h. basics.six_replies read clusters x.state c h;
         process_replies = λ x id tag. basics.process_replies read clusters x.state id tag;
-        cancel = λ x id. cancelled x id;
+        cancel = cancelled;
         foreign_session = λ x f tag mine. session-of x (record { state = outside_in read x.state f; fit = keeps.foreign x.state f x.fit }) (outside_in read x.state f) refl (outside-session x f tag mine);
-        foreign_none = λ x f none. outside-none x f none;
+        foreign_none = outside-none;
         foreign_transfers = λ x f. transfers-of x (record { state = outside_in read x.state f; fit = keeps.foreign x.state f x.fit }) (outside_in read x.state f) refl (outside-transfers x f);
-        foreign_last = λ x f. outside-last x f;
-        unit_last = λ x p. unit_last x p;
-        unit_still = unit_still;
-        unit_none = λ x p none. unit_none x p none;
-        unit_processing = λ x p tag id mine st pr. unit_processing x p tag id mine st pr;
+        foreign_last = outside-last;
+        unit_last = λ x p. worked x p (λ t. (last_in t ≡ last_in x.state) × (kept_in t ≡ kept_in x.state)) (transfers.unit_last x.state p);
+        unit_still = λ x passed e. ap (fit_unit read clusters keeps x passed) e;
+        unit_none = unit_none;
+        unit_processing = unit_processing;
         unit_activating = λ x p tag mine st. worked x p (λ t. transfers.GoesTo x.state t tag (λ to. to ≡ Verifying)) (transfers.unit_activating x.state p tag mine st);
         unit_verifying = λ x p tag mine st. worked x p (λ t. transfers.GoesTo x.state t tag (λ to. (to ≡ Verifying) ⊎ ((to ≡ Activated) ⊎ (to ≡ RollingBack)))) (transfers.unit_verifying x.state p tag mine st);
         unit_rolling = λ x p tag mine st. worked x p (λ t. transfers.GoesTo x.state t tag (λ to. to ≡ RolledBack)) (transfers.unit_rolling x.state p tag mine st);
         unit_received = λ x p tag mine n. transfers-of x (fit_unit read clusters keeps x p (is_working x.state.status)) (unit_in x.state p) (unit-is x p) (transfers.unit_received read clusters x.state p n);
-        unit_cleaning = λ x p tag o mine st out. unit_cleaning x p tag o mine st out;
-        cleaning_new = λ x p tag mine st out. cleaning_new x p tag mine st out;
-        cleaning_old = λ x p tag mine st out. cleaning_old x p tag mine st out;
+        unit_cleaning = λ x p tag o mine st out. worked x p (λ t. (mine_in t ≡ None) × (t.status ≡ Idle) × (ended_in t ≡ Some (record { tag = tag; outcome = o }))) (transfers.unit_cleaning x.state p tag o x.fit.consistent mine st out);
+        cleaning_new = λ x p tag mine st out. worked x p (λ t. BringsIn (planned_in x.state) x.state t) (transfers.cleaning_new x.state p tag x.fit.consistent mine st out);
+        cleaning_old = λ x p tag mine st out. worked x p (λ t. LeavesIn x.state t) (transfers.cleaning_old x.state p tag x.fit.consistent mine st out);
         processing_id = λ x tag mine st. transfers.processing_id x.state tag x.fit.consistent st;
         synced_only = λ x c y e. basics.synced_only read clusters x.state c y e;
         session_status = λ x tag mine. sessions.session_status x.state tag x.fit.consistent mine;

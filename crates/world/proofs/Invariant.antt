@@ -3,10 +3,8 @@ use Rattle.world.proofs.Names.{◌≡◌, ◌≢◌, ◌⊎◌, ℕ, ◌≤◌, 
 use Rattle.world.proofs.Names.{CleaningUp, CampaignResult, Successful, Decision, Commit, Abort, Cause, Fold, Current}
 use Rattle.world.proofs.Names.{flag_of, end_of, all_below, Shown, Reply, ProcessSwPackage, Finish, Synced, IsBelow}
 use Rattle.world.proofs.Names.{Message, Answered, InSent, InTold, is_masters, session_status, last_status, arith, inl}
-use Rattle.world.proofs.Names.{inr, Bool, refl, sym, ◌∙◌, ap, subst, Refusal, CallNo, Status, Ready, Processing}
-use Rattle.world.proofs.Names.{Activating, Verifying, RollingBack, Call, Sync, TransferStart, TransferData}
-use Rattle.world.proofs.Names.{TransferExit, DeleteTransfer, Activate, Rollback, Revert, Cancel, Done, Refused, no_lt}
-use Rattle.world.proofs.Names.{no_eq, is_working}
+use Rattle.world.proofs.Names.{inr, Bool, refl, sym, ◌∙◌, ap, CallNo, Status, Ready, Processing, Activating, Verifying}
+use Rattle.world.proofs.Names.{RollingBack, Call, Sync, Activate, Rollback, Revert, Cancel, no_lt, no_eq, is_working}
 use Rattle.world.proofs.Rules.{NodeRules, NodeWorld, state_of, spans, EachEnded, InEarlier, shown_session, NodeLaws}
 use Rattle.world.proofs.Rules.{KeepsSession, delivered}
 
@@ -130,124 +128,45 @@ module _ (N : NodeRules) (laws : NodeLaws N) where
       go None e = ends_old-none (N.unit s passed) (laws.unit_none s passed e).0
       go (Some tag) e = at_status tag e (N.status s) refl
 
-  -- a call that changes a session is carried out, or leaves the state
-  pub refused-or : (s : N.State) (call : Call) (P : N.State → Type 0) → P s → ((N.judge s call).1 ≡ Done) ⊎ ((why : Refusal) × ((N.judge s call).1 ≡ Refused why)) → ((N.judge s call).1 ≡ Done → P (N.judge s call).0) → P (N.judge s call).0
-  refused-or s call P here replies done = elim replies [ inl d ↦ done d | inr r ↦ subst P (sym (laws.refused s call r.0 r.1)) here ]
-
-  -- a Cancel is refused, or stops what is in processing
-  cancelled : (s : N.State) (id : ℕ) (P : N.State → Type 0) → P s
-      → ((tag : ℕ) → N.mine s ≡ Some tag → N.status s ≡ Processing → N.mine (N.judge s (Cancel id)).0 ≡ Some tag → (N.status (N.judge s (Cancel id)).0 ≡ Ready) ⊎ ((N.status (N.judge s (Cancel id)).0 ≡ CleaningUp) × (N.outcome (N.judge s (Cancel id)).0 ≡ Some Old)) → P (N.judge s (Cancel id)).0)
-      → P (N.judge s (Cancel id)).0
-  cancelled s id P here there = elim (laws.cancel s id) [ inl r ↦ subst P (sym (laws.refused s (Cancel id) r.0 r.1)) here | inr d ↦ there d.0 d.1 d.2 d.3 d.4 ]
-
   -- without a session of client 0 only ProcessSwPackage makes one
   pub none-judge : (s : N.State) (call : Call) → ((id tag : ℕ) → call ≢ ProcessSwPackage id tag) → N.mine s ≡ None → N.mine (N.judge s call).0 ≡ None
-  none-judge s Sync not e = ap N.mine (laws.sync_state s) ∙ e
-  none-judge s (TransferStart size) not e = (laws.start_session s size).mine ∙ e
-  none-judge s (TransferData id counter bytes) not e = (laws.data_session s id counter bytes).mine ∙ e
-  none-judge s (TransferExit id) not e = (laws.exit_session s id).mine ∙ e
-  none-judge s (DeleteTransfer id) not e = (laws.delete_session s id).mine ∙ e
   none-judge s (ProcessSwPackage id tag) not e = absurd (not id tag refl)
-  none-judge s Activate not e =
-      refused-or s Activate (λ t. N.mine t ≡ None) e (laws.six_replies s Activate (inl refl)) (λ d. absurd (cc ((laws.activate_mine s d).1, e)))
-  none-judge s Finish not e =
-      refused-or s Finish (λ t. N.mine t ≡ None) e (laws.six_replies s Finish (inr (inl refl))) (λ d. absurd (cc ((laws.finish_mine s d).1, e)))
-  none-judge s Rollback not e =
-      refused-or s Rollback (λ t. N.mine t ≡ None) e (laws.six_replies s Rollback (inr (inr (inl refl)))) (λ d. absurd (cc ((laws.rollback_mine s d).1, e)))
-  none-judge s Revert not e =
-      refused-or s Revert (λ t. N.mine t ≡ None) e (laws.six_replies s Revert (inr (inr (inr refl)))) (λ d. absurd (cc ((laws.revert_mine s d).1, e)))
-  none-judge s (Cancel id) not e = cancelled s id (λ t. N.mine t ≡ None) e (λ tag m st n o. absurd (cc (m, e)))
+  none-judge s Activate not e = grind (arith, laws.six_replies s Activate (inl refl), laws.refused s Activate, laws.activate_mine s)
+  none-judge s Finish not e = grind (arith, laws.six_replies s Finish (inr (inl refl)), laws.refused s Finish, laws.finish_mine s)
+  none-judge s Rollback not e = grind (arith, laws.six_replies s Rollback (inr (inr (inl refl))), laws.refused s Rollback, laws.rollback_mine s)
+  none-judge s Revert not e = grind (arith, laws.six_replies s Revert (inr (inr (inr refl))), laws.refused s Revert, laws.revert_mine s)
+  none-judge s (Cancel id) not e = grind (arith, laws.refused s (Cancel id), laws.cancel s id)
+  none-judge s x not e = grind (arith, laws.sync_state s, laws.start_session s, laws.data_session s, laws.exit_session s, laws.delete_session s)
 
   -- no call takes client 0's session away or changes its tag
   pub some-judge : (s : N.State) (call : Call) (tag : ℕ) → N.mine s ≡ Some tag → N.mine (N.judge s call).0 ≡ Some tag
-  some-judge s Sync tag e = ap N.mine (laws.sync_state s) ∙ e
-  some-judge s (TransferStart size) tag e = (laws.start_session s size).mine ∙ e
-  some-judge s (TransferData id counter bytes) tag e = (laws.data_session s id counter bytes).mine ∙ e
-  some-judge s (TransferExit id) tag e = (laws.exit_session s id).mine ∙ e
-  some-judge s (DeleteTransfer id) tag e = (laws.delete_session s id).mine ∙ e
-  some-judge s (ProcessSwPackage id t) tag e =
-      refused-or s (ProcessSwPackage id t) (λ x. N.mine x ≡ Some tag) e (laws.process_replies s id t) (λ d. (laws.process_ready s id t tag e d).2)
-  some-judge s Activate tag e =
-      refused-or s Activate (λ x. N.mine x ≡ Some tag) e (laws.six_replies s Activate (inl refl)) (λ d. (laws.activate.only s tag e d (laws.activate_mine s d).2).0)
-  some-judge s Finish tag e =
-      refused-or s Finish (λ x. N.mine x ≡ Some tag) e (laws.six_replies s Finish (inr (inl refl))) (λ d.
-      elim (laws.finish_mine s d).2 [ inl a ↦ (laws.finish_new.only s tag e d a).0 | inr b ↦ (laws.finish_old.only s tag e d b).0 ])
-  some-judge s Rollback tag e =
-      refused-or s Rollback (λ x. N.mine x ≡ Some tag) e (laws.six_replies s Rollback (inr (inr (inl refl)))) (λ d.
-      elim (laws.rollback_mine s d).2 [ inl a ↦ (laws.rollback_verifying.only s tag e d a).0 | inr b ↦ (laws.rollback_activated.only s tag e d b).0 ])
-  some-judge s Revert tag e =
-      refused-or s Revert (λ x. N.mine x ≡ Some tag) e (laws.six_replies s Revert (inr (inr (inr refl)))) (λ d. (laws.revert.only s tag e d (laws.revert_mine s d).2).0)
-  some-judge s (Cancel id) tag e = cancelled s id (λ t. N.mine t ≡ Some tag) e (λ tag m st n o. n ∙ (sym m ∙ e))
+  some-judge s (ProcessSwPackage id tag) old e = grind (arith, laws.process_replies s id tag, laws.refused s (ProcessSwPackage id tag), laws.process_idle s id tag, laws.process_ready s id tag)
+  some-judge s Activate tag e = grind (arith, laws.six_replies s Activate (inl refl), laws.refused s Activate, laws.activate_mine s, laws.activate.only s)
+  some-judge s Finish tag e = grind (arith, laws.six_replies s Finish (inr (inl refl)), laws.refused s Finish, laws.finish_mine s, laws.finish_new.only s, laws.finish_old.only s)
+  some-judge s Rollback tag e = grind (arith, laws.six_replies s Rollback (inr (inr (inl refl))), laws.refused s Rollback, laws.rollback_mine s, laws.rollback_verifying.only s, laws.rollback_activated.only s)
+  some-judge s Revert tag e = grind (arith, laws.six_replies s Revert (inr (inr (inr refl))), laws.refused s Revert, laws.revert_mine s, laws.revert.only s)
+  some-judge s (Cancel id) tag e = grind (arith, laws.refused s (Cancel id), laws.cancel s id)
+  some-judge s x tag e = grind (arith, laws.sync_state s, laws.start_session s, laws.data_session s, laws.exit_session s, laws.delete_session s)
 
   -- where only ProcessSwPackage could begin a session, a rolled back one stays so
   pub rolled-judge : (s : N.State) (call : Call) → ((id tag : ℕ) → call ≢ ProcessSwPackage id tag) → IsRolledBack N s → IsRolledBack N (N.judge s call).0
-  rolled-judge s Sync not r = subst (λ t. IsRolledBack N t) (sym (laws.sync_state s)) r
-  rolled-judge s (TransferStart size) not r = rolled-keeps s _ (laws.start_session s size) r
-  rolled-judge s (TransferData id counter bytes) not r = rolled-keeps s _ (laws.data_session s id counter bytes) r
-  rolled-judge s (TransferExit id) not r = rolled-keeps s _ (laws.exit_session s id) r
-  rolled-judge s (DeleteTransfer id) not r = rolled-keeps s _ (laws.delete_session s id) r
   rolled-judge s (ProcessSwPackage id tag) not r = absurd (not id tag refl)
-  rolled-judge s Activate not r =
-      refused-or s Activate (λ t. IsRolledBack N t) r (laws.six_replies s Activate (inl refl)) (λ d.
-      let m = laws.activate_mine s d in
-      absurd (elim (r m.0 m.1) [ inl a ↦ (cc (a, m.2)) | inr b ↦ (cc (b, m.2)) ]))
-  rolled-judge s Finish not r =
-      refused-or s Finish (λ t. IsRolledBack N t) r (laws.six_replies s Finish (inr (inl refl))) (λ d tag mine.
-      let m = laws.finish_mine s d in
-      elim m.2 [
-        | inl a ↦ absurd (elim (r m.0 m.1) [ inl x ↦ (cc (a, x)) | inr y ↦ (cc (a, y)) ])
-        | inr b ↦ inr (laws.finish_old.only s m.0 m.1 d b).1
-      ])
-  rolled-judge s Rollback not r =
-      refused-or s Rollback (λ t. IsRolledBack N t) r (laws.six_replies s Rollback (inr (inr (inl refl)))) (λ d.
-      let m = laws.rollback_mine s d in
-      absurd (elim (r m.0 m.1) [
-        | inl x ↦ elim m.2 [ inl a ↦ (cc (a, x)) | inr b ↦ (cc (b, x)) ]
-        | inr y ↦ elim m.2 [ inl a ↦ (cc (a, y)) | inr b ↦ (cc (b, y)) ]
-      ]))
-  rolled-judge s Revert not r =
-      refused-or s Revert (λ t. IsRolledBack N t) r (laws.six_replies s Revert (inr (inr (inr refl)))) (λ d.
-      let m = laws.revert_mine s d in
-      absurd (elim (r m.0 m.1) [ inl a ↦ (cc (a, m.2)) | inr b ↦ (cc (b, m.2)) ]))
-  rolled-judge s (Cancel id) not r = cancelled s id (λ t. IsRolledBack N t) r (λ tag m st n o. absurd (elim (r tag m) [ inl a ↦ (cc (a, st)) | inr b ↦ (cc (b, st)) ]))
+  rolled-judge s Activate not r = grind (arith, laws.six_replies s Activate (inl refl), laws.refused s Activate, laws.activate_mine s, laws.activate.only s)
+  rolled-judge s Finish not r = grind (arith, laws.six_replies s Finish (inr (inl refl)), laws.refused s Finish, laws.finish_mine s, laws.finish_new.only s, laws.finish_old.only s)
+  rolled-judge s Rollback not r = grind (arith, laws.six_replies s Rollback (inr (inr (inl refl))), laws.refused s Rollback, laws.rollback_mine s, laws.rollback_verifying.only s, laws.rollback_activated.only s)
+  rolled-judge s Revert not r = grind (arith, laws.six_replies s Revert (inr (inr (inr refl))), laws.refused s Revert, laws.revert_mine s, laws.revert.only s)
+  rolled-judge s (Cancel id) not r = grind (arith, laws.refused s (Cancel id), laws.cancel s id)
+  rolled-judge s x not r = grind (arith, rolled-keeps, laws.sync_state s, laws.start_session s, laws.data_session s, laws.exit_session s, laws.delete_session s)
 
   -- a session ends as New only by a Finish that doesn't meet RolledBack
-  pub ends_old-to : (t : N.State) (to : Status) → to ≢ CleaningUp → N.status t ≡ to → EndsOld N t
-  ends_old-to t to no_clean e tag mine status = absurd (no_clean (sym e ∙ status))
-
   pub ends_old-judge : (s : N.State) (call : Call) → (call ≡ Finish → IsRolledBack N s) → EndsOld N s → EndsOld N (N.judge s call).0
-  ends_old-judge s Sync fin o = subst (λ t. EndsOld N t) (sym (laws.sync_state s)) o
-  ends_old-judge s (TransferStart size) fin o = ends_old-keeps s _ (laws.start_session s size) o
-  ends_old-judge s (TransferData id counter bytes) fin o = ends_old-keeps s _ (laws.data_session s id counter bytes) o
-  ends_old-judge s (TransferExit id) fin o = ends_old-keeps s _ (laws.exit_session s id) o
-  ends_old-judge s (DeleteTransfer id) fin o = ends_old-keeps s _ (laws.delete_session s id) o
-  ends_old-judge s (ProcessSwPackage id tag) fin o =
-      refused-or s (ProcessSwPackage id tag) (λ t. EndsOld N t) o (laws.process_replies s id tag) (λ d. go (N.mine s) refl d)
-    where
-      go : (m : Option ℕ) → N.mine s ≡ m → (N.judge s (ProcessSwPackage id tag)).1 ≡ Done → EndsOld N (N.judge s (ProcessSwPackage id tag)).0
-      go None e d = ends_old-to _ Processing (λ q. cc) (laws.process_idle s id tag e d).2
-      go (Some old) e d = ends_old-to _ Processing (λ q. cc) (laws.process_ready s id tag old e d).3
-  ends_old-judge s Activate fin o =
-      refused-or s Activate (λ t. EndsOld N t) o (laws.six_replies s Activate (inl refl)) (λ d.
-      let m = laws.activate_mine s d in ends_old-to _ Activating (λ q. cc) (laws.activate.only s m.0 m.1 d m.2).1)
-  ends_old-judge s Finish fin o =
-      refused-or s Finish (λ t. EndsOld N t) o (laws.six_replies s Finish (inr (inl refl))) (λ d tag mine status.
-      let m = laws.finish_mine s d in
-      elim m.2 [
-        | inl a ↦ absurd (elim (fin refl m.0 m.1) [ inl x ↦ (cc (a, x)) | inr y ↦ (cc (a, y)) ])
-        | inr b ↦ (laws.finish_old.only s m.0 m.1 d b).3
-      ])
-  ends_old-judge s Rollback fin o =
-      refused-or s Rollback (λ t. EndsOld N t) o (laws.six_replies s Rollback (inr (inr (inl refl)))) (λ d.
-      let m = laws.rollback_mine s d in
-      elim m.2 [
-        | inl a ↦ ends_old-to _ RollingBack (λ q. cc) (laws.rollback_verifying.only s m.0 m.1 d a).1
-        | inr b ↦ ends_old-to _ RollingBack (λ q. cc) (laws.rollback_activated.only s m.0 m.1 d b).1
-      ])
-  ends_old-judge s Revert fin o =
-      refused-or s Revert (λ t. EndsOld N t) o (laws.six_replies s Revert (inr (inr (inr refl)))) (λ d tag mine status.
-      let m = laws.revert_mine s d in (laws.revert.only s m.0 m.1 d m.2).3)
-  ends_old-judge s (Cancel id) fin o = cancelled s id (λ t. EndsOld N t) o (λ tag m st n to. elim to [ inl a ↦ ends_old-to _ Ready (λ q. cc) a | inr b ↦ (λ t mine status. b.1) ])
+  ends_old-judge s (ProcessSwPackage id tag) fin o = grind (arith, laws.process_replies s id tag, laws.refused s (ProcessSwPackage id tag), laws.process_idle s id tag, laws.process_ready s id tag)
+  ends_old-judge s Activate fin o = grind (arith, laws.six_replies s Activate (inl refl), laws.refused s Activate, laws.activate_mine s, laws.activate.only s)
+  ends_old-judge s Finish fin o = grind (arith, laws.six_replies s Finish (inr (inl refl)), laws.refused s Finish, laws.finish_mine s, laws.finish_new.only s, laws.finish_old.only s)
+  ends_old-judge s Rollback fin o = grind (arith, laws.six_replies s Rollback (inr (inr (inl refl))), laws.refused s Rollback, laws.rollback_mine s, laws.rollback_verifying.only s, laws.rollback_activated.only s)
+  ends_old-judge s Revert fin o = grind (arith, laws.six_replies s Revert (inr (inr (inr refl))), laws.refused s Revert, laws.revert_mine s, laws.revert.only s)
+  ends_old-judge s (Cancel id) fin o = grind (arith, laws.refused s (Cancel id), laws.cancel s id)
+  ends_old-judge s x fin o = grind (arith, ends_old-keeps, laws.sync_state s, laws.start_session s, laws.data_session s, laws.exit_session s, laws.delete_session s)
 
   -- a delivery is nothing, or a call that is judged and kept
   pub delivered-cases : (s : N.State) (at : CallNo) (call : Call) (P : N.State → Type 0) → P s → (no_lt at (N.last s) ≡ false → no_eq at (N.last s) ≡ false → P (N.keep (N.judge s call).0 at call (N.judge s call).1)) → P (delivered N s at call)

@@ -1,10 +1,10 @@
 -- The stages ask for the calls of the list of all rounds, in its order: while each reply fits its call, the stage's call is the list's call at the number of replies.
-use Rattle.world.proofs.Names.{◌≡◌, ◌≢◌, ℕ, zero, suc, ◌+◌, ◌≤◌, List, [], ◌∷◌, ◌++◌, length, take, drop, Some, refl}
-use Rattle.world.proofs.Names.{sym, ◌∙◌, ap, append_assoc, length-drop, arith, Call, Reply, Sync, TransferStart}
-use Rattle.world.proofs.Names.{TransferData, TransferExit, ProcessSwPackage, Activate, Done, Started, Synced, Fits}
-use Rattle.world.proofs.Names.{AllFit, blocks_from, head_or, tail_of, all_transfers, all_processed, round_calls}
-use Rattle.world.proofs.Names.{nth_call, Stage, At_sync, At_start, At_data, At_process, At_activate, Over, Refused_once}
-use Rattle.world.proofs.Names.{call_at, onward, next_package, next_processed, stage_of}
+use Rattle.world.proofs.Names.{append-nil, ◌≡◌, ◌≢◌, ℕ, zero, suc, ◌+◌, ◌≤◌, List, [], ◌∷◌, ◌++◌, length, take, drop}
+use Rattle.world.proofs.Names.{Some, refl, sym, ◌∙◌, ap, append_assoc, length-drop, arith, Call, Reply, Sync}
+use Rattle.world.proofs.Names.{TransferStart, TransferData, TransferExit, ProcessSwPackage, Activate, Done, Started}
+use Rattle.world.proofs.Names.{Synced, Fits, AllFit, blocks_from, head_or, tail_of, all_transfers, all_processed}
+use Rattle.world.proofs.Names.{round_calls, nth_call, Stage, At_sync, At_start, At_data, At_process, At_activate, Over}
+use Rattle.world.proofs.Names.{Refused_once, call_at, onward, next_package, next_processed, stage_of}
 use Rattle.world.specs.RoundCalls.{ids_of}
 
 -- the processing of these ids, and Activate
@@ -43,14 +43,14 @@ blocks-room (suc n) (suc m) id counter (b ∷ bs) h g =
     ap (λ (l : List Call). TransferData id counter (take 4096 (b ∷ bs)) ∷ l) (blocks-room n m id (counter + 1) (drop 4096 (b ∷ bs)) x y)
 blocks-room _ _ id counter _ h g = refl
 
+not-empty : (l : List ℕ) (x : ℕ) → l ++ x ∷ [] ≢ []
+not-empty [] x e = cc e
+not-empty (y ∷ ys) x e = cc e
+
 module _ (k : ℕ) (ps : List (List ℕ)) where
   -- after the last package its processing begins
   next-rest : (ids : List ℕ) (left : List (List ℕ)) (later : List ℕ) → (left ≡ [] → ids ≢ []) → all_transfers later left ++ processed k (ids ++ with_later [] later left) ≡ rest_of k ps (next_package ids left) later
-  next-rest ids [] later some = ap (processed k) (nil ids)
-    where
-      nil : (l : List ℕ) → l ++ [] ≡ l
-      nil [] = refl
-      nil (x ∷ xs) = ap (λ (l : List ℕ). x ∷ l) (nil xs)
+  next-rest ids [] later some = ap (processed k) (append-nil ids)
   next-rest ids (p ∷ left) later some = refl
 
   processed-later : (ids : List ℕ) (taken : ℕ) (later : List ℕ) → processed k ids ≡ rest_of k ps (next_processed ids taken) later
@@ -73,10 +73,6 @@ module _ (k : ℕ) (ps : List (List ℕ)) where
         (ap (λ (l : List ℕ). all_transfers (ids_of rs) left ++ processed k l) (sym (append_assoc ids (id ∷ []) (with_later [] (ids_of rs) left)))
         ∙ next-rest (ids ++ id ∷ []) left (ids_of rs) (λ e. not-empty ids id)),
   )
-    where
-      not-empty : (l : List ℕ) (x : ℕ) → l ++ x ∷ [] ≢ []
-      not-empty [] x e = cc e
-      not-empty (y ∷ ys) x e = cc e
   one-on (At_data ids id counter (b ∷ bs) left) Done rs some h = (
     TransferData id counter (take 4096 (b ∷ bs)),
     refl,
@@ -106,10 +102,6 @@ module _ (k : ℕ) (ps : List (List ℕ)) where
   reached-on At_sync (Synced x) some h = reached-next [] ps (λ e. absurd (some e))
   reached-on (At_start ids (p ∷ left)) (Started id) some h = tt
   reached-on (At_data ids id counter [] left) Done some h = reached-next (ids ++ id ∷ []) left (λ e. not-empty ids id)
-    where
-      not-empty : (l : List ℕ) (x : ℕ) → l ++ x ∷ [] ≢ []
-      not-empty [] x e = cc e
-      not-empty (y ∷ ys) x e = cc e
   reached-on (At_data ids id counter (b ∷ bs) left) Done some h = tt
   reached-on (At_process (id ∷ ids) taken) Done some h = reached-processed ids (suc taken)
   reached-on At_activate Done some h = tt

@@ -1,14 +1,12 @@
 -- Laws of the real node: the calls on client 0's session.
-use Rattle.world.proofs.Names.{arith, ◌≡◌, ◌≢◌, ◌⊎◌, inl, inr, ℕ, List, [], ◌∷◌, Option, Some, None, true, false, refl}
-use Rattle.world.proofs.Names.{sym, ◌∙◌, ap, subst, ◌==◌, not, is_none, option_map, option_and_then, option_map_or}
-use Rattle.world.proofs.Names.{Bytes, Call, Outcome, New, Old, Refusal, Change, Cluster, Status, Idle, Ready}
-use Rattle.world.proofs.Names.{Processing, Activating, Verifying, Activated, RollingBack, RolledBack, CleaningUp}
-use Rattle.world.proofs.Names.{NodeState, Session, some_passes, first_refusal, status_table, session_refusals}
-use Rattle.world.proofs.Names.{changes_in, arrive, clean_up, stop_processing, cancel_refusals, transfer_of, header_of}
-use Rattle.world.proofs.Names.{refusal, Reading, verdict_for, IsConsistent, id_in_processing, ProcessSwPackage}
-use Rattle.world.proofs.Names.{Activate, Finish, Rollback, Revert, Done, is_status}
+use Rattle.world.proofs.Names.{arith, ◌≡◌, ◌≢◌, ◌⊎◌, inl, inr, ℕ, List, [], Option, Some, None, true, false, refl, sym}
+use Rattle.world.proofs.Names.{◌∙◌, subst, ◌==◌, not, is_none, Bytes, Call, Outcome, New, Old, Refusal, Cluster, Status}
+use Rattle.world.proofs.Names.{Idle, Ready, Processing, Activating, Verifying, Activated, RollingBack, RolledBack}
+use Rattle.world.proofs.Names.{CleaningUp, NodeState, Session, some_passes, first_refusal, status_table}
+use Rattle.world.proofs.Names.{session_refusals, refusal, Reading, verdict_for, IsConsistent, id_in_processing}
+use Rattle.world.proofs.Names.{ProcessSwPackage, Activate, Finish, Rollback, Revert, Done, is_status}
 use Rattle.world.proofs.Instance.{tag_if, mine_in, planned_in, outcome_in, judged_in}
-use Rattle.world.proofs.Basics.{done-or-refused, done-accepted, done-none, or-none}
+use Rattle.world.proofs.Basics.{done-or-refused, done-none}
 use Rattle.pm_types.specs.declared.calls.Call.TheVariants as call
 use Rattle.pm_types.specs.declared.replies.Reply.TheVariants as reply
 
@@ -75,36 +73,18 @@ module _ (read : Reading) (clusters : List (Cluster Bytes)) where
   abbrev pub Stopped : NodeState → NodeState → Type 0
   Stopped s t = (tag : ℕ) × (mine_in s ≡ Some tag) × (s.status ≡ Processing) × (mine_in t ≡ Some tag) × ((t.status ≡ Ready) ⊎ ((t.status ≡ CleaningUp) × (outcome_in t ≡ Some Old)))
 
-  cancel-from : (st : Status) (id : ℕ) → is_none (status_table st (call.Cancel id)) ≡ false → st ≡ Processing
-  cancel-from x id q = grind arith
+  cancel_mine : (s : NodeState) (id : ℕ) → IsConsistent s → (judged_in read s (call.Cancel id)).1 ≡ Done → (tag : ℕ) × (mine_in s ≡ Some tag) × (s.status ≡ Processing)
+  cancel_mine s id v d = grind (arith, done-none, mine-of, not-idle)
+
+  cancelled : (s : NodeState) (id tag : ℕ) → mine_in s ≡ Some tag → s.status ≡ Processing → (judged_in read s (call.Cancel id)).1 ≡ Done → (mine_in (judged_in read s (call.Cancel id)).0 ≡ Some tag) × (((judged_in read s (call.Cancel id)).0.status ≡ Ready) ⊎ (((judged_in read s (call.Cancel id)).0.status ≡ CleaningUp) × (outcome_in (judged_in read s (call.Cancel id)).0 ≡ Some Old)))
+  cancelled s id tag mine st d = grind arith
 
   pub cancel : (s : NodeState) (id : ℕ) → IsConsistent s → ((why : Refusal) × ((judged_in read s (call.Cancel id)).1 ≡ reply.Refused why)) ⊎ Stopped s (judged_in read s (call.Cancel id)).0
-  cancel s id v = elim (done-or-refused reply.Done (refusal s 0 (call.Cancel id) (verdict_for read s 0 (call.Cancel id))) refl) [ inr r ↦ inl r | inl d ↦ inr (done d) ]
-    where
-      stop : Session → Session
-      stop x = record x { processing = None }
-
-      done : (judged_in read s (call.Cancel id)).1 ≡ reply.Done → Stopped s (judged_in read s (call.Cancel id)).0
-      done d =
-          let a = or-none (first_refusal (session_refusals s 0 (call.Cancel id))) (first_refusal (cancel_refusals (header_of (transfer_of s 0 id)))) (done-none reply.Done (refusal s 0 (call.Cancel id) (verdict_for read s 0 (call.Cancel id))) d) in
-          let l = let-through s (call.Cancel id) a.0 in
-          let st = cancel-from s.status id l.1 in
-          let x = session-there s v (λ q. cc (st, q)) in
-          let mine = not-busy s x.0 x.1 l.0 in
-          let led = done-accepted s 0 (call.Cancel id) (verdict_for read s 0 (call.Cancel id)) d ∙ ap (λ y. option_map_or (arrive (stop_processing s id)) (status_table y (call.Cancel id)) (stop_processing s id)) st in
-          let same : mine_in (stop_processing s id) ≡ Some x.0.tag = ap (λ o. option_and_then (λ (y : Session). tag_if (y.owner == 0) y.tag) (option_map stop o)) x.1 ∙ (sym (ap (λ o. option_and_then (λ (y : Session). tag_if (y.owner == 0) y.tag) o) x.1) ∙ mine) in
-          (x.0.tag, mine, st, subst (λ t. mine_in t ≡ Some x.0.tag) (sym led) (kept x.0 x.1 same (changes_in (stop_processing s id))), subst (λ t. (t.status ≡ Ready) ⊎ ((t.status ≡ CleaningUp) × (outcome_in t ≡ Some Old))) (sym led) (goes x.0 x.1 (changes_in (stop_processing s id))))
-        where
-          resumed : List (Change Bytes) → NodeState
-          resumed cs = elim cs as (λ _. NodeState) [ [] ↦ clean_up Old (stop_processing s id) | c ∷ rest ↦ record (stop_processing s id) { status = Ready } ]
-
-          kept : (x : Session) → s.session ≡ Some x → mine_in (stop_processing s id) ≡ Some x.tag → (cs : List (Change Bytes)) → mine_in (resumed cs) ≡ Some x.tag
-          kept x e m [] = ap (λ o. option_and_then (λ (y : Session). tag_if (y.owner == 0) y.tag) (option_map (λ (y : Session). record y { outcome = Some Old }) (option_map stop o))) e ∙ (sym (ap (λ o. option_and_then (λ (y : Session). tag_if (y.owner == 0) y.tag) (option_map stop o)) e) ∙ m)
-          kept x e m (c ∷ rest) = m
-
-          goes : (x : Session) → s.session ≡ Some x → (cs : List (Change Bytes)) → ((resumed cs).status ≡ Ready) ⊎ (((resumed cs).status ≡ CleaningUp) × (outcome_in (resumed cs) ≡ Some Old))
-          goes x e [] = inr (refl, ap (λ o. option_and_then (λ (y : Session). y.outcome) (option_map (λ (y : Session). record y { outcome = Some Old }) (option_map stop o))) e)
-          goes x e (c ∷ rest) = inl refl
+  cancel s id v =
+      elim (done-or-refused reply.Done (refusal s 0 (call.Cancel id) (verdict_for read s 0 (call.Cancel id))) refl) [
+        | inr r ↦ inl r
+        | inl d ↦ (let m = cancel_mine s id v d in let t = cancelled s id m.0 m.1 m.2 d in inr (m.0, m.1, m.2, t.0, t.1))
+      ]
 
   pub process_idle : (s : NodeState) (id tag : ℕ) → IsConsistent s → mine_in s ≡ None → (judged_in read s (ProcessSwPackage id tag)).1 ≡ Done → (s.status ≡ Idle) × (mine_in (judged_in read s (ProcessSwPackage id tag)).0 ≡ Some tag) × ((judged_in read s (ProcessSwPackage id tag)).0.status ≡ Processing) × (planned_in (judged_in read s (ProcessSwPackage id tag)).0 ≡ []) × (id_in_processing (judged_in read s (ProcessSwPackage id tag)).0 ≡ Some id)
   process_idle s id tag v none d =

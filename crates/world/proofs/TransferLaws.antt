@@ -1,17 +1,15 @@
 -- Laws of the real node: work units.
-use Rattle.world.proofs.Names.{◌≡◌, ◌⊎◌, ℕ, List, [], ◌∷◌, Option, Some, None, Bool, false, refl, ◌∙◌, ap, subst, arith}
-use Rattle.world.proofs.Names.{IfSome, option_map, option_and_then, map, unwrap_or, eqb-true, get_or-set_same, Bytes}
-use Rattle.world.proofs.Names.{Outcome, New, Old, UnitAfter, Status, Idle, Processing, Activating, Verifying, Activated}
-use Rattle.world.proofs.Names.{RollingBack, RolledBack, CleaningUp, NodeState, Session, with_entry, unit_of}
-use Rattle.world.proofs.Names.{IsConsistent, should_run, id_in_processing, ◌≢◌, zero, suc, ◌+◌, ◌<◌, ◌++◌, length}
-use Rattle.world.proofs.Names.{get_or, true, ◌==◌, ◌||◌, not, find, nat_lt, filter, if◌then◌else◌, AllByRecursion}
-use Rattle.world.proofs.Names.{Contains, eq-eqb, map-append, filter-append, find-append, block_limit, Call, Refusal}
-use Rattle.world.proofs.Names.{OperationNotPermitted, IncorrectBlock, IncorrectSize, Header, Transferring, Transferred}
-use Rattle.world.proofs.Names.{BeingProcessed, Processed, Cluster, Ready, Transfer, some_passes, is_in, all_units}
-use Rattle.world.proofs.Names.{led_by, begin_processing, is_of, ids_of, parts_read, in_phase, exited, process_unit}
-use Rattle.world.proofs.Names.{processed, parts_of_id, activate_unit, verify_unit, roll_back_unit, Reading, verdict_for}
-use Rattle.world.proofs.Names.{IsSound, IsFit, TransferStart, TransferData, TransferExit, ProcessSwPackage, Done}
-use Rattle.world.proofs.Names.{Started}
+use Rattle.world.proofs.Names.{inl, inr, ◌≡◌, ◌⊎◌, ℕ, List, [], ◌∷◌, Option, Some, None, Bool, refl, ◌∙◌, ap, subst}
+use Rattle.world.proofs.Names.{arith, IfSome, map, eqb-true, get_or-set_same, Bytes, Outcome, New, Old, UnitAfter}
+use Rattle.world.proofs.Names.{Status, Idle, Processing, Activating, Verifying, Activated, RollingBack, RolledBack}
+use Rattle.world.proofs.Names.{CleaningUp, NodeState, Session, with_entry, unit_of, IsConsistent, should_run}
+use Rattle.world.proofs.Names.{id_in_processing, ◌≢◌, zero, suc, ◌+◌, ◌<◌, ◌++◌, length, get_or, true, ◌==◌, ◌||◌, not}
+use Rattle.world.proofs.Names.{find, nat_lt, filter, AllByRecursion, Contains, eq-eqb, map-append, filter-append}
+use Rattle.world.proofs.Names.{find-append, block_limit, Call, Refusal, OperationNotPermitted, IncorrectBlock}
+use Rattle.world.proofs.Names.{IncorrectSize, Header, Transferring, Transferred, BeingProcessed, Processed, Cluster}
+use Rattle.world.proofs.Names.{Ready, Transfer, some_passes, is_in, led_by, begin_processing, is_of, ids_of, parts_read}
+use Rattle.world.proofs.Names.{in_phase, exited, parts_of_id, Reading, verdict_for, IsSound, IsFit, TransferStart}
+use Rattle.world.proofs.Names.{TransferData, TransferExit, ProcessSwPackage, Done, Started}
 use Rattle.world.proofs.WordLaws.{run_parts, planned-run, runs-new}
 use Rattle.world.proofs.Instance.{last_in, kept_in, mine_in, planned_in, outcome_in, ended_in, unit_in, BringsIn}
 use Rattle.world.proofs.Instance.{LeavesIn, tag_if, received_in, judged_in, real}
@@ -21,18 +19,6 @@ use Rattle.node_laws.proofs.NameLists.{names-of-parts}
 use Rattle.node_laws.proofs.KeptProcessing.{names-kept, parts-of-changes}
 use Rattle.world.proofs.Basics.{judged-by, done-none, not-refused}
 use Rattle.pm_types.specs.declared.calls.Call.TheVariants as call
-
--- a unit is nothing, or what the work table says
-pub unit-cases : (s : NodeState) (passed : Bool) (P : NodeState → Type 0) → P s → ((x : Session) → s.session ≡ Some x → (t : NodeState) → unit_of s x passed s.status ≡ Some t → P (with_entry (UnitAfter t.status) t)) → P (unit_in s passed)
-unit-cases s passed P here there = go s.session refl
-  where
-    done : (x : Session) → s.session ≡ Some x → (r : Option NodeState) → unit_of s x passed s.status ≡ r → P (unwrap_or (option_map (λ (t : NodeState). with_entry (UnitAfter t.status) t) r) s)
-    done x e None q = here
-    done x e (Some t) q = there x e t q
-
-    go : (o : Option Session) → s.session ≡ o → P (unwrap_or (option_map (λ (t : NodeState). with_entry (UnitAfter t.status) t) (option_and_then (λ (x : Session). unit_of s x passed s.status) o)) s)
-    go None e = here
-    go (Some x) e = done x e (unit_of s x passed s.status) refl
 
 pub unit-is : (s : NodeState) (passed : Bool) (x : Session) (t : NodeState) → s.session ≡ Some x → unit_of s x passed s.status ≡ Some t → unit_in s passed ≡ with_entry (UnitAfter t.status) t
 unit-is s passed x t e q = grind arith
@@ -144,38 +130,16 @@ module _ (read : Reading) (clusters : List (Cluster Bytes)) where
   pub start_received : (s : NodeState) (size id : ℕ) → IsConsistent s → (judged_in read s (TransferStart size)).1 ≡ Started id → (received_in (judged_in read s (TransferStart size)).0 id ≡ []) × ((other : ℕ) → other ≢ id → received_in (judged_in read s (TransferStart size)).0 other ≡ received_in s other)
   start_received s size id v e = grind (arith, received_in, find-append, none-found, eqb-true)
 
-  -- units
-  process-transfers : (s : NodeState) (x : Session) (id : ℕ) → KeepsTransfers (real read clusters) s (process_unit s x id)
-  process-transfers s x id = go (nat_lt (x.units_done + 1) (all_units (parts_of_id s x id)))
-    where
-      go : (b : Bool) → KeepsTransfers (real read clusters) s (if b then record s { session = Some (record x { units_done = x.units_done + 1 }) } else processed s x id (parts_of_id s x id))
-      go true = keeps-all s (record s { session = Some (record x { units_done = x.units_done + 1 }) }) refl
-      go false = keeps-changed s (processed s x id (parts_of_id s x id)) id (λ t. record t { header = in_phase Processed t.header }) (names-kept Processed) (λ t. refl) refl
+  -- a unit changes at most the phase of the transfer in processing
+  in-process : (s : NodeState) (passed : Bool) (id : ℕ) → id_in_processing s ≡ Some id → s.status ≢ CleaningUp → ((unit_in s passed).transfers ≡ s.transfers) ⊎ ((unit_in s passed).transfers ≡ map (changed id (λ t. record t { header = in_phase Processed t.header })) s.transfers)
+  in-process s passed id p n = grind arith
 
   pub unit_received : (s : NodeState) (passed : Bool) → s.status ≢ CleaningUp → KeepsTransfers (real read clusters) s (unit_in s passed)
-  unit_received s passed n = unit-cases s passed (λ t. KeepsTransfers (real read clusters) s t) (keeps-all s s refl) (λ x e t q. go s.status x t refl q)
+  unit_received s passed n = go (id_in_processing s) refl
     where
-      some-is : (a b : NodeState) → Some a ≡ Some b → a ≡ b
-      some-is a b q = cc q
-
-      over : (a t : NodeState) → Some a ≡ Some t → KeepsTransfers (real read clusters) s a → KeepsTransfers (real read clusters) s (with_entry (UnitAfter t.status) t)
-      over a t q k = let e = some-is a t q in subst (λ y. KeepsTransfers (real read clusters) s (with_entry (UnitAfter y.status) y)) e (record { transfers = k.transfers; received = k.received })
-
-      in-process : (x : Session) (o : Option ℕ) (t : NodeState) → option_and_then (λ id. Some (process_unit s x id)) o ≡ Some t → KeepsTransfers (real read clusters) s (with_entry (UnitAfter t.status) t)
-      in-process x None t q = absurd (cc q)
-      in-process x (Some id) t q = over (process_unit s x id) t q (process-transfers s x id)
-
-      verified : (x : Session) (b : Bool) → KeepsTransfers (real read clusters) s (verify_unit s x b)
-      verified x true = keeps-all s (verify_unit s x true) refl
-      verified x false = keeps-all s (verify_unit s x false) refl
-
-      go : (st : Status) (x : Session) (t : NodeState) → s.status ≡ st → unit_of s x passed st ≡ Some t → KeepsTransfers (real read clusters) s (with_entry (UnitAfter t.status) t)
-      go Processing x t e q = in-process x x.processing t q
-      go Activating x t e q = over (activate_unit s x) t q (keeps-all s (activate_unit s x) refl)
-      go Verifying x t e q = over (verify_unit s x passed) t q (verified x passed)
-      go RollingBack x t e q = over (roll_back_unit s x) t q (keeps-all s (roll_back_unit s x) refl)
-      go CleaningUp x t e q = absurd (n e)
-      go _ x t e q = absurd (cc q)
+      go : (o : Option ℕ) → id_in_processing s ≡ o → KeepsTransfers (real read clusters) s (unit_in s passed)
+      go None p = keeps-all s (unit_in s passed) (grind arith)
+      go (Some id) p = elim (in-process s passed id p n) [ inl e ↦ keeps-all s _ e | inr e ↦ keeps-changed s _ id _ (names-kept Processed) (λ t. refl) e ]
 
   -- a package in processing
   parts-are : (s : NodeState) (x : Session) (id : ℕ) → IsFit read s → s.session ≡ Some x → (x.owner == 0) ≡ true → x.processing ≡ Some id → parts_of_id s x id ≡ parts_read (read (received_in s id))

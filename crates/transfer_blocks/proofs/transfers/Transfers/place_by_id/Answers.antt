@@ -1,5 +1,5 @@
 use Rattle.std.proofs.Common.{◌≡◌, ◌∙◌, ◌==◌, true, false, ℕ, sym, ap, get_or, map, not, List, [], ◌∷◌, refl, Option, Some, None}
-use Rattle.std.specs.Prelude.{IfSome, ◌&&◌}
+use Rattle.std.specs.Prelude.{IfSome}
 use Rattle.std.specs.List.{position, AllByRecursion}
 use Rattle.std.specs.Cmp.Derive.{both_true}
 use Rattle.std.proofs.lemmas.Bool.{eqb-true}

@@ -1,6 +1,5 @@
-use Rattle.std.proofs.Common.{◌≡◌, ◌<◌, ◌∙◌, refl, sym, ap, subst, length, map, get_or, true}
-use Rattle.pm_types.specs.declared.state.StoredTransfer.{StoredTransfer}
-use Rattle.transfer_blocks.specs.Table.{Table, IsTable, is_free, moved, with_stored}
+use Rattle.std.proofs.Common.{◌≡◌, ◌<◌, ◌∙◌, refl, sym, ap, subst, length, get_or}
+use Rattle.transfer_blocks.specs.Table.{Table, moved, with_stored}
 use Rattle.transfer_blocks.proofs.Tables.{bounded-at, table-at, stored-at, others-stand}
 use Rattle.transfer_blocks.proofs.transfers.Transfers.set_phase.Goals as goal
 

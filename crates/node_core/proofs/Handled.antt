@@ -1,0 +1,208 @@
+-- What a unit of a package leaves of a sound node.
+use Rattle.std.proofs.Common.{◌≡◌, refl, sym, subst, ap, ◌∙◌, ℕ, ◌+◌, ◌*◌, ◌<◌, ◌≤◌, Bool, true, List, [], ◌∷◌, length, map, take, drop, arith}
+use Rattle.std.specs.Prelude.{◌==◌, nat_lt, if◌then◌else◌, option_map, slice_index_or, IfSome, IsSomeAnd, Option, Some, None, Result, Ok, Err}
+use Rattle.std.specs.List.{AllByRecursion}
+use Rattle.std.proofs.lemmas.Bool.{eq-eqb, ltb-true}
+use Rattle.std.proofs.lemmas.Bool.Decides.{nat_tests}
+use Rattle.std.proofs.lemmas.List.{length-take, length-drop}
+use Rattle.std.proofs.lemmas.List.Sums.{sum_by-cons}
+use Rattle.ucm_base.specs.declared.parts.Action.{Action}
+use Rattle.ucm_base.specs.declared.parts.Action.TheVariants.{Install, Update, Remove}
+use Rattle.ucm_base.specs.declared.parts.Manifest.{Manifest}
+use Rattle.ucm_base.specs.Limits.{block_limit}
+use Rattle.ucm_base.specs.Parts.{Bytes}
+use Rattle.pm_types.specs.declared.clusters.Extent.{Extent}
+use Rattle.pm_types.specs.declared.clusters.Part.{Part}
+use Rattle.pm_types.specs.declared.state.StoredTransfer.{StoredTransfer}
+use Rattle.pm_types.specs.declared.status.Phase.{Phase}
+use Rattle.pm_types.specs.declared.status.Phase.TheVariants.{Transferring, Transferred, Processing as BeingProcessed, Processed}
+use Rattle.pm_types.specs.declared.status.Status.TheVariants.{Processing}
+use Rattle.pm_types.specs.NodeState.{NodeState, SessionOf, Transfer, is_in, phase_code}
+use Rattle.pm_types.specs.Clusters.{all_units, units_of}
+use Rattle.pm_types.specs.Stored.{Areas, State, session_meaning, transfer_meaning}
+use Rattle.pm_types.specs.Transfers.{is_of, parts_of, parts_read, transfer_of}
+use Rattle.pm_types.specs.Validity.{IsWholeFromTransferred}
+use Rattle.pm_types.specs.Work.{processed, unit}
+use Rattle.package_reader.specs.declared.fault.PackageFault.{PackageFault}
+use Rattle.package_reader.specs.declared.package.Package.{Package}
+use Rattle.package_reader.specs.Fields.{number_at, payload_in, payload_place}
+use Rattle.package_reader.specs.Reading.{reading, unless}
+use Rattle.transfer_blocks.specs.Areas.{content_of}
+use Rattle.transfer_blocks.specs.Table.{stored_of}
+use Rattle.node_laws.specs.Fit.{IsRead}
+use Rattle.node_laws.proofs.Lists.{each-both, each-imp, each-unmap, found-has}
+use Rattle.node_laws.proofs.Lists.{is-processing}
+use Rattle.node_core.specs.Core.{Holding, IsSound, node_of}
+use Rattle.node_core.specs.declared.prepared.Prepared.{Prepared}
+use Rattle.node_core.specs.Packages.{package_reading, verdict_of}
+use Rattle.node_core.specs.Places.{IsCopiedIn, IsPartCopied, goes_to}
+use Rattle.node_core.specs.Prepared.{with_length}
+use Rattle.node_core.specs.Units.{IsPackageReady, IsPartReady, IsUnit, IsUnitReady, stored_units, unit_end}
+use Rattle.node_core.proofs.Judged.{rise}
+use Rattle.node_core.proofs.Stored.{found-is, found-means, only}
+use Rattle.node_core.proofs.Worked.{at_work, moved}
+
+-- the session with a package in processing
+abbrev pub busy : SessionOf Extent → ℕ → SessionOf Extent
+busy x id = record x { processing = Some id }
+
+abbrev pub at_process : Holding → SessionOf Extent → ℕ → Holding
+at_process v x id = at_work v Processing (busy x id)
+
+-- the bytes that came of a transfer
+abbrev pub bytes_of : Areas → StoredTransfer → Bytes
+bytes_of areas t = take t.header.received (slice_index_or areas.slots t.slot [])
+
+abbrev pub part_of : Package → Part Bytes
+part_of p = record { manifest = p.manifest; payload = p.payload }
+
+-- the transfer in processing, and the package that it is
+pub record InHand (v : Holding) (x : SessionOf Extent) (id : ℕ) : Type 0 where
+  pub transfer : StoredTransfer
+  pub is : stored_of v.state.transfers x.owner id ≡ Some transfer
+  pub phase : transfer.header.phase ≡ BeingProcessed
+  pub pack : Package
+  pub reads : reading (bytes_of v.areas transfer) ≡ Ok pack
+  pub parts : (transfer_meaning package_reading v.areas transfer).parts ≡ part_of pack ∷ []
+  pub contents : transfer.contents ≡ with_length (part_of pack) ∷ []
+  pub unfinished : x.units_done < units_of (length pack.payload)
+
+one-unit : (part : Part Bytes) → all_units (part ∷ []) ≡ units_of (length part.payload)
+one-unit part = sum_by-cons (λ (q : Part Bytes). units_of (length q.payload)) part [] ∙ omega arith
+
+-- the units of what is stored are those of the parts
+pub stored-one : (part : Part ℕ) → stored_units (part ∷ []) ≡ units_of part.payload
+stored-one part = sum_by-cons (λ (q : Part ℕ). units_of q.payload) part [] ∙ omega arith
+
+unless-payload : (f : Option PackageFault) (m : Option Manifest) (y : Bytes) (p : Package) → unless f m y ≡ Ok p → y ≡ p.payload
+unless-payload (Some f) m y p e = absurd (cc)
+unless-payload None (Some m) y p e = let same : record { manifest = m; payload = y } ≡ p = cc in ap (λ (q : Package). q.payload) same
+unless-payload None None y p e = absurd (cc)
+
+-- a package's payload lies in its bytes
+pub payload-is : (bytes : Bytes) (p : Package) → reading bytes ≡ Ok p → payload_in bytes ≡ p.payload
+unfolding reading
+payload-is bytes p e = unless-payload _ _ (payload_in bytes) p e
+
+pub payload-fits : (bytes : Bytes) (p : Package) → reading bytes ≡ Ok p → length p.payload ≤ length bytes
+payload-fits bytes p e =
+    let n = number_at bytes (payload_place bytes) in
+    let rest = drop (payload_place bytes + 4) bytes in
+    let same = ap length (payload-is bytes p e) in
+    omega (arith, same, length-take n rest, length-drop (payload_place bytes + 4) bytes)
+
+pub in-hand : (v : Holding) (x : SessionOf Extent) (id : ℕ) → IsSound (at_process v x id) → InHand v x id
+in-hand v x id sound = go (stored_of v.state.transfers x.owner id) refl
+    (subst (λ o. IsSomeAnd o (λ (t : Transfer). x.units_done < all_units t.parts)) (found-means package_reading v.areas x.owner id v.state.transfers) sound.fit.consistent.processing.unfinished)
+  where
+    means : StoredTransfer → Transfer
+    means t = transfer_meaning package_reading v.areas t
+
+    read : (u : StoredTransfer) → stored_of v.state.transfers x.owner id ≡ Some u → u.header.phase ≡ BeingProcessed → x.units_done < all_units (transfer_meaning package_reading v.areas u).parts
+        → (r : Result Package PackageFault) → reading (bytes_of v.areas u) ≡ r → (transfer_meaning package_reading v.areas u).parts ≡ parts_read (verdict_of r) → 0 < length (transfer_meaning package_reading v.areas u).parts → InHand v x id
+    read u e phase left (Ok p) q parts some = record {
+      transfer = u;
+      is = e;
+      phase = phase;
+      pack = p;
+      reads = q;
+      parts = parts;
+      contents = (found-has _ (λ t. t.contents ≡ map with_length (transfer_meaning package_reading v.areas t).parts) v.state.transfers u (each-imp _ _ (λ t placed. placed.contents) v.state.transfers sound.order.transfers) e).1 ∙ ap (map with_length) parts;
+      unfinished = subst (λ n. x.units_done < n) (ap all_units parts ∙ one-unit (part_of p)) left;
+    }
+    read u e phase left (Err f) q parts some = absurd (let f : ⊥ = omega (arith, some, ap length parts) in f)
+
+    go : (o : Option StoredTransfer) → stored_of v.state.transfers x.owner id ≡ o → IsSomeAnd (option_map (transfer_meaning package_reading v.areas) o) (λ (t : Transfer). x.units_done < all_units t.parts) → InHand v x id
+    go None e left = absurd left
+    go (Some u) e left =
+        let each = each-unmap (λ (t : Transfer). is_in BeingProcessed t.header ≡ (id == t.header.id)) (transfer_meaning package_reading v.areas) v.state.transfers sound.fit.consistent.processing.each in
+        let phase = is-processing u.header ((found-has (λ t. is_of x.owner id t.header) (λ t. is_in BeingProcessed t.header ≡ (id == t.header.id)) v.state.transfers u each e).1 ∙ eq-eqb _ _ (sym (found-is x.owner id v.state.transfers u e).0)) in
+        let reads = each-unmap (λ (t : Transfer). IsRead package_reading t t.header.phase) (transfer_meaning package_reading v.areas) v.state.transfers sound.fit.read_parts in
+        let whole = each-unmap (λ (t : Transfer). IsWholeFromTransferred t t.header.phase) (transfer_meaning package_reading v.areas) v.state.transfers (each-imp _ _ (λ t k. k.whole) (map (transfer_meaning package_reading v.areas) v.state.transfers) sound.fit.consistent.transfers.each) in
+        let own = found-has (λ t. is_of x.owner id t.header) (λ t. IsRead package_reading (transfer_meaning package_reading v.areas t) t.header.phase) v.state.transfers u reads e in
+        let all = found-has (λ t. is_of x.owner id t.header) (λ t. IsWholeFromTransferred (transfer_meaning package_reading v.areas t) t.header.phase) v.state.transfers u whole e in
+        read u e phase left (reading (bytes_of v.areas u)) refl (subst (IsRead package_reading (transfer_meaning package_reading v.areas u)) phase own.1) (subst (IsWholeFromTransferred (transfer_meaning package_reading v.areas u)) phase all.1).1
+
+-- where a unit ends that isn't the last
+pub end-within : (done size : ℕ) → done + 1 < units_of size → (done + 1) * block_limit ≤ size
+end-within done size more = omega (arith, more)
+
+-- and the last
+pub end-last : (done size : ℕ) → units_of size ≤ done + 1 → size ≤ (done + 1) * block_limit
+end-last done size last = omega (arith, last)
+
+-- where a unit begins
+pub begin-within : (done size : ℕ) → done < units_of size → done * block_limit ≤ size
+begin-within done size left = omega (arith, left)
+
+-- a payload goes to the same side while only the units done rise
+goes-same : (v : Holding) (x : SessionOf Extent) (id n : ℕ) (m : Manifest) (a : Action) → goes_to (record (at_process v x id).state { session = Some (record (busy x id) { units_done = n }) }) m a ≡ goes_to (at_process v x id).state m a
+goes-same v x id n m Install = refl
+goes-same v x id n m Update = refl
+goes-same v x id n m Remove = refl
+
+module _ (v : Holding) (x : SessionOf Extent) (id : ℕ) (p : Prepared) (sound : IsSound (at_process v x id)) (h : InHand v x id) where
+  -- what is ready for the part in processing
+  pub part-ready : IsUnitReady Processing (at_process v x id) (busy x id) → IsPartReady (at_process v x id) (busy x id) id (part_of h.pack)
+  part-ready ready = (subst (AllByRecursion (IsPartReady (at_process v x id) (busy x id) id)) h.parts (subst (λ o. IfSome o (IsPackageReady (at_process v x id) (busy x id) id)) h.is ready)).0
+
+  -- the parts that the unit is of
+  pub parts-found : parts_of (transfer_of (node_of (at_process v x id)) x.owner id) ≡ part_of h.pack ∷ []
+  parts-found = ap parts_of (found-means package_reading v.areas x.owner id v.state.transfers ∙ ap (option_map (transfer_meaning package_reading v.areas)) h.is) ∙ h.parts
+
+  abbrev process_at : List (Part Bytes) → Bool → Option NodeState
+  process_at parts more =
+      let s = node_of (at_process v x id) in
+      let y = session_meaning v.areas (busy x id) in
+      Some (if more then record s { session = Some (record y { units_done = y.units_done + 1 }) } else processed s y id parts)
+
+  -- what the unit does
+  pub unit-done : (passed more : Bool) → nat_lt (x.units_done + 1) (units_of (length h.pack.payload)) ≡ more → unit (node_of (at_process v x id)) passed ≡ process_at (part_of h.pack ∷ []) more
+  unit-done passed more m =
+      ap (λ parts. process_at parts (nat_lt (x.units_done + 1) (all_units parts))) parts-found
+      ∙ ap (λ n. process_at (part_of h.pack ∷ []) (nat_lt (x.units_done + 1) n)) (one-unit (part_of h.pack))
+      ∙ ap (process_at (part_of h.pack ∷ [])) m
+
+  -- the stored state after a unit that isn't the last
+  abbrev new : State
+  new = (moved v (busy x id) p Processing (record (busy x id) { units_done = x.units_done + 1 }) v.state.running).state
+
+  -- a unit that isn't the last
+  pub more-unit : (passed : Bool) → IsUnitReady Processing (at_process v x id) (busy x id) → nat_lt (x.units_done + 1) (units_of (length h.pack.payload)) ≡ true
+      → IsUnit (at_process v x id) passed (moved v (busy x id) p Processing (record (busy x id) { units_done = x.units_done + 1 }) v.state.running)
+  more-unit passed ready more = record {
+    node = unit-done passed true more;
+    order = record {
+      clusters = sound.order.clusters;
+      session = sound.order.session;
+      transfers = sound.order.transfers;
+      slots = sound.order.slots;
+      places = sound.order.places;
+      running = sound.order.running;
+    };
+    copied = each-both _ _ _ (λ t due same. copied t t.header.phase due same) v.state.transfers
+        (each-unmap (λ (t : Transfer). is_in BeingProcessed t.header ≡ (id == t.header.id)) (transfer_meaning package_reading v.areas) v.state.transfers sound.fit.consistent.processing.each)
+        (only x.owner id v.state.transfers h.transfer (rise (at_process v x id) sound) h.is);
+    entries = refl;
+  }
+    where
+      m : Manifest
+      m = h.pack.manifest
+
+      flip : (n : ℕ) → true ≡ (id == n) → (n == id) ≡ true
+      flip n e = grind (arith, nat_tests, sym e)
+
+      own : IsPartCopied v.areas new (part_of h.pack)
+      own =
+          let within = end-within x.units_done (length h.pack.payload) (ltb-true _ _ more) in
+          let ends : unit_end x.units_done (length h.pack.payload) ≡ (x.units_done + 1) * block_limit = omega (arith, within) in
+          ap (λ a. take ((x.units_done + 1) * block_limit) (content_of a v.areas)) (goes-same v x id (x.units_done + 1) m m.action)
+          ∙ ap (λ n. take n (content_of (goes_to (at_process v x id).state m m.action) v.areas)) (sym ends)
+          ∙ (part-ready ready).bytes
+
+      copied : (t : StoredTransfer) (phase : Phase) → (phase_code phase == 2) ≡ (id == t.header.id) → ((t.header.id == id) ≡ true → t ≡ h.transfer) → IsCopiedIn package_reading v.areas new t phase
+      copied t Transferring due same = tt
+      copied t Transferred due same = tt
+      copied t BeingProcessed due same =
+          subst (λ (u : StoredTransfer). AllByRecursion (IsPartCopied v.areas new) (transfer_meaning package_reading v.areas u).parts) (sym (same (flip t.header.id due))) (subst (AllByRecursion (IsPartCopied v.areas new)) (sym h.parts) (own, tt))
+      copied t Processed due same = tt

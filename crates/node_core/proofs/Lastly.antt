@@ -1,0 +1,368 @@
+-- What the last unit of a package leaves of a sound node.
+use Rattle.std.proofs.Common.{◌≡◌, refl, sym, subst, ap, ◌∙◌, ℕ, ◌+◌, ◌-◌, ◌*◌, ◌^◌, ◌<◌, ◌≤◌, Bool, true, false, List, [], ◌∷◌, ◌++◌, length, map, take, arith}
+use Rattle.std.specs.Prelude.{cond, slice_index_or, ◌==◌, ◌||◌, not, nat_lt, if◌then◌else◌, unwrap_or, Option, Some, None}
+use Rattle.std.specs.List.{AllByRecursion}
+use Rattle.std.specs.Option.{option_map_or}
+use Rattle.std.specs.Str.{bytes_eq}
+use Rattle.std.proofs.lemmas.Bool.{and_parts, eq-eqb, le-ltb, lt-ltb, ltb-false, ltb-true}
+use Rattle.std.proofs.lemmas.Bool.Decides.{nat_tests}
+use Rattle.std.proofs.lemmas.List.{length-map, length-append, length-take, append-nil, map-append, take_all}
+use Rattle.ucm_base.specs.declared.parts.Action.{Action}
+use Rattle.ucm_base.specs.declared.parts.Action.TheVariants.{Install, Update, Remove}
+use Rattle.ucm_base.specs.declared.parts.Manifest.{Manifest}
+use Rattle.ucm_base.specs.Limits.{block_limit, cluster_limit, package_limit}
+use Rattle.ucm_base.specs.Names.{all_differ, different_names, has_name}
+use Rattle.ucm_base.specs.Parts.{Bytes}
+use Rattle.pm_types.specs.declared.clusters.Change.{Change}
+use Rattle.pm_types.specs.declared.clusters.Cluster.{Cluster}
+use Rattle.pm_types.specs.declared.clusters.Extent.{Extent}
+use Rattle.pm_types.specs.declared.clusters.Part.{Part}
+use Rattle.pm_types.specs.declared.state.StoredTransfer.{StoredTransfer}
+use Rattle.pm_types.specs.declared.status.Phase.TheVariants.{Processing as BeingProcessed, Processed}
+use Rattle.pm_types.specs.declared.status.Status.TheVariants.{Processing, Ready}
+use Rattle.pm_types.specs.declared.status.Status.{Status}
+use Rattle.pm_types.specs.NodeState.{SessionOf, Transfer, is_in, phase_code}
+use Rattle.pm_types.specs.Transfers.{is_of}
+use Rattle.pm_types.specs.Clusters.{cluster_at, cluster_of, has_cluster, units_of}
+use Rattle.pm_types.specs.Sessions.{applies, suits}
+use Rattle.pm_types.specs.Validity.{parts_in}
+use Rattle.pm_types.specs.Stored.{Areas, State, session_meaning, IsExtent, change_meaning, change_place, cluster_meaning, cluster_place, names_fit_places, on_side, places_in, takes_side, transfer_meaning}
+use Rattle.transfer_blocks.specs.Areas.{content_of}
+use Rattle.node_laws.proofs.Lists.{each-append, each-first, each-imp, each-map, each-unmap, found-has}
+use Rattle.node_laws.proofs.NameLists.{Within, eq-name, has-append, name-swap, name-eq, within-left, within-right, within-self}
+use Rattle.node_laws.proofs.Lists.{not-true}
+use Rattle.node_core.specs.Core.{Holding, IsSound, node_of, table_of, with_table}
+use Rattle.node_core.specs.Places.{all_places, goes_to, lowest_free, running_at}
+use Rattle.node_core.specs.declared.prepared.Prepared.{Prepared}
+use Rattle.node_core.specs.Packages.{package_reading}
+use Rattle.node_core.specs.Prepared.{with_length}
+use Rattle.node_core.specs.Units.{IsReservedWork, IsUnit, IsUnitReady, change_kept, extent_in, stored_units, unit_end}
+use Rattle.transfer_blocks.specs.Table.{Table, moved as moved_to, stored_of, with_stored}
+use Rattle.node_core.proofs.Phased.{phased-means, phased-placed, phased-slots}
+use Rattle.node_core.proofs.Sound.{table-is}
+use Rattle.node_core.proofs.Worked.{none-copied, ready-at, sound-at, unit-at}
+use Rattle.node_core.proofs.Free.{Pair, differ-few, each-fits, free-place, fresh-fits, is_taken}
+use Rattle.node_core.proofs.Handled.{InHand, at_process, busy, bytes_of, end-last, in-hand, more-unit, part-ready, part_of, parts-found, payload-fits, stored-one, unit-done}
+use Rattle.node_core.proofs.Natural.{has-means}
+use Rattle.node_core.proofs.Planned.{all-each, among-fit, each-all}
+
+behind : {X : Type 0} (P : X → Type 0) (xs ys : List X) → AllByRecursion P (xs ++ ys) → AllByRecursion P ys
+behind P [] ys h = h
+behind P (x ∷ xs) ys h = behind P xs ys h.1
+
+-- of different names, each is another than the last
+last-differs : (ns : List (List ℕ)) (n : List ℕ) → all_differ (ns ++ n ∷ []) ≡ true → has_name ns n ≡ false
+last-differs [] n d = refl
+last-differs (m ∷ ns) n d =
+    let parts = and_parts (not (has_name (ns ++ n ∷ []) m)) (all_differ (ns ++ n ∷ [])) d in
+    apart (bytes_eq n m) refl (not-true _ parts.0) ∙ last-differs ns n parts.1
+  where
+    apart : (b : Bool) → bytes_eq n m ≡ b → has_name (ns ++ n ∷ []) m ≡ false → (bytes_eq n m || has_name ns n) ≡ has_name ns n
+    apart false e k = ap (λ c. c || has_name ns n) e
+    apart true e k =
+        let same : n ≡ m = name-eq n m e in
+        absurd (let z = sym k ∙ has-append ns (n ∷ []) m ∙ or-true (has_name ns m) (has_name (n ∷ []) m) (ap (λ l. bytes_eq m l || false) same ∙ ap (λ c. c || false) (eq-name m m refl)) in let f : ⊥ = cc in f)
+      where
+        or-true : (a b : Bool) → b ≡ true → (a || b) ≡ true
+        or-true true b q = refl
+        or-true false b q = q
+
+-- a payload goes to an area of a place
+pub goes-lies : (areas : Areas) (s : State) (m : Manifest) (a : Action) (n : ℕ) → on_side areas (extent_in (goes_to s m a) n) ≡ take n (content_of (goes_to s m a) areas)
+goes-lies areas s m Install n = refl
+goes-lies areas s m Update n = refl
+goes-lies areas s m Remove n = refl
+
+module _ (v : Holding) (x : SessionOf Extent) (id : ℕ) (sound : IsSound (at_process v x id)) (h : InHand v x id) where
+  abbrev state : State
+  state = (at_process v x id).state
+
+  abbrev name : List ℕ
+  name = h.pack.manifest.name
+
+  abbrev changed : List (List ℕ)
+  changed = map (λ (c : Change Extent). cluster_of c.part) x.changes
+
+  abbrev plans : List (Part Bytes)
+  plans = map (λ (c : Change Bytes). c.part) (map (change_meaning v.areas) x.changes)
+
+  -- the names that the session's parts have
+  part-names : (changes : List (Change Extent)) → map cluster_of (map (λ (c : Change Bytes). c.part) (map (change_meaning v.areas) changes) ++ part_of h.pack ∷ []) ≡ map (λ (c : Change Extent). cluster_of c.part) changes ++ name ∷ []
+  part-names [] = refl
+  part-names (c ∷ cs) = ap (λ ns. cluster_of c.part ∷ ns) (part-names cs)
+
+  parts-are : parts_in (node_of (at_process v x id)) (session_meaning v.areas (busy x id)) ≡ plans ++ part_of h.pack ∷ []
+  parts-are = ap (λ ps. plans ++ ps) (parts-found v x id v.prepared sound h)
+
+  differ : all_differ (changed ++ name ∷ []) ≡ true
+  differ = subst (λ ns. all_differ ns ≡ true) (part-names x.changes) (subst (λ ps. all_differ (map cluster_of ps) ≡ true) parts-are sound.fit.consistent.applying.differ)
+
+  -- the part applies to what runs
+  pub there-is : suits h.pack.manifest.action (has_cluster x.saved name) ≡ true
+  there-is =
+      ap (suits h.pack.manifest.action) (sym (has-means v.areas x.saved name))
+      ∙ (behind (λ part. applies part (map (cluster_meaning v.areas) x.saved) ≡ true) plans (part_of h.pack ∷ [])
+      (subst (AllByRecursion (λ part. applies part (map (cluster_meaning v.areas) x.saved) ≡ true)) parts-are sound.fit.consistent.applying.each)).0
+
+  runs : v.state.running ≡ x.saved
+  runs = sound.order.running
+
+  -- no change is planned of its name
+  pub new-change : has_name changed name ≡ false
+  new-change = last-differs changed name differ
+
+  abbrev all : List (List ℕ)
+  all = (map (λ (c : Cluster Extent). c.name) v.state.running ++ map (λ (c : Cluster Extent). c.name) x.saved) ++ (changed ++ name ∷ [])
+
+  names-mean : (cs : List (Cluster Extent)) → map (λ (c : Cluster Bytes). c.name) (map (cluster_meaning v.areas) cs) ≡ map (λ (c : Cluster Extent). c.name) cs
+  names-mean [] = refl
+  names-mean (c ∷ cs) = ap (λ ns. c.name ∷ ns) (names-mean cs)
+
+  few : length (different_names all) ≤ cluster_limit
+  few =
+      let meant = map (cluster_meaning v.areas) v.state.running ++ map (cluster_meaning v.areas) x.saved in
+      subst (λ ns. length (different_names ns) ≤ cluster_limit)
+      (λ i. (append-nil (map (λ (c : Cluster Bytes). c.name) meant) ∙ map-append (λ (c : Cluster Bytes). c.name) (map (cluster_meaning v.areas) v.state.running) (map (cluster_meaning v.areas) x.saved) ∙ (λ j. names-mean v.state.running j ++ names-mean x.saved j)) i
+      ++ (ap (map cluster_of) parts-are ∙ part-names x.changes) i)
+      sound.fit.consistent.limits.names
+
+  -- so a change more has room
+  pub room : length x.changes < cluster_limit
+  room =
+      let n = differ-few (changed ++ name ∷ []) all differ (within-right (changed ++ name ∷ []) (map (λ (c : Cluster Extent). c.name) v.state.running ++ map (λ (c : Cluster Extent). c.name) x.saved) (changed ++ name ∷ []) (within-self (changed ++ name ∷ []))) in
+      omega (arith, n, few, length-append changed (name ∷ []), length-map x.changes (λ (c : Change Extent). cluster_of c.part))
+
+  abbrev pairs : List Pair
+  pairs = places_in state
+
+  abbrev size : ℕ
+  size = length h.pack.payload
+
+  run-names : (cs : List (Cluster Extent)) → map (λ (a : Pair). a.0) (map cluster_place cs) ≡ map (λ (c : Cluster Extent). c.name) cs
+  run-names [] = refl
+  run-names (c ∷ cs) = ap (λ ns. c.name ∷ ns) (run-names cs)
+
+  change-names : (cs : List (Change Extent)) → map (λ (a : Pair). a.0) (map change_place cs) ≡ map (λ (c : Change Extent). cluster_of c.part) cs
+  change-names [] = refl
+  change-names (c ∷ cs) = ap (λ ns. cluster_of c.part ∷ ns) (change-names cs)
+
+  abbrev ran : List (List ℕ)
+  ran = map (λ (c : Cluster Extent). c.name) v.state.running
+
+  abbrev kept : List (List ℕ)
+  kept = map (λ (c : Cluster Extent). c.name) x.saved
+
+  pair-names : map (λ (a : Pair). a.0) pairs ≡ ran ++ (kept ++ changed)
+  pair-names =
+      map-append (λ (a : Pair). a.0) (map cluster_place v.state.running) (map cluster_place x.saved ++ map change_place x.changes)
+      ∙ (λ i. run-names v.state.running i ++ (map-append (λ (a : Pair). a.0) (map cluster_place x.saved) (map change_place x.changes) ∙ (λ j. run-names x.saved j ++ change-names x.changes j)) i)
+
+  has-named : (cs : List (Cluster Extent)) → has_name (map (λ (c : Cluster Extent). c.name) cs) name ≡ has_cluster cs name
+  has-named [] = refl
+  has-named (c ∷ cs) = (λ i. name-swap name c.name i || has-named cs i)
+
+  -- a place is free where the name is new
+  pub free : has_cluster x.saved name ≡ false → (is_taken pairs (lowest_free state) ≡ false) × (lowest_free state < cluster_limit) × (has_name (map (λ (a : Pair). a.0) pairs) name ≡ false)
+  free other =
+      let absent : has_name (ran ++ (kept ++ changed)) name ≡ false = has-append ran (kept ++ changed) name
+      ∙ (λ i. (ap (λ (cs : List (Cluster Extent)). has_name (map (λ (c : Cluster Extent). c.name) cs) name) runs ∙ has-named x.saved ∙ other) i || (has-append kept changed name ∙ (λ j. (has-named x.saved ∙ other) j || new-change j)) i) in
+      let new : has_name (map (λ (a : Pair). a.0) pairs) name ≡ false = ap (λ ns. has_name ns name) pair-names ∙ absent in
+      let inside : Within (ran ++ (kept ++ changed)) all = each-append _ ran (kept ++ changed) (within-left ran (ran ++ kept) (changed ++ name ∷ []) (within-left ran ran kept (within-self ran)))
+      (each-append _ kept changed (within-left kept (ran ++ kept) (changed ++ name ∷ []) (within-right kept ran kept (within-self kept))) (within-right changed (ran ++ kept) (changed ++ name ∷ []) (within-left changed changed (name ∷ []) (within-self changed)))) in
+      let own : has_name all name ≡ true = (within-right (name ∷ []) (ran ++ kept) (changed ++ name ∷ []) (within-right (name ∷ []) changed (name ∷ []) (within-self (name ∷ [])))).0 in
+      let found = free-place pairs (each-fits pairs sound.order.places) name all new own (subst (λ ns. Within ns all) (sym pair-names) inside) few in
+      let here = found-has (λ p. not (is_taken pairs p)) (λ p. p < cluster_limit) all_places found.0 (each-imp _ _ (λ p k. ltb-true p cluster_limit k) all_places (all-each (λ p. nat_lt p cluster_limit) all_places refl)) found.1 in
+      let at : lowest_free state ≡ found.0 = ap (λ o. unwrap_or o 0) found.1 in (
+        ap (is_taken pairs) at ∙ not-true _ here.0,
+        subst (λ n. n < cluster_limit) (sym at) here.1,
+        new,
+      )
+
+  -- the change that is planned, by its action
+  abbrev pub change_at : Action → Change Extent
+  change_at a = record { transfer = id; part = record { manifest = h.pack.manifest; payload = extent_in (goes_to state h.pack.manifest a) size } }
+
+  -- what a search for a running cluster finds
+  ran-there : has_cluster x.saved name ≡ true → (c : Cluster Extent) × (cluster_at v.state.running name ≡ Some c)
+  ran-there there = any-cluster v.state.running (ap (λ (cs : List (Cluster Extent)). has_cluster cs name) runs ∙ there)
+    where
+      any-cluster : (cs : List (Cluster Extent)) → has_cluster cs name ≡ true → (c : Cluster Extent) × (cluster_at cs name ≡ Some c)
+      any-cluster [] t = absurd (cc)
+      any-cluster (c ∷ cs) t = go (bytes_eq c.name name) t (any-cluster cs)
+        where
+          go : (b : Bool) → (b || has_cluster cs name) ≡ true → (has_cluster cs name ≡ true → (d : Cluster Extent) × (cluster_at cs name ≡ Some d)) → (d : Cluster Extent) × (cond b (Some c) (cluster_at cs name) ≡ Some d)
+          go true k rec = (c, refl)
+          go false k rec = rec k
+
+  -- the places with the change's
+  abbrev later : Action → List Pair
+  later a = map cluster_place v.state.running ++ (map cluster_place x.saved ++ map change_place (x.changes ++ change_at a ∷ []))
+
+  later-among : (a : Action) (P : Pair → Type 0) → P (change_place (change_at a)) → AllByRecursion P pairs → AllByRecursion P (later a)
+  later-among a P own each =
+      let rest = behind P (map cluster_place v.state.running) (map cluster_place x.saved ++ map change_place x.changes) each in
+      each-append P (map cluster_place v.state.running) _ (each-first P (map cluster_place v.state.running) (map cluster_place x.saved ++ map change_place x.changes) each)
+      (each-append P (map cluster_place x.saved) _ (each-first P (map cluster_place x.saved) (map change_place x.changes) rest)
+      (subst (AllByRecursion P) (sym (map-append change_place x.changes (change_at a ∷ []))) (each-append P (map change_place x.changes) _ (behind P (map cluster_place x.saved) (map change_place x.changes) rest) (own, tt))))
+
+  -- a change of a running cluster has its place
+  own-place : (c : Cluster Extent) → cluster_at v.state.running name ≡ Some c → (P : Pair → Type 0) → AllByRecursion P pairs → P (name, (running_at state name).place)
+  own-place c e P each =
+      let own = found-has (λ (d : Cluster Extent). bytes_eq d.name name) (λ d. P (cluster_place d)) v.state.running c
+      (each-unmap P cluster_place v.state.running (each-first P (map cluster_place v.state.running) (map cluster_place x.saved ++ map change_place x.changes) each)) e in
+      subst P (λ i. (name-eq c.name name own.0 i, (option_map_or (λ (d : Cluster Extent). d.content) (sym e i) (record { place = 0; side = 0; length = 0 })).place)) own.1
+
+  pub later-fits : (a : Action) → suits a (has_cluster x.saved name) ≡ true → names_fit_places (later a) ≡ true
+  later-fits Install s =
+      let f = free (not-true _ s) in
+      among-fit (later Install) ((name, lowest_free state) ∷ pairs) (λ P each. later-among Install P each.0 each.1) (fresh-fits pairs (each-fits pairs sound.order.places) name (lowest_free state) f.2 f.0)
+  later-fits Update s = let r = ran-there s in among-fit (later Update) pairs (λ P each. later-among Update P (own-place r.0 r.1 P each) each) sound.order.places
+  later-fits Remove s = let r = ran-there s in among-fit (later Remove) pairs (λ P each. later-among Remove P (own-place r.0 r.1 P each) each) sound.order.places
+
+  -- where a running cluster lies is an extent
+  run-extent : IsExtent (running_at state name)
+  run-extent = go (cluster_at v.state.running name) refl
+    where
+      go : (o : Option (Cluster Extent)) → cluster_at v.state.running name ≡ o → IsExtent (option_map_or (λ (c : Cluster Extent). c.content) o (record { place = 0; side = 0; length = 0 }))
+      go None e = (omega arith, omega arith, omega arith)
+      go (Some c) e = (found-has (λ (d : Cluster Extent). bytes_eq d.name name) (λ d. IsExtent d.content) v.state.running c sound.order.clusters e).1
+
+  pub change-extent : (a : Action) → suits a (has_cluster x.saved name) ≡ true → size ≤ package_limit → IsExtent (change_at a).part.payload
+  change-extent Install s short = ((free (not-true _ s)).1, omega arith, short)
+  change-extent Update s short = (run-extent.0, omega arith, short)
+  change-extent Remove s short = (run-extent.0, run-extent.1, short)
+
+  -- and on its side
+  pub change-side : (a : Action) → takes_side a (change_at a).part.payload.side (cluster_at x.saved name) ≡ true
+  change-side Install = refl
+  change-side Update = ap (λ cs. takes_side Update (1 - (option_map_or (λ (c : Cluster Extent). c.content) (cluster_at cs name) (record { place = 0; side = 0; length = 0 })).side) (cluster_at x.saved name)) runs ∙ go (cluster_at x.saved name)
+    where
+      other : (n : ℕ) → not (n == 1 - n) ≡ true
+      other n = grind (arith, nat_tests)
+
+      go : (o : Option (Cluster Extent)) → takes_side Update (1 - (option_map_or (λ (c : Cluster Extent). c.content) o (record { place = 0; side = 0; length = 0 })).side) o ≡ true
+      go None = refl
+      go (Some c) = other c.content.side
+  change-side Remove = ap (λ cs. takes_side Remove (option_map_or (λ (c : Cluster Extent). c.content) (cluster_at cs name) (record { place = 0; side = 0; length = 0 })).side (cluster_at x.saved name)) runs ∙ go (cluster_at x.saved name)
+    where
+      go : (o : Option (Cluster Extent)) → takes_side Remove (option_map_or (λ (c : Cluster Extent). c.content) o (record { place = 0; side = 0; length = 0 })).side o ≡ true
+      go None = refl
+      go (Some c) = eq-eqb c.content.side c.content.side refl
+
+  -- a payload is no longer than a package
+  pub short : size ≤ package_limit
+  short =
+      let bounded = (found-has (λ t. is_of x.owner id t.header) _ v.state.transfers h.transfer (table-is (at_process v x id) sound).each h.is).1 in
+      let fits = payload-fits (bytes_of v.areas h.transfer) h.pack h.reads in
+      omega (arith, fits, bounded.received, bounded.size, length-take h.transfer.header.received (slice_index_or v.areas.slots h.transfer.slot []))
+
+  abbrev m : Manifest
+  m = h.pack.manifest
+
+  -- what the change brings is the payload
+  brings : IsUnitReady Processing (at_process v x id) (busy x id) → nat_lt (x.units_done + 1) (units_of size) ≡ false → on_side v.areas (extent_in (goes_to state m m.action) size) ≡ h.pack.payload
+  brings ready last =
+      let enough = end-last x.units_done size (ltb-false _ _ last) in
+      let ends : unit_end x.units_done size ≡ size = omega (arith, enough) in
+      goes-lies v.areas state m m.action size ∙ ap (λ n. take n (content_of (goes_to state m m.action) v.areas)) (sym ends)
+      ∙ (part-ready v x id v.prepared sound h ready).bytes ∙ take_all ((x.units_done + 1) * block_limit) h.pack.payload enough
+
+  -- the node after the last unit
+  abbrev pub processed_with : Prepared → Table → List (Change Extent) → Holding
+  processed_with p table changes =
+      record v { state = record (with_table table v.state) { status = Ready; session = Some (record x { changes = changes; processing = None; units_done = x.units_done + 1 }) }; prepared = p }
+
+  abbrev after : Table
+  after = with_stored id (moved_to Processed) (table_of v.state)
+
+  abbrev changes_then : List (Change Extent)
+  changes_then = x.changes ++ change_at m.action ∷ []
+
+  was-whole : (phase_code h.transfer.header.phase == 0) ≡ false
+  was-whole = ap (λ ph. phase_code ph == 0) h.phase
+
+  none-in-processing : AllByRecursion (λ t. is_in BeingProcessed t.header ≡ false) after.transfers
+  none-in-processing =
+      each-map (λ t. is_in BeingProcessed t.header ≡ false) (λ t. if t.header.id == id then moved_to Processed t else t) v.state.transfers
+      (each-imp _ _ (λ t due. by t (t.header.id == id) refl due) v.state.transfers
+      (each-unmap (λ (t : Transfer). is_in BeingProcessed t.header ≡ (id == t.header.id)) (transfer_meaning package_reading v.areas) v.state.transfers sound.fit.consistent.processing.each))
+    where
+      flip : (n : ℕ) → (n == id) ≡ false → (id == n) ≡ false
+      flip n e = grind (arith, nat_tests, e)
+
+      by : (t : StoredTransfer) (b : Bool) → (t.header.id == id) ≡ b → is_in BeingProcessed t.header ≡ (id == t.header.id) → is_in BeingProcessed (if b then moved_to Processed t else t).header ≡ false
+      by t true e due = refl
+      by t false e due = due ∙ flip t.header.id e
+
+  -- the last unit
+  pub last-unit : (passed : Bool) (p : Prepared) → IsUnitReady Processing (at_process v x id) (busy x id) → nat_lt (x.units_done + 1) (units_of size) ≡ false → IsUnit (at_process v x id) passed (processed_with p after changes_then)
+  last-unit passed p ready last = record {
+    node = unit-done v x id v.prepared sound h passed false last
+        ∙ (λ i. Some (record (node_of (processed_with p after changes_then)) {
+          transfers = sym (phased-means (at_process v x id) sound x.owner id h.transfer h.is Processed was-whole refl) i;
+          session = Some (record (session_meaning v.areas x) { changes = sym (map-append (change_meaning v.areas) x.changes (change_at m.action ∷ []) ∙ (λ j. map (change_meaning v.areas) x.changes ++ record { transfer = id; part = record { manifest = m; payload = brings ready last j } } ∷ [])) i; processing = None; units_done = x.units_done + 1 });
+        }));
+    order = record {
+      clusters = sound.order.clusters;
+      session = (
+        sound.order.session.0,
+        each-append (λ c. IsExtent c.part.payload) x.changes (change_at m.action ∷ []) sound.order.session.1 (change-extent m.action there-is short, tt),
+        each-all _ changes_then (each-append _ x.changes (change_at m.action ∷ []) (all-each _ x.changes sound.order.session.2) (change-side m.action, tt)),
+      );
+      transfers = phased-placed (at_process v x id) sound x.owner id h.transfer h.is Processed was-whole refl;
+      slots = phased-slots (at_process v x id) sound x.owner id h.transfer h.is Processed was-whole refl;
+      places = later-fits m.action there-is;
+      running = sound.order.running;
+    };
+    copied = none-copied v.areas (processed_with p after changes_then).state none-in-processing;
+    entries = refl;
+  }
+
+-- the same, told of a node by its parts
+module _ {v w : Holding} (e : v ≡ w) (x : SessionOf Extent) (id : ℕ) (is : x.processing ≡ Some id) (there : v.state.session ≡ Some x) (sound : IsSound w) (q : w.state.status ≡ Processing) where
+  at : v.state.session ≡ Some (busy x id)
+  at = there ∙ ap (λ o. Some (record x { processing = o })) is
+
+  whole : IsSound (at_process v x id)
+  whole = sound-at v w Processing (busy x id) e q at sound
+
+  hand : InHand v x id
+  hand = in-hand v x id whole
+
+  pub not-lost : stored_of v.state.transfers x.owner id ≡ None → ⊥
+  not-lost none = let z = sym none ∙ hand.is in let f : ⊥ = cc in f
+
+  same-transfer : (u : StoredTransfer) → stored_of v.state.transfers x.owner id ≡ Some u → stored_units u.contents ≡ units_of (length hand.pack.payload)
+  same-transfer u found =
+      let same : hand.transfer ≡ u = let z = sym hand.is ∙ found in cc in
+      ap (λ (t : StoredTransfer). stored_units t.contents) (sym same) ∙ ap stored_units hand.contents ∙ stored-one (with_length (part_of hand.pack))
+
+  pub next-fits : x.units_done + 1 < 2 ^ 32
+  next-fits = let left = hand.unfinished in let low = short v x id whole hand in omega (arith, left, low)
+
+  pub has-room : length x.changes < cluster_limit
+  has-room = room v x id whole hand
+
+  pub more-done : IsReservedWork w → (passed : Bool) (p : Prepared) (u : StoredTransfer) → stored_of v.state.transfers x.owner id ≡ Some u → x.units_done + 1 < stored_units u.contents → (status : Status) → status ≡ Processing
+      → IsUnit w passed (record v { state = record v.state { status = status; session = Some (record x { units_done = x.units_done + 1 }) }; prepared = p })
+  more-done ready passed p u found more status stays =
+      subst (IsUnit w passed) (λ i. record v { state = record v.state { status = sym stays i; session = Some (record x { processing = sym is i; units_done = x.units_done + 1 }) }; prepared = p })
+      (unit-at v w Processing (busy x id) e q at passed _
+      (more-unit v x id p whole hand passed (ready-at v w Processing (busy x id) e q at ready) (lt-ltb (x.units_done + 1) (units_of (length hand.pack.payload)) (subst (λ n. x.units_done + 1 < n) (same-transfer u found) more))))
+
+  last-is : (u : StoredTransfer) → stored_of v.state.transfers x.owner id ≡ Some u → stored_units u.contents ≤ x.units_done + 1 → nat_lt (x.units_done + 1) (units_of (length hand.pack.payload)) ≡ false
+  last-is u found last = le-ltb (x.units_done + 1) (units_of (length hand.pack.payload)) (subst (λ n. n ≤ x.units_done + 1) (same-transfer u found) last)
+
+  change-ready : IsReservedWork w → (u : StoredTransfer) → stored_of v.state.transfers x.owner id ≡ Some u → stored_units u.contents ≤ x.units_done + 1 → change_kept v.prepared ≡ Some (change_at v x id whole hand hand.pack.manifest.action)
+  change-ready ready u found last = (part-ready v x id v.prepared whole hand (ready-at v w Processing (busy x id) e q at ready)).change (last-is u found last)
+
+  pub some-change : IsReservedWork w → (u : StoredTransfer) → stored_of v.state.transfers x.owner id ≡ Some u → stored_units u.contents ≤ x.units_done + 1 → change_kept v.prepared ≡ None → ⊥
+  some-change ready u found last none = let z = sym none ∙ change-ready ready u found last in let f : ⊥ = cc in f
+
+  pub last-done : IsReservedWork w → (passed : Bool) (p : Prepared) (u : StoredTransfer) → stored_of v.state.transfers x.owner id ≡ Some u → stored_units u.contents ≤ x.units_done + 1 → (change : Change Extent) → change_kept v.prepared ≡ Some change
+      → (table : Table) → table ≡ with_stored id (moved_to Processed) (table_of v.state) → (changes : List (Change Extent)) → changes ≡ x.changes ++ change ∷ []
+      → IsUnit w passed (record v { state = record (with_table table v.state) { status = Ready; session = Some (record x { changes = changes; processing = None; units_done = x.units_done + 1 }) }; prepared = p })
+  last-done ready passed p u found last change kept table tables changes longer =
+      let same : change_at v x id whole hand hand.pack.manifest.action ≡ change = let z = sym (change-ready ready u found last) ∙ kept in cc in
+      subst (IsUnit w passed) (λ i. processed_with v x id whole hand p (sym tables i) ((ap (λ c. x.changes ++ c ∷ []) same ∙ sym longer) i))
+      (unit-at v w Processing (busy x id) e q at passed _ (last-unit v x id whole hand passed p (ready-at v w Processing (busy x id) e q at ready) (last-is u found last)))

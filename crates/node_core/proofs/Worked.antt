@@ -1,0 +1,240 @@
+-- What a unit of work leaves of a sound node.
+use Rattle.std.proofs.Common.{◌≡◌, refl, sym, subst, ap, ◌∙◌, ℕ, ◌+◌, ◌<◌, Bool, true, false, List, [], ◌∷◌, ◌++◌, length, map}
+use Rattle.std.specs.Prelude.{nat_lt, not, ◌==◌, is_some, ◌||◌, if◌then◌else◌, option_and_then, option_map, slice_set, Option, Some, None}
+use Rattle.std.specs.List.{AllByRecursion}
+use Rattle.std.proofs.lemmas.List.{length-map}
+use Rattle.pm_types.specs.declared.clusters.Cluster.{Cluster}
+use Rattle.pm_types.specs.declared.clusters.Extent.{Extent}
+use Rattle.pm_types.specs.declared.replies.EndMark.{EndMark}
+use Rattle.pm_types.specs.declared.state.StoredTransfer.{StoredTransfer}
+use Rattle.pm_types.specs.declared.status.Outcome.{Outcome}
+use Rattle.pm_types.specs.declared.status.Phase.{Phase}
+use Rattle.pm_types.specs.declared.status.Phase.TheVariants.{Transferring, Transferred, Processing as BeingProcessed, Processed}
+use Rattle.pm_types.specs.declared.status.Status.{Status}
+use Rattle.pm_types.specs.declared.status.Status.TheVariants.{Idle, Ready, Processing, Activating, Verifying, Activated, RollingBack, RolledBack, CleaningUp}
+use Rattle.pm_types.specs.Clusters.{planned}
+use Rattle.pm_types.specs.NodeState.{SessionOf, Transfer, has_status, is_in, is_working, some_passes}
+use Rattle.pm_types.specs.Stored.{Areas, State, IsExtent, IsPlaced, change_meaning, change_place, cluster_place, names_fit_places, session_meaning, transfer_meaning}
+use Rattle.pm_types.specs.Validity.{SessionIsDue, id_in_processing, should_run}
+use Rattle.pm_types.specs.Work.{end_mark, unit, unit_of}
+use Rattle.node_laws.proofs.Lists.{each-append, each-filter, each-first, each-imp, each-unmap}
+use Rattle.transfer_blocks.specs.Table.{IsTable, Table, cleaned}
+use Rattle.node_core.specs.Core.{Holding, IsSound, node_of, table_of, with_table}
+use Rattle.node_core.specs.declared.prepared.Prepared.{Prepared}
+use Rattle.node_core.specs.Packages.{package_reading}
+use Rattle.node_core.specs.Places.{IsCopied, IsCopiedIn}
+use Rattle.node_core.specs.Units.{after_work, IsReservedWork, IsUnit, IsUnitReady, clusters_kept}
+use Rattle.node_core.proofs.Planned.{IsAmong, among-fit, planned-each, planned-means, planned-places}
+use Rattle.node_core.proofs.Stored.{filtered-means}
+use Rattle.node_core.proofs.Sound.{reading-is}
+use Rattle.node_laws.proofs.Kept.{keeps-fit}
+use Rattle.node_laws.specs.Fit.{IsFit}
+use Rattle.pm_types.specs.Histories.{unit_passes}
+
+behind : {X : Type 0} (P : X → Type 0) (xs ys : List X) → AllByRecursion P (xs ++ ys) → AllByRecursion P ys
+behind P [] ys h = h
+behind P (x ∷ xs) ys h = behind P xs ys h.1
+
+-- a node in this status, with this session
+abbrev pub at_work : Holding → Status → SessionOf Extent → Holding
+at_work v status x = record v { state = record v.state { status = status; session = Some x } }
+
+pub at-work : (v : Holding) (status : Status) (x : SessionOf Extent) → v.state.status ≡ status → v.state.session ≡ Some x → v ≡ at_work v status x
+at-work v status x q e = λ i. record v { state = record v.state { status = q i; session = e i } }
+
+-- in other statuses there is none
+pub no-unit : (v : Holding) (passed : Bool) (status : Status) → v.state.status ≡ status → is_working status ≡ false → unit (node_of v) passed ≡ None
+no-unit v passed status q idle = of v.state.session
+  where
+    one : (y : SessionOf (List ℕ)) (st : Status) → is_working st ≡ false → unit_of (node_of v) y passed st ≡ None
+    one y Idle i = refl
+    one y Ready i = refl
+    one y Processing i = absurd (cc)
+    one y Activating i = absurd (cc)
+    one y Verifying i = absurd (cc)
+    one y Activated i = refl
+    one y RollingBack i = absurd (cc)
+    one y RolledBack i = refl
+    one y CleaningUp i = absurd (cc)
+
+    of : (o : Option (SessionOf Extent)) → option_and_then (λ y. unit_of (node_of v) y passed v.state.status) (option_map (session_meaning v.areas) o) ≡ None
+    of None = refl
+    of (Some x) = one (session_meaning v.areas x) v.state.status (ap is_working q ∙ idle)
+
+-- where no transfer is in processing, nothing need be copied
+pub none-copied : (areas : Areas) (s : State) → AllByRecursion (λ t. is_in BeingProcessed t.header ≡ false) s.transfers → IsCopied package_reading areas s
+none-copied areas s each = each-imp _ _ (λ t idle. of t t.header.phase idle) s.transfers each
+  where
+    of : (t : StoredTransfer) (phase : Phase) → is_in BeingProcessed (record t.header { phase = phase }) ≡ false → IsCopiedIn package_reading areas s t phase
+    of t Transferring idle = tt
+    of t Transferred idle = tt
+    of t BeingProcessed idle = absurd (cc)
+    of t Processed idle = tt
+
+-- none is outside Processing
+pub none-processed : (v : Holding) → IsSound v → has_status Processing (node_of v) ≡ false → AllByRecursion (λ t. is_in BeingProcessed t.header ≡ false) v.state.transfers
+none-processed v sound other =
+    let due = sound.fit.consistent.processing in
+    each-imp _ _ (λ t same. same ∙ of (id_in_processing (node_of v)) t (due.status ∙ other)) v.state.transfers
+    (each-unmap (λ (t : Transfer). is_in BeingProcessed t.header ≡ some_passes (λ id. id == t.header.id) (id_in_processing (node_of v))) (transfer_meaning package_reading v.areas) v.state.transfers due.each)
+  where
+    of : (o : Option ℕ) (t : StoredTransfer) → is_some o ≡ false → some_passes (λ id. id == t.header.id) o ≡ false
+    of None t e = refl
+    of (Some id) t e = absurd (cc)
+
+module _ (v w : Holding) (status : Status) (x : SessionOf Extent) (e : v ≡ w) (q : w.state.status ≡ status) (there : v.state.session ≡ Some x) where
+  same-work : w ≡ at_work v status x
+  same-work = sym e ∙ at-work v status x (ap (λ (u : Holding). u.state.status) e ∙ q) there
+
+  pub sound-at : IsSound w → IsSound (at_work v status x)
+  sound-at sound = subst IsSound same-work sound
+
+  pub unit-at : (passed : Bool) (new : Holding) → IsUnit (at_work v status x) passed new → IsUnit w passed new
+  unit-at passed new u = subst (λ z. IsUnit z passed new) (sym same-work) u
+
+  pub ready-at : IsReservedWork w → IsUnitReady status (at_work v status x) x
+  ready-at ready = subst IsReservedWork same-work ready
+
+module _ (v : Holding) (x : SessionOf Extent) (p : Prepared) where
+  -- the node with another status and session, and other running clusters
+  abbrev pub moved : Status → SessionOf Extent → List (Cluster Extent) → Holding
+  moved status y running = record v { state = record v.state { status = status; session = Some y; running = running }; prepared = p }
+
+  abbrev places : List (List ℕ × ℕ)
+  places = map cluster_place x.saved ++ map change_place x.changes
+
+  -- other running clusters, of the places of those that were saved and of the changes
+  run-places : (running : List (Cluster Extent)) → IsAmong (map cluster_place running) places → names_fit_places (map cluster_place v.state.running ++ places) ≡ true → names_fit_places (map cluster_place running ++ places) ≡ true
+  run-places running among fit = among-fit (map cluster_place running ++ places) (map cluster_place v.state.running ++ places)
+      (λ P each. let rest = behind P (map cluster_place v.state.running) places each in each-append P (map cluster_place running) places (among P rest) rest) fit
+
+  -- one change may be verified more
+  one-left : IsSound (at_work v Verifying x) → x.verified < length x.changes
+  one-left sound = subst (λ n. x.verified < n) (length-map x.changes (change_meaning v.areas)) sound.fit.consistent.verdicts.0
+
+  -- one change more is verified
+  verified-unit : IsSound (at_work v Verifying x) → (more : Bool) → nat_lt (x.verified + 1) (length x.changes) ≡ more
+      → IsUnit (at_work v Verifying x) true (moved (if more then Verifying else Activated) (record x { verified = x.verified + 1 }) v.state.running)
+  verified-unit sound more e = record {
+    node = ap (λ n. Some (node_of (moved (if nat_lt (x.verified + 1) n then Verifying else Activated) (record x { verified = x.verified + 1 }) v.state.running))) (length-map x.changes (change_meaning v.areas))
+        ∙ ap (λ b. Some (node_of (moved (if b then Verifying else Activated) (record x { verified = x.verified + 1 }) v.state.running))) e;
+    order = record {
+      clusters = sound.order.clusters;
+      session = sound.order.session;
+      transfers = sound.order.transfers;
+      slots = sound.order.slots;
+      places = sound.order.places;
+      running = runs more;
+    };
+    copied = none-copied v.areas (moved (if more then Verifying else Activated) (record x { verified = x.verified + 1 }) v.state.running).state (none-processed (at_work v Verifying x) sound refl);
+    entries = refl;
+  }
+    where
+      runs : (more : Bool) → v.state.running ≡ should_run (record x { verified = x.verified + 1 }) (if more then Verifying else Activated) x.outcome
+      runs true = sound.order.running
+      runs false = sound.order.running
+
+  -- the planned clusters run
+  activated-unit : (passed : Bool) (running : List (Cluster Extent)) → clusters_kept v.prepared ≡ Some running → IsSound (at_work v Activating x) → IsUnitReady Activating (at_work v Activating x) x
+      → IsUnit (at_work v Activating x) passed (moved Verifying (record x { verified = 0 }) running)
+  activated-unit passed running kept sound ready =
+      let same : planned x.changes x.saved ≡ running = cc in
+      subst (λ cs. IsUnit (at_work v Activating x) passed (moved Verifying (record x { verified = 0 }) cs)) same (record {
+        node = ap (λ cs. Some (record (node_of (moved Verifying (record x { verified = 0 }) v.state.running)) { running = cs })) (sym (planned-means v.areas x.changes x.saved));
+        order = record {
+          clusters = planned-each (λ c. IsExtent c.content) x.changes x.saved sound.order.session.1 sound.order.session.0;
+          session = sound.order.session;
+          transfers = sound.order.transfers;
+          slots = sound.order.slots;
+          places = run-places (planned x.changes x.saved) (planned-places x.changes x.saved) sound.order.places;
+          running = refl;
+        };
+        copied = none-copied v.areas (moved Verifying (record x { verified = 0 }) (planned x.changes x.saved)).state (none-processed (at_work v Activating x) sound refl);
+        entries = refl;
+      })
+
+  -- the saved clusters run again
+  rolled-unit : (passed : Bool) (running : List (Cluster Extent)) → clusters_kept v.prepared ≡ Some running → IsSound (at_work v RollingBack x) → IsUnitReady RollingBack (at_work v RollingBack x) x
+      → IsUnit (at_work v RollingBack x) passed (moved RolledBack x running)
+  rolled-unit passed running kept sound ready =
+      let same : x.saved ≡ running = cc in
+      subst (λ cs. IsUnit (at_work v RollingBack x) passed (moved RolledBack x cs)) same (record {
+        node = refl;
+        order = record {
+          clusters = sound.order.session.0;
+          session = sound.order.session;
+          transfers = sound.order.transfers;
+          slots = sound.order.slots;
+          places = run-places x.saved (λ P each. each-first P (map cluster_place x.saved) (map change_place x.changes) each) sound.order.places;
+          running = refl;
+        };
+        copied = none-copied v.areas (moved RolledBack x x.saved).state (none-processed (at_work v RollingBack x) sound refl);
+        entries = refl;
+      })
+
+  -- the node without its session, with this table and these marks
+  abbrev pub ended : Table → Option (SessionOf Extent) → List (Option EndMark) → Holding
+  ended table session marks = record v { state = record (with_table table v.state) { status = Idle; session = session; ended = marks }; prepared = p }
+
+  -- the session is over
+  cleaned-unit : (passed : Bool) (table : Table) (left : Option (SessionOf Extent)) (place : ℕ) (mark : Option EndMark) → IsSound (at_work v CleaningUp x) → table ≡ cleaned (table_of v.state) → IsTable table → left ≡ None → place ≡ x.owner
+      → mark ≡ option_map (λ (o : Outcome). record { tag = x.tag; outcome = o }) x.outcome → IsUnit (at_work v CleaningUp x) passed (ended table left (slice_set v.state.ended place mark))
+  cleaned-unit passed table left place mark sound is form none here marks =
+      let marked : end_mark (session_meaning v.areas x) ≡ mark = sym (marks ∙ of x.outcome) in
+      subst (IsUnit (at_work v CleaningUp x) passed) (λ i. ended (sym is i) (sym none i) (slice_set v.state.ended (sym here i) (marked i))) (record {
+        node = ap (λ us. Some (record (node_of (ended (table_of v.state) None (slice_set v.state.ended x.owner (end_mark (session_meaning v.areas x))))) { transfers = us })) (sym (filtered-means package_reading v.areas (λ h. not (is_in BeingProcessed h || is_in Processed h)) v.state.transfers));
+        order = record {
+          clusters = sound.order.clusters;
+          session = tt;
+          transfers = each-filter (IsPlaced package_reading v.areas) _ v.state.transfers sound.order.transfers;
+          slots = (subst IsTable is form).slots;
+          places = among-fit (map cluster_place v.state.running ++ []) (map cluster_place v.state.running ++ places)
+              (λ P each. each-append P (map cluster_place v.state.running) [] (each-first P (map cluster_place v.state.running) places each) tt) sound.order.places;
+          running = tt;
+        };
+        copied = none-copied v.areas (ended (cleaned (table_of v.state)) None []).state (each-filter (λ t. is_in BeingProcessed t.header ≡ false) _ v.state.transfers (none-processed (at_work v CleaningUp x) sound refl));
+        entries = refl;
+      })
+    where
+      of : (o : Option Outcome) → option_map (λ (k : Outcome). record { tag = x.tag; outcome = k }) o ≡ end_mark (record (session_meaning v.areas x) { outcome = o })
+      of None = refl
+      of (Some k) = refl
+
+-- where a node rolls back it has a session
+session-there : (v : Holding) → IsSound v → v.state.status ≡ RollingBack → (x : SessionOf Extent) × (v.state.session ≡ Some x)
+session-there v sound q = of v.state.session refl
+  where
+    of : (o : Option (SessionOf Extent)) → v.state.session ≡ o → (x : SessionOf Extent) × (v.state.session ≡ Some x)
+    of (Some x) e = (x, e)
+    of None e = elim (subst (λ o. SessionIsDue RollingBack (option_map (session_meaning v.areas) o)) e (subst (λ st. SessionIsDue st (option_map (session_meaning v.areas) v.state.session)) q sound.fit.consistent.session)) [ ]
+
+-- the same, told of a node by its parts
+module _ {v w : Holding} (e : v ≡ w) (x : SessionOf Extent) (p : Prepared) (there : v.state.session ≡ Some x) (sound : IsSound w) where
+  pub left-to-verify : w.state.status ≡ Verifying → x.verified < length x.changes
+  left-to-verify q = one-left v x p (sound-at v w Verifying x e q there sound)
+
+  pub verified : w.state.status ≡ Verifying → (passed : Bool) → passed ≡ true → (more : Bool) → nat_lt (x.verified + 1) (length x.changes) ≡ more → (status : Status) → status ≡ (if more then Verifying else Activated)
+      → IsUnit w passed (moved v x p status (record x { verified = x.verified + 1 }) v.state.running)
+  verified q passed good more m status leads =
+      let new : Status → Holding = λ st. moved v x p st (record x { verified = x.verified + 1 }) v.state.running in
+      subst (λ b. IsUnit w b (new status)) (sym good) (subst (λ st. IsUnit w true (new st)) (sym leads) (unit-at v w Verifying x e q there true (new (if more then Verifying else Activated)) (verified-unit v x p (sound-at v w Verifying x e q there sound) more m)))
+
+  pub activated : w.state.status ≡ Activating → IsReservedWork w → (passed : Bool) (running : List (Cluster Extent)) → clusters_kept v.prepared ≡ Some running → IsUnit w passed (moved v x p Verifying (record x { verified = 0 }) running)
+  activated q ready passed running kept = unit-at v w Activating x e q there passed _ (activated-unit v x p passed running kept (sound-at v w Activating x e q there sound) (ready-at v w Activating x e q there ready))
+
+  pub cleaned_up : w.state.status ≡ CleaningUp → (passed : Bool) (table : Table) (left : Option (SessionOf Extent)) (place : ℕ) (mark : Option EndMark) → table ≡ cleaned (table_of v.state) → IsTable table → left ≡ None → place ≡ x.owner
+      → mark ≡ option_map (λ (o : Outcome). record { tag = x.tag; outcome = o }) x.outcome → IsUnit w passed (ended v x p table left (slice_set v.state.ended place mark))
+  cleaned_up q passed table left place mark is form none here marks =
+      unit-at v w CleaningUp x e q there passed _ (cleaned-unit v x p passed table left place mark (sound-at v w CleaningUp x e q there sound) is form none here marks)
+
+-- and of one that rolls back
+pub rolled_back : {v w : Holding} → v ≡ w → IsSound w → w.state.status ≡ RollingBack → IsReservedWork w → (p : Prepared) (passed : Bool) (running : List (Cluster Extent)) → clusters_kept v.prepared ≡ Some running
+    → IsUnit w passed (record v { state = record v.state { status = RolledBack; running = running }; prepared = p })
+rolled_back {v = v} {w = w} e sound q ready p passed running kept =
+    let there = session-there v (subst IsSound (sym e) sound) (ap (λ (u : Holding). u.state.status) e ∙ q) in
+    subst (λ o. IsUnit w passed (record v { state = record v.state { status = RolledBack; running = running; session = o }; prepared = p })) (sym there.1)
+    (unit-at v w RollingBack there.0 e q there.1 passed _ (rolled-unit v there.0 p passed running kept (sound-at v w RollingBack there.0 e q there.1 sound) (ready-at v w RollingBack there.0 e q there.1 ready)))
+
+-- work leaves a node fit
+pub worked-fit : (v new : Holding) (fails : List (List ℕ)) → IsSound v → node_of new ≡ after_work fails (node_of v) → IsFit package_reading (node_of new)
+worked-fit v new fails sound node = subst (IsFit package_reading) (sym node) ((keeps-fit package_reading reading-is).unit (node_of v) (unit_passes fails (node_of v)) sound.fit)
