@@ -18,7 +18,9 @@ use Rattle.pm_types.specs.declared.replies.Worked.{Worked}
 use Rattle.pm_types.specs.declared.replies.Worked.TheVariants.{Unit, Nothing}
 use Rattle.pm_types.specs.declared.status.Phase.{Phase}
 use Rattle.pm_types.specs.declared.status.Phase.TheVariants.{Transferring, Transferred, Processing, Processed}
-use Rattle.pm_types.specs.Text.{reply_text, status_text}
+use Rattle.pm_types.specs.Text.{reached_text, reply_text, status_text}
+use Rattle.ucm_prog.specs.declared.answers.Given.{Given}
+use Rattle.ucm_prog.specs.declared.answers.Given.TheVariants.{Reached, Worked as WorkedOnce, Answer as Answered}
 use Rattle.ucm_prog.specs.Inspect.{action_word}
 
 -- what became of a request for one unit
@@ -73,3 +75,9 @@ answer_text start (Packages packages) = codes "Packages" ++ flat_map package_sho
 answer_text start (Progress percent) = codes "Progress " ++ decimal percent
 answer_text start (Refused refusal) = reply_text (RefusedReply refusal)
 answer_text start (History lines) = codes "History" ++ flat_map (history_line start) lines
+
+-- what an event gave, of a script that begins at this time
+abbrev pub given_text : ℕ → Given → List ℕ
+given_text start (Reached reached) = reached_text reached
+given_text start (WorkedOnce worked) = worked_text worked
+given_text start (Answered answer) = answer_text start answer

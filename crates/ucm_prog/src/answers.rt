@@ -1,16 +1,37 @@
-//! What is printed of a unit of work and of a query's answer.
+//! What is printed of what an event gave.
 ghost use Rattle.std.specs.Prelude.{◌≡◌, ◌++◌, OnOk, string_bytes};
 ghost use Rattle.std.specs.List.{flat_map};
-ghost use Rattle.ucm_prog.specs.Answers.{answer_text, call_word, change_shown, cluster_shown, happened_text, history_line, package_shown, phase_word, worked_text};
+ghost use Rattle.ucm_prog.specs.Answers.{answer_text, call_word, change_shown, cluster_shown, given_text, happened_text, history_line, package_shown, phase_word, worked_text};
 
 use crate::inspect::word_of;
 use pm_types::{
-    Answer, CallName, ChangeInfo, ClusterInfo, Happened, Line, PackageInfo, Phase, Reply, Worked,
+    Answer, CallName, ChangeInfo, ClusterInfo, Happened, Line, PackageInfo, Phase, Reached, Reply,
+    Worked,
 };
 use std::alloc::AllocError;
 
+/// What an event gave: what became of a call or of a unit of work, or the answer to a query.
+#[derive(Drop)]
+pub enum Given {
+    Reached(Reached),
+    Worked(Worked),
+    Answer(Answer),
+}
+
+/// Adds what an event gave, of a script that begins at this time.
+pub fn add_given(text: &mut String, start: u64, given: &Given) -> Result<(), AllocError>
+    ensures { OnOk result (string_bytes text.new
+        ≡ string_bytes text.old ++ given_text start given.now) }
+{
+    match given {
+        Given::Reached(reached) => write!(text, "{reached}"),
+        Given::Worked(worked) => add_worked(text, *worked),
+        Given::Answer(answer) => add_answer(text, start, answer),
+    }
+}
+
 /// Adds what became of a request for one unit.
-pub fn add_worked(text: &mut String, worked: Worked) -> Result<(), AllocError>
+fn add_worked(text: &mut String, worked: Worked) -> Result<(), AllocError>
     ensures { OnOk result (string_bytes text.new ≡ string_bytes text.old ++ worked_text worked) }
 {
     match worked {
@@ -20,7 +41,7 @@ pub fn add_worked(text: &mut String, worked: Worked) -> Result<(), AllocError>
 }
 
 /// Adds the answer to a query, of a script that begins at this time.
-pub fn add_answer(text: &mut String, start: u64, answer: &Answer) -> Result<(), AllocError>
+fn add_answer(text: &mut String, start: u64, answer: &Answer) -> Result<(), AllocError>
     ensures { OnOk result (string_bytes text.new
         ≡ string_bytes text.old ++ answer_text start answer.now) }
 {

@@ -5,6 +5,7 @@
 //! cause.
 #![tactic(auto)]
 
+mod answers;
 mod commands;
 mod inspect;
 mod output;
@@ -12,7 +13,6 @@ mod pack;
 mod plain;
 mod replay;
 mod script;
-mod served;
 mod status;
 #[cfg(test)]
 mod tests;

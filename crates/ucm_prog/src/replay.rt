@@ -1,8 +1,8 @@
 //! The command `replay`: the calls of a script, executed by one node in memory.
-ghost use Rattle.std.specs.Prelude.{◌≡◌, ◌<◌, ◌≤◌, ◌+◌, ◌++◌, [], true, replicate, IfOk, OnOk, string_bytes};
+ghost use Rattle.std.specs.Prelude.{◌≡◌, ◌<◌, ◌≤◌, ◌+◌, ◌++◌, [], replicate, IfOk, OnOk, string_bytes};
 ghost use Rattle.ucm_base.specs.Limits.{entry_limit};
 ghost use Rattle.pm_types.specs.Histories.{formatted};
-ghost use Rattle.node_core.specs.Core.{is_served, node_of, step_by};
+ghost use Rattle.node_core.specs.Core.{node_of, step_by};
 ghost use Rattle.ucm_prog.specs.Replay.{after_line, call_meant, line_text, output_of_calls, texts_of};
 ghost use Rattle.ucm_prog.specs.Outputs.{IsOutput};
 ghost use Rattle.ucm_prog.specs.Script.{calls_of};
@@ -76,7 +76,7 @@ fn reach(alloc: Global, core: &mut Core<MemStaging>, line: &CallLine) -> Result<
 {
     let CallLine { client, no, .. } = *line;
     match &line.call {
-        ScriptCall::Given(call) => executed(alloc, core, client, no, call.as_call()),
+        ScriptCall::Given(call) => executed(alloc, core, client, no, call),
         ScriptCall::Filled {
             id,
             counter,
@@ -106,7 +106,6 @@ fn filled_call(
 ) -> Result<Call, AllocError>
     ensures call { IfOk result (λ call. call
         ≡ call_meant (ScriptCall.Filled id counter size byte)) }
-    ensures served { IfOk result (λ call. is_served call ≡ true) }
 {
     let bytes = filled_block(alloc, size, byte)?;
     Ok(Call::TransferData { id, counter, bytes })
@@ -119,7 +118,6 @@ fn executed(
     no: CallNo,
     call: &Call,
 ) -> Result<Reached, AllocError>
-    requires served { is_served call.now ≡ true }
     requires entries { core.old.state.entries < entry_limit }
     ensures reached { IfOk result (λ reached. reached
         ≡ (step_by core.old client no call.now).1) }

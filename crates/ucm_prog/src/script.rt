@@ -10,7 +10,6 @@ ghost use Rattle.ucm_text.specs.Decimal.{number_of_word};
 ghost use Rattle.ucm_text.specs.Hexadecimal.{bytes_of_word};
 ghost use Rattle.ucm_prog.specs.Script.{block_of_pieces, call_no, call_no_of_word, call_of_words, caller_of_words, calls_from, calls_of, client_of_word, data_call, filled, is_above, is_passed_over, line_of_words, line_read, next_call, numbered_call, small_number, words_in};
 
-use crate::served::ServedCall;
 use pm_types::Call;
 use std::alloc::{AllocError, AllocFailed, Global};
 use ucm_base::{Block, CallNo, ClientId};
@@ -26,7 +25,7 @@ const HEX_LIMIT: usize = 8192;
 /// made.
 #[derive(Drop)]
 pub enum ScriptCall {
-    Given(ServedCall),
+    Given(Call),
     Filled {
         id: u32,
         counter: u64,
@@ -233,7 +232,7 @@ fn given_of(id: u32, counter: u64, bytes: Option<Vec<u8>>) -> Option<ScriptCall>
         (Call.TransferData id counter items)) (option_map (λ v. v.items) bytes) }
 {
     let bytes = Block::of(bytes?);
-    let call = ServedCall::of(Call::TransferData { id, counter, bytes });
+    let call = Call::TransferData { id, counter, bytes };
     Some(ScriptCall::Given(call))
 }
 
@@ -296,7 +295,7 @@ fn call_named(name: &[u8]) -> Option<ScriptCall>
     ensures { result ≡ call_of_words (name.now ∷ []) }
 {
     if name == b"sync".as_slice() {
-        Some(ScriptCall::Given(ServedCall::of(Call::Sync)))
+        Some(ScriptCall::Given(Call::Sync))
     } else {
         None
     }
@@ -307,13 +306,13 @@ fn call_with(name: &[u8], word: &[u8]) -> Option<ScriptCall>
 {
     if name == b"start".as_slice() {
         let size = number_of(word)?;
-        Some(ScriptCall::Given(ServedCall::of(Call::TransferStart { size })))
+        Some(ScriptCall::Given(Call::TransferStart { size }))
     } else if name == b"exit".as_slice() {
         let id = small_number_of(word)?;
-        Some(ScriptCall::Given(ServedCall::of(Call::TransferExit { id })))
+        Some(ScriptCall::Given(Call::TransferExit { id }))
     } else if name == b"delete".as_slice() {
         let id = small_number_of(word)?;
-        Some(ScriptCall::Given(ServedCall::of(Call::DeleteTransfer { id })))
+        Some(ScriptCall::Given(Call::DeleteTransfer { id }))
     } else {
         None
     }
