@@ -1,4 +1,4 @@
-pub mod Forms
-pub mod Reading
+pub mod Installing
+pub mod Meant
 pub mod Printing
 pub mod Outputs

@@ -3,7 +3,8 @@ use Rattle.std.specs.Prelude.{◌≡◌, ℕ, nat_lt, if◌then◌else◌, List,
 use Rattle.ucm_base.specs.Limits.{input_limit}
 use Rattle.package_reader.specs.Reading.{reading}
 use Rattle.recipe.specs.Packing.{packed}
-use Rattle.scenario.specs.Scripts.{Refused}
+use Rattle.scenario.specs.declared.script.Command.TheVariants.{Replay as ScriptOfReplay}
+use Rattle.scenario.specs.Scripts.{Refused, script_of}
 use Rattle.ucm_prog.specs.declared.commands.Command.{Command}
 use Rattle.ucm_prog.specs.declared.commands.Command.TheVariants.{Replay, Inspect, Pack}
 use Rattle.ucm_prog.specs.declared.status.ExitStatus.{ExitStatus}
@@ -11,8 +12,7 @@ use Rattle.ucm_prog.specs.declared.status.ExitStatus.TheVariants.{Successful}
 use Rattle.ucm_prog.specs.Inspect.{inspected}
 use Rattle.ucm_prog.specs.Outcome.{Puts, PutsPrefix}
 use Rattle.ucm_prog.specs.Refusals.{Output, line_refusal, refused_output, too_long_output}
-use Rattle.ucm_prog.specs.Replay.{output_of_calls}
-use Rattle.ucm_prog.specs.Script.{calls_of}
+use Rattle.ucm_prog.specs.Replay.{replayed}
 
 abbrev pub packed_output : Result (List ℕ) Refused → Output
 packed_output (Ok bytes) = record { status = Successful; text = bytes }
@@ -20,7 +20,7 @@ packed_output (Err r) = refused_output (line_refusal r.line r.why)
 
 -- what a command writes of an input that isn't too long
 abbrev pub command_output : Command → List ℕ → Output
-command_output Replay input = output_of_calls (calls_of input)
+command_output Replay input = replayed (script_of ScriptOfReplay input) input
 command_output Inspect input = inspected (reading input)
 command_output (Pack kind) input = packed_output (packed kind input)
 

@@ -75,7 +75,7 @@ fn add_needs(text: &mut String, needs: &[Need]) -> Result<(), AllocError>
     Ok(())
 }
 
-fn word_of(action: Action) -> &'static str
+pub fn word_of(action: Action) -> &'static str
     ensures { result.now ≡ action_word action }
 {
     match action {

@@ -5,13 +5,14 @@
 //! cause.
 #![tactic(auto)]
 
+mod answers;
 mod commands;
 mod inspect;
+mod node;
 mod output;
 mod pack;
 mod plain;
 mod replay;
-mod script;
 mod status;
 #[cfg(test)]
 mod tests;

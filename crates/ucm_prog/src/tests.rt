@@ -153,32 +153,61 @@ fn what_is_no_package_is_refused(rt: HostRuntime) -> Result<(), Fail> {
 }
 
 #[test]
-fn other_lines_are_for_later(rt: HostRuntime) -> Result<(), Fail> {
-    let rows: [(&[u8], &[u8]); 9] = [
-        (b"ask 1 1 status\n", b"refused line 1 later\n"),
-        (b"\n#\ncall 1 1 1.1 sync 5", b"refused line 3 later\n"),
-        (b"call 2 1 1.1 sync", b"refused line 1 later\n"),
-        (b"call 1 32 1.1 sync", b"refused line 1 later\n"),
-        (b"call 1 1 0.1 sync", b"refused line 1 later\n"),
-        (b"call 1 1 1.1 start 010", b"refused line 1 later\n"),
+fn the_first_refused_line_is_named(rt: HostRuntime) -> Result<(), Fail> {
+    let rows: [(&[u8], &[u8]); 6] = [
+        (b"stop 1 4 1\n", b"refused line 1 later\n"),
+        (b"\n#\ncall 1 1 1.1 sync 5", b"refused line 3 value\n"),
+        (b"call 1 1 1.1 sync\nask 1 1\n", b"refused line 2 form\n"),
         (
-            b"call 1 1 1.1 start 18446744073709551616",
-            b"refused line 1 later\n",
+            b"call 1 1 1.1 data 1 1 block:p:1\n",
+            b"refused line 1 unknown\n",
         ),
-        (
-            b"call 1 1 1.1 data 1 1 fill:1000001:00",
-            b"refused line 1 later\n",
-        ),
-        (
-            b"call 1 1 1.2 sync\ncall 1 1 1.2 sync\n",
-            b"refused line 2 later\n",
-        ),
+        (b"time 1\ntime 1\n", b"refused line 2 twice\n"),
+        (b"attach p 1\nend\n", b"refused line 0 bytes\n"),
     ];
     for (script, text) in rows {
         let (status, written) = outcome(rt.alloc(), "replay", script, &[], &[])?;
         assert_eq!(rt; status, ExitStatus::InputRefused);
         assert!(rt; written.as_slice() == text);
     }
+    Ok(())
+}
+
+const QUERIES: &[u8] =
+    b"time 1000\ncall 1 1 1.5 start 10\ncall 1 1 1.5 start 10\ncall 1 1 1.4 sync\n\
+call 1 1 1.6 rollback\ncall 1 1 1.6 rollback\nask 1 1 history 1000 2000\nask 1 1 history 0 1001\n\
+ask 1 1 packages\nask 1 2 packages\nask 1 1 progress 1\nask 1 2 progress 1\nask 1 1 status\nask 1 1 changes\n\
+call 1 1 1.7 sync\n";
+
+const ANSWERS: &[u8] = b"2 Started 1\n3 Again Started 1\n4 Stale 1.5\n\
+5 Refused 4 OperationNotPermitted\n6 Again Refused 4 OperationNotPermitted\n\
+7 History 1000/1/1.5/TransferStart/0 1001/1/1.6/Rollback/4\n8 History 1000/1/1.5/TransferStart/0\n\
+9 Packages 1:Transferring:0/10\n10 Packages\n11 Progress 0\n12 Refused 3 InvalidTransferId\n\
+13 Status kIdle\n14 Changes\n15 Synced - - 1\n";
+
+const SESSION: &[u8] =
+    b"installed 1 core 1.0.0 fill:10:01\npackage p1 remove core 1.0.0 fill:0:00\n\
+package p2 install app 2.0.0 fill:5000:02 core@^1.0.0\ncall 1 1 1.1 start size:p1\n\
+call 1 1 1.2 data 1 1 block:p1:1\ncall 1 1 1.3 exit 1\ncall 1 1 1.4 start size:p2\n\
+call 1 1 1.5 data 2 1 block:p2:1\ncall 1 1 1.6 data 2 2 block:p2:2\ncall 1 1 1.7 exit 2\n\
+call 1 1 1.8 process 1 0\nwork 1 1\ncall 1 1 1.9 process 2 0\nwork 1 1\nwork 1 1\n\
+call 1 1 1.10 activate\ncall 1 1 1.11 revert\nwork 1 1\nwork 1 1\nask 1 1 clusters\n";
+
+const LED: &[u8] = b"4 Started 1\n5 Done\n6 Done\n7 Started 2\n8 Done\n9 Done\n10 Done\n11 Done\n\
+12 Worked kReady\n13 Done\n14 Worked kProcessing\n15 Worked kReady\n\
+16 Refused 11 MissingDependencies app core@^1.0.0\n17 Done\n18 Worked kIdle\n19 Nothing kIdle\n\
+20 Clusters core@1.0.0\n";
+
+#[test]
+fn whole_scripts_print_what_each_line_gave(rt: HostRuntime) -> Result<(), Fail> {
+    let alloc = rt.alloc();
+    let (status, written) = outcome(alloc, "replay", QUERIES, &[], &[])?;
+    assert_eq!(rt; status, ExitStatus::Successful);
+    assert!(rt; written.as_slice() == ANSWERS);
+    let (_, script) = outcome(alloc, "pack script", SESSION, &[], &[])?;
+    let (status, written) = outcome(alloc, "replay", script.as_slice(), &[], &[])?;
+    assert_eq!(rt; status, ExitStatus::Successful);
+    assert!(rt; written.as_slice() == LED);
     Ok(())
 }
 

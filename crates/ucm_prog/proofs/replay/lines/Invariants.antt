@@ -1,0 +1,10 @@
+use Rattle.std.proofs.Common.{◌≡◌, ◌≤◌, ◌++◌, drop, string_bytes}
+use Rattle.node_core.specs.Core.{node_of}
+use Rattle.ucm_prog.specs.Replay.{texts_of}
+use Rattle.ucm_prog.proofs.replay.lines.Given as goal
+
+abbrev pub invariant-events : goal.invariant-events
+invariant-events l = record {
+  text : texts_of l.script l.attached (node_of l.initial.core) l.events ≡ string_bytes l.text ++ texts_of l.script l.attached (node_of l.core) (drop l.event-index l.events);
+  entries : l.core.state.entries ≤ l.event-index;
+}
