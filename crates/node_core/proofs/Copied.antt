@@ -293,7 +293,7 @@ module _ (v : Holding) (x : SessionOf Extent) (id : ℕ) (sound : IsSound (at_pr
         (put-ready v x id sound h fit some new.areas new.faults (subst (λ a. LeavesOutside a (at v x id sound h) (len v x id sound h) v.areas new.areas) is-side left)
         (ap (λ a. content_of a new.areas) (sym is-side) ∙ ap (content_of (side_of (change v x id sound h).part.payload)) put ∙ content-here (side_of (change v x id sound h).part.payload) v.areas (area-is v x id sound h) fit _
         ∙ ap (λ b. overwritten (at v x id sound h) b (content_of (side_of (change v x id sound h).part.payload) v.areas))
-            (piece-is h.transfer.header.received (content_of (Transfer h.transfer.slot) v.areas) h.pack h.reads lies (at v x id sound h) (len v x id sound h) some (within v x id sound h))
+        (piece-is h.transfer.header.received (content_of (Transfer h.transfer.slot) v.areas) h.pack h.reads lies (at v x id sound h) (len v x id sound h) some (within v x id sound h))
         ∙ ap (λ a. overwritten (at v x id sound h) (take (len v x id sound h) (drop (at v x id sound h) h.pack.payload)) (content_of a v.areas)) is-side));
     none = λ zero new areas state prepared. subst IsReservedWork (sym (as-planned new state prepared ∙ (λ i. record { areas = areas i; faults = new.faults; state = (at_process v x id).state; prepared = Planned (change v x id sound h) })))
         (none-ready v x id sound h new.faults zero);

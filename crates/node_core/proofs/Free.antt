@@ -50,9 +50,9 @@ fits-each pairs each = each-all (λ a. list_all (fits a) pairs) pairs (each-imp 
 pub own-names : (pairs : List Pair) → AllByRecursion (λ a. has_name (map (λ p. p.0) pairs) a.0 ≡ true) pairs
 own-names [] = tt
 own-names (a ∷ pairs) = (
-    ap (λ b. b || has_name (map (λ p. p.0) pairs) a.0) (eq-name a.0 a.0 refl),
-    each-imp _ _ (λ b k. or-right (bytes_eq b.0 a.0) _ k) pairs (own-names pairs),
-  )
+  ap (λ b. b || has_name (map (λ p. p.0) pairs) a.0) (eq-name a.0 a.0 refl),
+  each-imp _ _ (λ b k. or-right (bytes_eq b.0 a.0) _ k) pairs (own-names pairs),
+)
   where
     or-right : (a b : Bool) → b ≡ true → (a || b) ≡ true
     or-right true b m = refl

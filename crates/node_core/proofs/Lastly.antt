@@ -165,10 +165,10 @@ module _ (v : Holding) (x : SessionOf Extent) (id : ℕ) (sound : IsSound (at_pr
   pub free : has_cluster x.saved name ≡ false → (is_taken pairs (lowest_free state) ≡ false) × (lowest_free state < cluster_limit) × (has_name (map (λ (a : Pair). a.0) pairs) name ≡ false)
   free other =
       let absent : has_name (ran ++ (kept ++ changed)) name ≡ false = has-append ran (kept ++ changed) name
-          ∙ (λ i. (ap (λ (cs : List (Cluster Extent)). has_name (map (λ (c : Cluster Extent). c.name) cs) name) runs ∙ has-named x.saved ∙ other) i || (has-append kept changed name ∙ (λ j. (has-named x.saved ∙ other) j || new-change j)) i) in
+      ∙ (λ i. (ap (λ (cs : List (Cluster Extent)). has_name (map (λ (c : Cluster Extent). c.name) cs) name) runs ∙ has-named x.saved ∙ other) i || (has-append kept changed name ∙ (λ j. (has-named x.saved ∙ other) j || new-change j)) i) in
       let new : has_name (map (λ (a : Pair). a.0) pairs) name ≡ false = ap (λ ns. has_name ns name) pair-names ∙ absent in
       let inside : Within (ran ++ (kept ++ changed)) all = each-append _ ran (kept ++ changed) (within-left ran (ran ++ kept) (changed ++ name ∷ []) (within-left ran ran kept (within-self ran)))
-          (each-append _ kept changed (within-left kept (ran ++ kept) (changed ++ name ∷ []) (within-right kept ran kept (within-self kept))) (within-right changed (ran ++ kept) (changed ++ name ∷ []) (within-left changed changed (name ∷ []) (within-self changed)))) in
+      (each-append _ kept changed (within-left kept (ran ++ kept) (changed ++ name ∷ []) (within-right kept ran kept (within-self kept))) (within-right changed (ran ++ kept) (changed ++ name ∷ []) (within-left changed changed (name ∷ []) (within-self changed)))) in
       let own : has_name all name ≡ true = (within-right (name ∷ []) (ran ++ kept) (changed ++ name ∷ []) (within-right (name ∷ []) changed (name ∷ []) (within-self (name ∷ [])))).0 in
       let found = free-place pairs (each-fits pairs sound.order.places) name all new own (subst (λ ns. Within ns all) (sym pair-names) inside) few in
       let here = found-has (λ p. not (is_taken pairs p)) (λ p. p < cluster_limit) all_places found.0 (each-imp _ _ (λ p k. ltb-true p cluster_limit k) all_places (all-each (λ p. nat_lt p cluster_limit) all_places refl)) found.1 in
@@ -209,7 +209,7 @@ module _ (v : Holding) (x : SessionOf Extent) (id : ℕ) (sound : IsSound (at_pr
   own-place : (c : Cluster Extent) → cluster_at v.state.running name ≡ Some c → (P : Pair → Type 0) → AllByRecursion P pairs → P (name, (running_at state name).place)
   own-place c e P each =
       let own = found-has (λ (d : Cluster Extent). bytes_eq d.name name) (λ d. P (cluster_place d)) v.state.running c
-          (each-unmap P cluster_place v.state.running (each-first P (map cluster_place v.state.running) (map cluster_place x.saved ++ map change_place x.changes) each)) e in
+      (each-unmap P cluster_place v.state.running (each-first P (map cluster_place v.state.running) (map cluster_place x.saved ++ map change_place x.changes) each)) e in
       subst P (λ i. (name-eq c.name name own.0 i, (option_map_or (λ (d : Cluster Extent). d.content) (sym e i) (record { place = 0; side = 0; length = 0 })).place)) own.1
 
   pub later-fits : (a : Action) → suits a (has_cluster x.saved name) ≡ true → names_fit_places (later a) ≡ true

@@ -120,7 +120,7 @@ module _ (v : Holding) (x : SessionOf Extent) (id : ℕ) (sound : IsSound (at_pr
       let all = pairs v x id sound h in
       let each = each-fits all sound.order.places in
       let found = found-has (λ (d : Cluster Extent). bytes_eq d.name name) (λ d. FitsAll all (cluster_place d)) v.state.running c
-          (each-unmap (FitsAll all) cluster_place v.state.running (each-first (FitsAll all) (map cluster_place v.state.running) (map cluster_place x.saved ++ map change_place x.changes) each)) e in
+      (each-unmap (FitsAll all) cluster_place v.state.running (each-first (FitsAll all) (map cluster_place v.state.running) (map cluster_place x.saved ++ map change_place x.changes) each)) e in
       let named = name-eq c.name name found.0 in
       let rest = behind (λ (b : Pair). bytes_eq c.name b.0 ≡ (c.content.place == b.1)) (map cluster_place v.state.running) (map cluster_place x.saved ++ map change_place x.changes) found.1 in
       let ran = each-unmap (λ (b : Pair). bytes_eq c.name b.0 ≡ (c.content.place == b.1)) cluster_place v.state.running (each-first _ (map cluster_place v.state.running) (map cluster_place x.saved ++ map change_place x.changes) found.1) in

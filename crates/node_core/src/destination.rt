@@ -92,7 +92,9 @@ fn takes(session: &Session, place: u8) -> bool
 fn has_place(clusters: &[Cluster<Extent>], place: u8) -> bool
     ensures { result ≡ list_any (λ c. c.content.place == place) clusters.now }
 {
-    clusters.iter().any(|cluster| cluster.content.place == place)
+    clusters
+        .iter()
+        .any(|cluster| cluster.content.place == place)
 }
 
 // Whether a change is planned at the place.

@@ -69,7 +69,11 @@ pub(crate) fn cancel_refusal(found: Option<Found>) -> Option<Refusal>
 fn has_wrong_tag(session: &Option<Session>, client: ClientId, tag: u32) -> bool
     ensures { result ≡ has_wrong_tag session.now client tag }
 {
-    let is_wrong = if client.number() == 0 { tag == 0 } else { tag != 0 };
+    let is_wrong = if client.number() == 0 {
+        tag == 0
+    } else {
+        tag != 0
+    };
     match session {
         Some(session) => is_wrong || session.tag != tag,
         None => is_wrong,
@@ -127,7 +131,9 @@ pub(crate) fn part_refusal(
 fn is_changed(changes: &[Change<Extent>], name: ClusterName) -> bool
     ensures { result ≡ is_planned changes.now name }
 {
-    changes.iter().any(|change| change.part.manifest.name == name)
+    changes
+        .iter()
+        .any(|change| change.part.manifest.name == name)
 }
 
 /// Whether a cluster of the name is there.
@@ -162,7 +168,10 @@ fn is_old(running: &[Cluster<Extent>], manifest: &Manifest) -> bool
 }
 
 /// The cluster of a name.
-pub(crate) fn cluster_at(clusters: &[Cluster<Extent>], name: ClusterName) -> Option<&Cluster<Extent>>
+pub(crate) fn cluster_at(
+    clusters: &[Cluster<Extent>],
+    name: ClusterName,
+) -> Option<&Cluster<Extent>>
     ensures { option_map (λ c. c.now) result ≡ cluster_at clusters.now name }
 {
     clusters.iter().find(|cluster| cluster.name == name)

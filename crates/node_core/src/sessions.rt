@@ -177,7 +177,8 @@ impl<S: Staging> Held<S> {
     fn arrive(&mut self, goal: Goal) -> Reply
         ensures done { result ≡ Reply.Done }
         ensures arrived { self.new ≡ record self.old {
-            state = arrived (goal_of goal) self.old.state } }
+          state = arrived (goal_of goal) self.old.state;
+        } }
     {
         match goal {
             Goal::To(status) => self.status = status,

@@ -2,7 +2,6 @@ use Rattle.std.proofs.Common.{sym, ap, ◌∙◌, Some, arith}
 use Rattle.std.specs.Prelude.{option_map}
 use Rattle.node_core.specs.Core.{Holding}
 use Rattle.node_core.proofs.Lastly.{has-room, last-done, more-done, next-fits, not-lost, some-change}
-
 use Rattle.node_core.proofs.held.Held.process_unit.Goals as goal
 
 pub overflow_add-session : goal.overflow_add-session

@@ -38,5 +38,5 @@ pub returns-clause-ready : goal.returns-clause-ready
 returns-clause-ready g c =
     on-ok c.copy.result
     (λ put. (needs c.self.view_is c.requires.sound c.requires.status c.in-Some.next (subst (IsNextUnit c.args.self.now) c.in-Some.is c.in_ok-next.ensures)).ready (g.met.S.Staging.areas_fit c.self.inside.staging)
-        (some-left c.in-Some.next.len c.if-len-eq0.false) c.copy.new.self c.copy.ensures.state c.copy.ensures.prepared c.copy.ensures.left put)
+    (some-left c.in-Some.next.len c.if-len-eq0.false) c.copy.new.self c.copy.ensures.state c.copy.ensures.prepared c.copy.ensures.left put)
     c.copy.ensures.put
