@@ -108,7 +108,8 @@ fn a_package_is_packed_inspected_and_transferred(rt: HostRuntime) -> Result<(), 
     let (status, written) = outcome(alloc, "inspect", package.as_slice(), &[], &[])?;
     assert_eq!(rt; status, ExitStatus::Successful);
     assert!(rt; written.as_slice() == b"package core 1.0.0 install payload 3\n".as_slice());
-    let (status, written) = outcome(alloc, "inspect", &package.as_slice()[..150], &[], &[])?;
+    let cut = bytes_of_hex(alloc, &PACKAGE[..300])?.unwrap_or(Vec::new(alloc));
+    let (status, written) = outcome(alloc, "inspect", cut.as_slice(), &[], &[])?;
     assert_eq!(rt; status, ExitStatus::InputRefused);
     assert!(rt; written.as_slice() == b"refused PackageInconsistent 147\n".as_slice());
     let script = transfer(alloc, PACKAGE)?;
