@@ -28,7 +28,8 @@ impl Model for Campaign {
 
     ghost view = { λ a. record { fold = a.fold; ready = is_some a.next } };
 
-    ghost invariant = { λ a. IfSome a.next (λ v. (v.items ≡ a.fold.earlier) × (vec_len v < vec_capacity v)) };
+    ghost invariant = { λ a. IfSome a.next
+        (λ v. (v.items ≡ a.fold.earlier) × (vec_len v < vec_capacity v)) };
 }
 
 impl Campaign {
@@ -80,7 +81,8 @@ impl Campaign {
         ensures err { OnErr result (self.new ≡ self.old) }
 
         // Each refusal has its cause.
-        ensures none { IsErrOf result CampaignRefusal.NoCampaign ↔ FindsNone self.old.fold event.now }
+        ensures none { IsErrOf result CampaignRefusal.NoCampaign
+            ↔ FindsNone self.old.fold event.now }
     {
         if let Some(refusal) = self.fold.refusal(event) {
             return Err(refusal);

@@ -55,7 +55,8 @@ pub fn prepare<D: Disk>(
 // The bytes of the body, up to the journal's first byte.
 fn body_of(alloc: Global, generation: u64, state: &[u8]) -> Result<Vec<u8>, StoreFault>
     requires { length state.now ≤ 131072 }
-    ensures body { IfOk result (λ body. body.items ≡ padded (record { generation = generation; state = state.now })) }
+    ensures body { IfOk result (λ body. body.items
+        ≡ padded (record { generation = generation; state = state.now })) }
     ensures err { IsErrOf result StoreFault.Failed → ⊥ }
 {
     let mut body = Vec::new(alloc);
@@ -74,7 +75,8 @@ fn rewrite<D: Disk>(disk: &mut D, area: Area, body: &[u8]) -> Result<(), StoreFa
     requires room { HasRoom 2 (length body.now + 1) (D.room disk.old) }
     ensures any_moment { LeavesOnly D.moment D.left_since disk.old disk.new
         (InArea area Quiet (D.seen disk.old)) }
-    ensures written { OnOk result (InArea area (Rewritten body.now) (D.seen disk.old) (D.seen disk.new)) }
+    ensures written { OnOk result
+        (InArea area (Rewritten body.now) (D.seen disk.old) (D.seen disk.new)) }
     ensures durable { OnOk result (Only (D.seen disk.new) (D.images disk.new)) }
     ensures memory { IsErrOf result StoreFault.OutOfMemory
         → (D.seen disk.new ≡ D.seen disk.old) × SameImages (D.images disk.old) (D.images disk.new) }

@@ -49,7 +49,8 @@ impl Area {
         requires room { HasRoom 1 (length bytes.now) (D.room disk.old) }
         ensures written { OnOk result
             (InArea self.now (Puts at bytes.now) (D.seen disk.old) (D.seen disk.new)) }
-        ensures reads { InArea self.now (Torn at (length bytes.now)) (D.seen disk.old) (D.seen disk.new) }
+        ensures reads { InArea self.now (Torn at (length bytes.now))
+            (D.seen disk.old) (D.seen disk.new) }
         ensures images { Follows (InArea self.now (Torn at (length bytes.now)))
             (D.images disk.old) (D.images disk.new) }
         ensures time { Elapses (D.moment disk.old) (D.moment disk.new)

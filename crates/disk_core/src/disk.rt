@@ -82,7 +82,8 @@ pub trait Disk {
 
         // A crash may leave any bytes in the range, and no others elsewhere.
         ensures images { Follows (Torn at (length bytes.now)) (images self.old) (images self.new) }
-        ensures any_bytes { Allows (Torn at (length bytes.now)) (images self.old) (images self.new) }
+        ensures any_bytes { Allows (Torn at (length bytes.now))
+            (images self.old) (images self.new) }
         ensures time { Elapses (moment self.old) (moment self.new)
             (left_since self.old) (left_since self.new) (images self.new) }
         ensures faults { fault_count self.old ≤ fault_count self.new }
@@ -141,7 +142,8 @@ pub trait Disk {
     ghost size_fits: { (d : Self) → length (seen d) < 2 ^ 64 };
 
     /// Now is one of the moments since an earlier one.
-    ghost counts_now: { (d : Self) (t : ℕ) (c : List ℕ) → t ≤ moment d → images d c → left_since d t c };
+    ghost counts_now: { (d : Self) (t : ℕ) (c : List ℕ) → t ≤ moment d → images d c
+        → left_since d t c };
 
     /// Since now there is no other moment.
     ghost only_now: { (d : Self) (c : List ℕ) → left_since d (moment d) c → images d c };

@@ -59,10 +59,12 @@ impl Medium {
         requires range { at + length bytes.now ≤ length self.old.pages.bytes }
         requires room { HasRoom 1 (length bytes.now) (room_of self.old) }
         requires kept { kept ≤ length bytes.now }
-        ensures content { self.new.pages.bytes ≡ put_at self.old.pages.bytes at (take kept bytes.now) }
+        ensures content { self.new.pages.bytes
+            ≡ put_at self.old.pages.bytes at (take kept bytes.now) }
         ensures reads { Torn at (length bytes.now) self.old.pages.bytes self.new.pages.bytes }
         ensures images { Follows (Torn at (length bytes.now)) (images self.old) (images self.new) }
-        ensures any_bytes { Allows (Torn at (length bytes.now)) (images self.old) (images self.new) }
+        ensures any_bytes { Allows (Torn at (length bytes.now))
+            (images self.old) (images self.new) }
         ensures time { Elapses (length self.old.events.items) (length self.new.events.items)
             (left self.old) (left self.new) (images self.new) }
         ensures room { UsesUp (length bytes.now) (room_of self.old) (room_of self.new) }

@@ -151,7 +151,8 @@ impl Disk for MemDisk {
         Ok(())
     }
 
-    ghost reads_as_image = { λ d. reads_as_image (ranges_from [] d.medium.events.items) d.medium.pages.bytes };
+    ghost reads_as_image = { λ d.
+        reads_as_image (ranges_from [] d.medium.events.items) d.medium.pages.bytes };
 
     ghost image_size = { λ d c here. here.size };
 
@@ -159,5 +160,6 @@ impl Disk for MemDisk {
 
     ghost counts_now = { λ d t c le here. inl here };
 
-    ghost only_now = { λ d c left. only_now (length d.medium.pages.bytes) d.medium.events.items d.medium.pages.bytes d.medium.pieces.items c left };
+    ghost only_now = { λ d c left. only_now (length d.medium.pages.bytes) d.medium.events.items
+        d.medium.pages.bytes d.medium.pieces.items c left };
 }

@@ -63,8 +63,10 @@ impl Pages {
     fn page(&self, index: usize) -> &[u8]
         requires { 4096 * index < length self.now.bytes }
         ensures len { length result.now ≡ 4096 }
-        ensures bytes { (from to : ℕ) → from ≤ to → to ≤ 4096 → 4096 * index + to ≤ length self.now.bytes
-            → slice_range result.now from to ≡ slice_range self.now.bytes (4096 * index + from) (4096 * index + to) }
+        ensures bytes { (from to : ℕ) → from ≤ to → to ≤ 4096
+            → 4096 * index + to ≤ length self.now.bytes
+            → slice_range result.now from to
+            ≡ slice_range self.now.bytes (4096 * index + from) (4096 * index + to) }
     {
         let page = &self.table[index];
         match page {

@@ -67,13 +67,15 @@ fn switch(
     disk: &mut MemDisk,
     state: &[u8],
 ) -> (Result<(), StoreFault>, Option<Result<(), StoreFault>>)
-    requires nothing_pending { Only (⟦<MemDisk as Disk>⟧.seen disk.old) (⟦<MemDisk as Disk>⟧.images disk.old) }
+    requires nothing_pending { Only (⟦<MemDisk as Disk>⟧.seen disk.old)
+        (⟦<MemDisk as Disk>⟧.images disk.old) }
     requires inside { HasHalf 0 (⟦<MemDisk as Disk>⟧.seen disk.old) }
     requires spare { IsSpare 0 (⟦<MemDisk as Disk>⟧.seen disk.old) }
     requires newer_0 { IsNewer 1 (half_of 0 (⟦<MemDisk as Disk>⟧.seen disk.old)) }
     requires newer_1 { IsNewer 1 (half_of 1 (⟦<MemDisk as Disk>⟧.seen disk.old)) }
     requires short { length state.now ≤ 131072 }
-    ensures { length (⟦<MemDisk as Disk>⟧.seen disk.new) ≡ length (⟦<MemDisk as Disk>⟧.seen disk.old) }
+    ensures { length (⟦<MemDisk as Disk>⟧.seen disk.new)
+        ≡ length (⟦<MemDisk as Disk>⟧.seen disk.old) }
 {
     if let Err(fault) = prepare(alloc, disk, 0, 1, state) {
         return (Err(fault), None);

@@ -85,12 +85,15 @@ fn two_halves(alloc: Global, size: u64) -> Result<MemDisk, OutOfMemory>
 
 // Switches to the half that doesn't count.
 fn turn(alloc: Global, disk: &mut MemDisk, state: &[u8]) -> Result<(), TurnFault>
-    requires nothing_pending { Only (⟦<MemDisk as Disk>⟧.seen disk.old) (⟦<MemDisk as Disk>⟧.images disk.old) }
+    requires nothing_pending { Only (⟦<MemDisk as Disk>⟧.seen disk.old)
+        (⟦<MemDisk as Disk>⟧.images disk.old) }
     requires inside { HasHalf 1 (⟦<MemDisk as Disk>⟧.seen disk.old) }
     requires short { length state.now ≤ 131072 }
-    ensures durable { OnOk result (Only (⟦<MemDisk as Disk>⟧.seen disk.new) (⟦<MemDisk as Disk>⟧.images disk.new)) }
+    ensures durable { OnOk result (Only (⟦<MemDisk as Disk>⟧.seen disk.new)
+        (⟦<MemDisk as Disk>⟧.images disk.new)) }
     ensures plan { ⟦<MemDisk as Disk>⟧.armed disk.new ≡ ⟦<MemDisk as Disk>⟧.armed disk.old }
-    ensures size { length (⟦<MemDisk as Disk>⟧.seen disk.new) ≡ length (⟦<MemDisk as Disk>⟧.seen disk.old) }
+    ensures size { length (⟦<MemDisk as Disk>⟧.seen disk.new)
+        ≡ length (⟦<MemDisk as Disk>⟧.seen disk.old) }
 {
     let half_0 = read_half(disk, 0)?;
     let half_1 = read_half(disk, 1)?;
@@ -105,7 +108,8 @@ fn turn(alloc: Global, disk: &mut MemDisk, state: &[u8]) -> Result<(), TurnFault
 // The half that doesn't count, and a generation above both.
 fn next(half_0: &Option<HalfBytes>, half_1: &Option<HalfBytes>) -> Option<(u8, u64)>
     ensures half { IfSome result (λ n. n.0 ≤ 1) }
-    ensures spare { IfSome result (λ n. IfSome (newest half_0.now half_1.now) (λ counting. counting.0 ≢ n.0)) }
+    ensures spare { IfSome result (λ n.
+        IfSome (newest half_0.now half_1.now) (λ counting. counting.0 ≢ n.0)) }
     ensures newer_0 { IfSome result (λ n. IsNewer n.1 half_0.now) }
     ensures newer_1 { IfSome result (λ n. IsNewer n.1 half_1.now) }
 {

@@ -29,7 +29,8 @@ impl<D: Disk> EventLog<D> {
         ensures any_moment { LeavesOnly D.moment D.left_since self.old.disk self.new.disk
             (BeforeOrWith self.old.journal.area self.old.journal.used before event.now) }
         ensures unchanged { (IsErrOf result JournalFault.Full ⊎ IsErrOf result JournalFault.OutOfMemory)
-            → EachImage (D.images self.new.disk) (Holds self.old.journal.area self.old.journal.used before) }
+            → EachImage (D.images self.new.disk)
+            (Holds self.old.journal.area self.old.journal.used before) }
         ensures journal { OnErr result (self.new.journal ≡ self.old.journal) }
         ensures area { self.new.journal.area ≡ self.old.journal.area }
         ensures full { IsErrOf result JournalFault.Full
@@ -91,7 +92,8 @@ impl<D: Disk> EventLog<D> {
 
         // and none of them that was acknowledged by then is missing.
         ensures acknowledged { (k : ℕ) → k ≤ result.0
-            → Acknowledges D.moment D.left_since self.old.journal.area before events.now (result.0 + 1)
+            → Acknowledges D.moment D.left_since self.old.journal.area before events.now
+            (result.0 + 1)
             self.old.disk self.new.disk k }
         ensures cause { IsErrOf result.1 JournalFault.Failed
             → HasRisen (D.fault_count self.old.disk) (D.fault_count self.new.disk) }

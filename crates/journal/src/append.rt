@@ -51,7 +51,8 @@ impl Journal {
         ensures acknowledged { OnOk result (EachImage (D.images disk.new)
             (InArea self.old.area (Grows self.old.used payload.now) (D.seen disk.old))) }
         ensures used { OnOk result (self.new.used ≡ self.old.used + (5 + length payload.now)) }
-        ensures ready { OnOk result (EachImage (D.images disk.new) (IsReady self.new.area self.new.used)) }
+        ensures ready { OnOk result
+            (EachImage (D.images disk.new) (IsReady self.new.area self.new.used)) }
 
         // A crash at any moment of the call leaves the list before it, or with the payload.
         ensures any_moment { LeavesOnly D.moment D.left_since disk.old disk.new
@@ -60,10 +61,12 @@ impl Journal {
         ensures full { IsErrOf result JournalFault.Full
             ↔ (self.old.area.len < self.old.used + 6 + length payload.now) }
         ensures full_disk { IsErrOf result JournalFault.Full
-            → (D.seen disk.new ≡ D.seen disk.old) × SameImages (D.images disk.old) (D.images disk.new) }
+            → (D.seen disk.new ≡ D.seen disk.old)
+            × SameImages (D.images disk.old) (D.images disk.new) }
         ensures full_journal { IsErrOf result JournalFault.Full → self.new ≡ self.old }
         ensures memory_disk { IsErrOf result JournalFault.OutOfMemory
-            → (D.seen disk.new ≡ D.seen disk.old) × SameImages (D.images disk.old) (D.images disk.new) }
+            → (D.seen disk.new ≡ D.seen disk.old)
+            × SameImages (D.images disk.old) (D.images disk.new) }
         ensures memory_journal { IsErrOf result JournalFault.OutOfMemory → self.new ≡ self.old }
         ensures failed_journal { IsErrOf result JournalFault.Failed → self.new ≡ self.old }
         ensures cause { IsErrOf result JournalFault.Failed

@@ -113,7 +113,8 @@ impl NewestLines {
 
     /// Adds a line, in place of the oldest where there are 256. It takes no memory.
     pub fn push(&mut self, place: u64, happened: Happened)
-        ensures { self.new ≡ newest (self.old ++ record { place = place; happened = happened } ∷ []) }
+        ensures { self.new
+            ≡ newest (self.old ++ record { place = place; happened = happened } ∷ []) }
     {
         self.ring.push_back(Line { place, happened });
     }

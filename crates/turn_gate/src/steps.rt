@@ -61,7 +61,8 @@ pub(crate) struct Publish<J> {
 }
 
 impl<M: Machine, J: Told<M>> Play<Option<M>, View<M::Entry, M::Opening>> for Publish<J> {
-    ghost then = { λ _. publishes (meaning M.account M.fixed M.tells M.stands M.code_after) J.told J.rise };
+    ghost then = { λ _.
+        publishes (meaning M.account M.fixed M.tells M.stands M.code_after) J.told J.rise };
 }
 
 // 4: a store to the turn word, the machine at home.
@@ -116,5 +117,6 @@ pub(crate) struct Make<J> {
 }
 
 impl<M: Machine, J: Numbers> Play<Option<M>, View<M::Entry, M::Opening>> for Make<J> {
-    ghost then = { λ _. makes (meaning M.account M.fixed M.tells M.stands M.code_after) M.opening J.all };
+    ghost then = { λ _.
+        makes (meaning M.account M.fixed M.tells M.stands M.code_after) M.opening J.all };
 }

@@ -80,7 +80,8 @@ impl Model for NodeId {
 impl NodeId {
     /// The node of this number, if there is one.
     pub fn of(number: u64) -> Option<NodeId>
-        ensures { result ≡ (if nat_le 1 number && nat_le number node_limit then Some number else None) }
+        ensures { result
+            ≡ (if nat_le 1 number && nat_le number node_limit then Some number else None) }
     {
         if number >= 1 && number <= NODE_LIMIT {
             Some(NodeId {
@@ -116,7 +117,8 @@ pub struct CallNo {
 impl CallNo {
     /// The number of these parts, if both are at least 1.
     pub fn of(epoch: u32, number: u32) -> Option<CallNo>
-        ensures { result ≡ (if nat_le 1 epoch && nat_le 1 number then Some (record { epoch = epoch; number = number }) else None) }
+        ensures { result ≡ (if nat_le 1 epoch && nat_le 1 number
+            then Some (record { epoch = epoch; number = number }) else None) }
     {
         if epoch >= 1 && number >= 1 {
             Some(CallNo { epoch, number })

@@ -30,7 +30,8 @@ impl Model for ClusterName {
 
     ghost view = { λ s. take s.len s.bytes };
 
-    ghost invariant = { λ s. IsPadded 32 s.bytes s.len × (is_cluster_name (take s.len s.bytes) ≡ true) };
+    ghost invariant = { λ s. IsPadded 32 s.bytes s.len
+        × (is_cluster_name (take s.len s.bytes) ≡ true) };
 
     ghost inverse = { λ xs. record { bytes = padded 32 xs; len = length xs } };
 

@@ -69,7 +69,8 @@ fn fault_of(e: Error) -> TextFault
 
 fn version_in(alloc: Global, text: &str) -> Result<Version, TextFault>
     ensures ok { IfOk result (λ v. version_parts text.now ≡ Ok (parts_of v)) }
-    ensures bad { IfErr result (λ e. e ≡ TextFault.BadText → is_ok (version_parts text.now) ≡ false) }
+    ensures bad { IfErr result (λ e. e ≡ TextFault.BadText
+        → is_ok (version_parts text.now) ≡ false) }
     ensures refused { is_ok (version_parts text.now) ≡ false → result ≡ Err TextFault.BadText }
 {
     match Version::parse(alloc, text) {
@@ -93,7 +94,8 @@ impl VersionText {
     /// The version of these bytes, if they are one.
     pub fn of(alloc: Global, bytes: &[u8]) -> Result<VersionText, TextFault>
         ensures ok { IfOk result (λ v. (v ≡ bytes.now) × (is_version_text bytes.now ≡ true)) }
-        ensures bad { IfErr result (λ e. e ≡ TextFault.BadText → is_version_text bytes.now ≡ false) }
+        ensures bad { IfErr result (λ e. e ≡ TextFault.BadText
+            → is_version_text bytes.now ≡ false) }
         ensures refused { is_version_text bytes.now ≡ false → result ≡ Err TextFault.BadText }
     {
         let Some(text) = ShortText::of(bytes) else {

@@ -16,7 +16,8 @@ pub trait Sink {
     fn put(&mut self, bytes: &[u8]) -> Result<usize, Failed>
         ensures within { IfOk result (λ n. n ≤ length bytes.now) }
         ensures some { IfOk result (λ n. 0 < length bytes.now → 0 < n) }
-        ensures put { IfOk result (λ n. written self.new ≡ option_map (λ w. w ++ take n bytes.now) (written self.old)) }
+        ensures put { IfOk result (λ n. written self.new
+            ≡ option_map (λ w. w ++ take n bytes.now) (written self.old)) }
         ensures failed { OnErr result (written self.new ≡ written self.old) }
         ensures cause { OnErr result (HasRisen (fault_count self.old) (fault_count self.new)) }
         ensures count { fault_count self.old ≤ fault_count self.new };
@@ -28,7 +29,8 @@ pub trait Sink {
 
 /// Puts all the bytes. It takes no memory.
 pub fn put_all<K: Sink>(sink: &mut K, bytes: &[u8]) -> Result<(), Failed>
-    ensures all { OnOk result (K.written sink.new ≡ option_map (λ w. w ++ bytes.now) (K.written sink.old)) }
+    ensures all { OnOk result (K.written sink.new
+        ≡ option_map (λ w. w ++ bytes.now) (K.written sink.old)) }
     ensures prefix { OnErr result ((n : ℕ) × (n ≤ length bytes.now)
         × (K.written sink.new ≡ option_map (λ w. w ++ take n bytes.now) (K.written sink.old))) }
     ensures cause { OnErr result (HasRisen (K.fault_count sink.old) (K.fault_count sink.new)) }

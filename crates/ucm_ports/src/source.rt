@@ -19,8 +19,10 @@ pub trait Source {
     /// Takes bytes from the front of what is left, and answers how many: 0 only at the end, or into an empty buffer.
     fn take(&mut self, into: &mut [u8]) -> Result<usize, Failed>
         ensures within { IfOk result (λ n. n ≤ length into.new) }
-        ensures taken { IfOk result (λ n. left self.old ≡ option_map (λ rest. take n into.new ++ rest) (left self.new)) }
-        ensures end { IfOk result (λ n. n ≡ 0 → 0 < length into.new → IfSome (left self.old) (λ rest. rest ≡ [])) }
+        ensures taken { IfOk result (λ n. left self.old
+            ≡ option_map (λ rest. take n into.new ++ rest) (left self.new)) }
+        ensures end { IfOk result (λ n. n ≡ 0 → 0 < length into.new
+            → IfSome (left self.old) (λ rest. rest ≡ [])) }
         ensures failed { OnErr result (left self.new ≡ left self.old) }
         ensures cause { OnErr result (HasRisen (fault_count self.old) (fault_count self.new)) }
         ensures count { fault_count self.old ≤ fault_count self.new };
@@ -71,8 +73,10 @@ pub fn read_all<S: Source>(
     ensures all { IfOk result (λ bytes. IfSome (S.left source.old) (λ left. bytes.items ≡ left)) }
     ensures end { OnOk result (IfSome (S.left source.new) (λ left. left ≡ [])) }
     ensures within { IfOk result (λ bytes. vec_len bytes ≤ limit) }
-    ensures too_long { IfErr result (λ e. e ≡ ReadFault.TooLong → IfSome (S.left source.old) (λ left. limit < length left)) }
-    ensures cause { IfErr result (λ e. e ≡ ReadFault.Failed → HasRisen (S.fault_count source.old) (S.fault_count source.new)) }
+    ensures too_long { IfErr result (λ e. e ≡ ReadFault.TooLong
+        → IfSome (S.left source.old) (λ left. limit < length left)) }
+    ensures cause { IfErr result (λ e. e ≡ ReadFault.Failed
+        → HasRisen (S.fault_count source.old) (S.fault_count source.new)) }
     ensures count { S.fault_count source.old ≤ S.fault_count source.new }
 {
     let mut bytes = Vec::new(alloc);

@@ -37,7 +37,8 @@ pub fn ucm_plain<S: Source, K: Sink, D: Disk>(
         → IsWritten (K.written sink.old) (K.written sink.new) usage_line
         (K.fault_count sink.old) (K.fault_count sink.new) }
     ensures output { IsEnded result.0
-        → IsOutputOf (command_of (map string_bytes words.now)) (S.left source.old) result.0 (K.written sink.old) (K.written sink.new) }
+        → IsOutputOf (command_of (map string_bytes words.now)) (S.left source.old) result.0
+        (K.written sink.old) (K.written sink.new) }
     ensures read_fault { result.0 ≡ ExitStatus.ReadFault
         → HasRisen (S.fault_count source.old) (S.fault_count source.new) }
     ensures read_fault_writes_nothing { result.0 ≡ ExitStatus.ReadFault
@@ -45,7 +46,8 @@ pub fn ucm_plain<S: Source, K: Sink, D: Disk>(
     ensures write_fault { result.0 ≡ ExitStatus.WriteFault
         → HasRisen (K.fault_count sink.old) (K.fault_count sink.new) }
     ensures write_fault_leaves_a_prefix { result.0 ≡ ExitStatus.WriteFault
-        → LeavesPrefixOf (command_of (map string_bytes words.now)) (S.left source.old) (K.written sink.old) (K.written sink.new) }
+        → LeavesPrefixOf (command_of (map string_bytes words.now)) (S.left source.old)
+        (K.written sink.old) (K.written sink.new) }
     ensures out_of_memory_writes_nothing { result.0 ≡ ExitStatus.OutOfMemory
         → sink.new ≡ sink.old }
     ensures served { IsPlain result.0 }

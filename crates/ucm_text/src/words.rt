@@ -29,7 +29,8 @@ impl<'a> Words<'a> {
 }
 
 fn pieces_of<'a>(alloc: Global, text: &'a [u8], at: u8) -> Result<Vec<&'a [u8]>, AllocError>
-    ensures { IfOk result (λ v. map (λ piece. piece.now) v.items ≡ slice_split (λ b. b == at) text.now) }
+    ensures { IfOk result (λ v. map (λ piece. piece.now) v.items
+        ≡ slice_split (λ b. b == at) text.now) }
 {
     text.split(|b| *b == at).collect(alloc)
 }

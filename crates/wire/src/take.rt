@@ -36,7 +36,8 @@ pub fn take_u64(bytes: &[u8]) -> Option<(u64, &[u8])>
 
 pub fn take_bytes(bytes: &[u8]) -> Option<(&[u8], &[u8])>
     ensures { MatchOption result (HasNoBytesField bytes.now)
-        (λ taken. (bytes.now ≡ bytes_field taken.0.now ++ taken.1.now) × (length taken.0.now < 2 ^ 32)) }
+        (λ taken. (bytes.now ≡ bytes_field taken.0.now ++ taken.1.now)
+        × (length taken.0.now < 2 ^ 32)) }
 {
     let (len, rest) = take_u32(bytes)?;
     rest.split_at_checked(len as usize)
