@@ -35,6 +35,10 @@ module _ (p : Package) (text : List ℕ) (is : text ≡ manifest_text p.manifest
       let here : passes text p.payload ≡ nat_lt package_limit (44 + length text + length p.payload) = (λ i. le-ltb manifest_limit (length text) short i || nat_lt package_limit (whole_len text p.payload i)) in
       ap (λ (t : List ℕ). passes t p.payload) (sym is) ∙ here
 
+  -- where the text is within its limit, the size of the whole decides
+  pub size_decides : (bytes : List ℕ) → bytes ≡ sealed (unsealed text p.payload) → is_too_large p ≡ nat_lt package_limit (length bytes)
+  size_decides bytes e = large ∙ ap (nat_lt package_limit) (sym (ap length e ∙ whole_len text p.payload))
+
   printing_is : (large_is belongs : Bool) → is_too_large p ≡ large_is → is_payload_of p.manifest p.payload ≡ belongs → printing p ≡ chosen large_is belongs (sealed (unsealed text p.payload))
   unfolding package_text printing chosen
   printing_is large_is belongs a b = λ i. chosen (a i) (b i) (sealed (unsealed (sym is i) p.payload))

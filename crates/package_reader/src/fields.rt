@@ -18,6 +18,7 @@ pub(crate) struct Fields<'a> {
     pub payload: &'a [u8],
 }
 
+/// Bytes that don't fit from a place on.
 fn inconsistent(place: usize) -> PackageFault
     ensures { result ≡ PackageFault.PackageInconsistent place }
 {

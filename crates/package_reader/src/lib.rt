@@ -15,7 +15,7 @@ mod unique;
 
 pub use fault::PackageFault;
 pub use package::{Contents, Package};
-pub use print::{PrintFault, print_package};
+pub use print::{PrintFault, print_package, seal_package};
 pub use read::{read_contents, read_package};
 pub use unique::a_package_is_one;
 

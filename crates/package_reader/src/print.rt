@@ -1,6 +1,7 @@
 //! Printing packages.
-ghost use Rattle.std.specs.Prelude.{◌≡◌, ◌⊎◌, ◌<◌, ◌≤◌, ◌^◌, length, Ok, Err, IfOk, IfErr};
-ghost use Rattle.package_reader.specs.Printing.{package_text, printing};
+ghost use Rattle.std.specs.Prelude.{◌≡◌, ◌⊎◌, ◌<◌, ◌^◌, length, nat_lt, Ok, Err, IfOk, IfErr};
+ghost use Rattle.ucm_base.specs.Limits.{package_limit};
+ghost use Rattle.package_reader.specs.Printing.{is_too_large, package_text, printing};
 ghost use Rattle.package_reader.specs.Reading.{reading};
 ghost use Rattle.package_reader.specs.Spelling.{IsPackage, sealed, unsealed};
 
@@ -34,35 +35,35 @@ impl From<AllocError> for PrintFault {
     }
 }
 
-impl From<wire::OutOfMemory> for PrintFault {
-    ghost use Rattle.std.specs.Prelude.{◌≡◌};
-    ghost use Rattle.package_reader.specs.declared.print.PrintFault.TheVariants.{OutOfMemory};
-
-    ghost from_gives = { λ _ e. e ≡ OutOfMemory };
-
-    fn from(_refused: wire::OutOfMemory) -> PrintFault {
-        PrintFault::OutOfMemory
-    }
-}
-
 /// The mark, the text and the payload behind their lengths, and the digest of all this.
 pub(crate) fn sealed_bytes(
     alloc: Global,
     text: &[u8],
     payload: &[u8],
-) -> Result<Vec<u8>, PrintFault>
+) -> Result<Vec<u8>, AllocError>
     requires text { length text.now < 2 ^ 32 }
     requires payload { length payload.now < 2 ^ 32 }
-    ensures ok { IfOk result (λ b. b.items ≡ sealed (unsealed text.now payload.now)) }
-    ensures err { IfErr result (λ e. e ≡ PrintFault.OutOfMemory) }
+    ensures { IfOk result (λ b. b.items ≡ sealed (unsealed text.now payload.now)) }
 {
     let mut bytes = Vec::with_capacity(alloc, 44 + text.len() + payload.len())?;
     bytes.extend_from_slice(MARK)?;
-    put_bytes(&mut bytes, text)?;
-    put_bytes(&mut bytes, payload)?;
+    put_bytes(&mut bytes, text).map_err(|_| AllocError)?;
+    put_bytes(&mut bytes, payload).map_err(|_| AllocError)?;
     let digest: [u8; 32] = Sha256::digest(bytes.as_slice());
     bytes.extend_from_slice(&digest)?;
     Ok(bytes)
+}
+
+/// The bytes of a package whose manifest was just made of its payload: the payload isn't hashed, and all bytes before
+/// the digest once. Nothing is refused; how many bytes there are says whether the package is too large.
+#[tactic(auto, unfolding(crate::specs::Printing::package_text))]
+pub fn seal_package(alloc: Global, package: &Package) -> Result<Vec<u8>, AllocError>
+    ensures bytes { IfOk result (λ b. b.items ≡ package_text «package».now) }
+    ensures size { IfOk result
+        (λ b. is_too_large «package».now ≡ nat_lt package_limit (length b.items)) }
+{
+    let text = print_manifest(alloc, &package.manifest)?;
+    sealed_bytes(alloc, text.as_slice(), package.payload.as_slice())
 }
 
 /// The bytes of a package, which are read as it: at most 1,048,576, with a manifest's text of at most 16,384. The
@@ -84,5 +85,6 @@ pub fn print_package(alloc: Global, package: &Package) -> Result<Vec<u8>, PrintF
     if !is_payload_of(&package.manifest, payload) {
         return Err(PrintFault::WrongDigest);
     }
-    sealed_bytes(alloc, text.as_slice(), payload)
+    let bytes = sealed_bytes(alloc, text.as_slice(), payload)?;
+    Ok(bytes)
 }

@@ -13,6 +13,7 @@ use manifest::{ManifestFault, read_manifest};
 use std::alloc::Global;
 use ucm_base::{Block, Manifest};
 
+/// The manifest that a text is.
 fn manifest_in(alloc: Global, text: &[u8]) -> Result<Manifest, PackageFault>
     ensures ok { IfOk result (λ m. manifest_of text.now ≡ Some m) }
     ensures err { IfErr result (λ e. (e ≡ PackageFault.OutOfMemory)
@@ -25,6 +26,7 @@ fn manifest_in(alloc: Global, text: &[u8]) -> Result<Manifest, PackageFault>
     }
 }
 
+/// What bytes are a package of, by the table of faults.
 #[tactic(auto, unfolding(crate::specs::Reading::fault, crate::specs::Reading::field_fault, crate::specs::Reading::reading))]
 fn contents_of(alloc: Global, bytes: &[u8]) -> Result<Contents<'_>, PackageFault>
     ensures len { IfOk result (λ c. length c.payload.now < 2 ^ 32) }

@@ -1,6 +1,8 @@
 //! Packages made by hand: what they are read as, and where they are refused.
 use crate::print::sealed_bytes;
-use crate::{Package, PackageFault, PrintFault, print_package, read_contents, read_package};
+use crate::{
+    Package, PackageFault, PrintFault, print_package, read_contents, read_package, seal_package,
+};
 use sha2::{Digest, Sha256};
 use std::alloc::Global;
 use std::test::Fail;
@@ -192,7 +194,9 @@ fn each_prefix_is_refused(rt: HostRuntime) -> Result<(), Fail> {
 #[test]
 fn what_is_printed_is_read(rt: HostRuntime) -> Result<(), Fail> {
     let alloc = rt.alloc();
-    let Ok(bytes) = print_package(alloc, &core(alloc, Action::Install, b"abc", b"abc")?) else {
+    let install = core(alloc, Action::Install, b"abc", b"abc")?;
+    assert!(rt; seal_package(alloc, &install)?.as_slice() == INSTALL.as_slice());
+    let Ok(bytes) = print_package(alloc, &install) else {
         return Err(Fail::from("not printed"));
     };
     assert!(rt; bytes.as_slice() == INSTALL.as_slice());

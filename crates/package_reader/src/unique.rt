@@ -12,7 +12,8 @@ pub fn a_package_is_one()
         → p ≡ q }
     ensures read { (bytes : List ℕ) (p : AnyPackage) → AreBytes bytes
         → ((reading bytes ≡ Ok p) ↔ IsPackage bytes p) }
-    ensures refused { (bytes : List ℕ) (f : AnyFault) → (reading bytes ≡ Err f) ↔ (fault bytes ≡ Some f) }
+    ensures refused { (bytes : List ℕ) (f : AnyFault)
+        → (reading bytes ≡ Err f) ↔ (fault bytes ≡ Some f) }
     ensures faultless { (bytes : List ℕ) → AreBytes bytes
         → ((fault bytes ≡ None) ↔ ((p : AnyPackage) × IsPackage bytes p)) }
 {}

@@ -1,6 +1,5 @@
 use Rattle.std.proofs.Common.{◌≡◌, ℕ, ◌<◌, ◌^◌, true, false, List, Ok, sym, ◌∙◌, ap, inr, length, arith}
-use Rattle.std.proofs.lemmas.Result.{IfOk-weaker}
-use Rattle.package_reader.specs.Spelling.{sealed, unsealed, IsPackage}
+use Rattle.package_reader.specs.Spelling.{sealed, unsealed}
 use Rattle.package_reader.specs.Reading.{is_payload_of}
 use Rattle.package_reader.proofs.Laws.{package_is_read}
 use Rattle.package_reader.proofs.Printed.{too_large, wrong_digest, printed, is_package}
@@ -20,23 +19,19 @@ returns-then-not-is_payload_of-clause-err c =
 belongs : (c : goal.After-drop-text-2) → is_payload_of c.args.package.now.manifest c.args.package.now.payload ≡ true
 belongs c = ap (is_payload_of c.args.package.now.manifest) (sym c.as_slice-payload.ensures.bytes) ∙ sym c.is_payload_of.ensures ∙ c.if-not-is_payload_of.false
 
-same : (c : goal.After-drop-text-2) → sealed (unsealed c.as_slice.result.now c.as_slice-payload.result.now) ≡ sealed (unsealed c.in_ok-text.text.items c.args.package.now.payload)
-same c i = sealed (unsealed (c.as_slice.ensures.value i) (c.as_slice-payload.ensures.bytes i))
+whole : (c : goal.After-drop-text-2) → c.in_ok-bytes.bytes.items ≡ sealed (unsealed c.in_ok-text.text.items c.args.package.now.payload)
+whole c = c.in_ok-bytes.ensures ∙ (λ i. sealed (unsealed (c.as_slice.ensures.value i) (c.as_slice-payload.ensures.bytes i)))
 
 pub returns-clause-ok : goal.returns-clause-ok
 returns-clause-ok c =
-    let bytes = printed c.args.package.now c.in_ok-text.text.items c.in_ok-text.ensures.text (omega (arith, c.in_ok-text.ensures.short)) (omega (arith, ap length c.as_slice-payload.ensures.bytes)) (belongs c) in
-    IfOk-weaker c.sealed_bytes.result _ _ (λ b e. bytes ∙ ap (λ (xs : List ℕ). Ok xs) (sym (e ∙ same c))) c.sealed_bytes.ensures.ok
-
-spelled : (c : goal.After-drop-text-2) (bytes : List ℕ) → bytes ≡ sealed (unsealed c.as_slice.result.now c.as_slice-payload.result.now) → IsPackage bytes c.args.package.now
-spelled c bytes e =
-    let p = c.args.package.now in
-    let small : length p.payload < 2 ^ 32 = omega (arith, c.as_slice-payload.ensures.form) in
-    rw (e ∙ same c) (is_package p c.in_ok-text.text.items (omega (arith, c.in_ok-text.ensures.short)) small c.in_ok-text.ensures.back (belongs c))
+    printed c.args.package.now c.in_ok-text.text.items c.in_ok-text.ensures.text (omega (arith, c.in_ok-text.ensures.short)) (omega (arith, ap length c.as_slice-payload.ensures.bytes)) (belongs c)
+    ∙ ap (λ (xs : List ℕ). Ok xs) (sym (whole c))
 
 pub returns-clause-spelled : goal.returns-clause-spelled
-returns-clause-spelled c = IfOk-weaker c.sealed_bytes.result _ _ (λ b e. spelled c b.items e) c.sealed_bytes.ensures.ok
+returns-clause-spelled c =
+    let p = c.args.package.now in
+    let small : length p.payload < 2 ^ 32 = omega (arith, c.as_slice-payload.ensures.form) in
+    rw (whole c) (is_package p c.in_ok-text.text.items (omega (arith, c.in_ok-text.ensures.short)) small c.in_ok-text.ensures.back (belongs c))
 
 pub returns-clause-back : goal.returns-clause-back
-returns-clause-back c =
-    IfOk-weaker c.sealed_bytes.result _ _ (λ b e. package_is_read b.items c.args.package.now (spelled c b.items e)) c.sealed_bytes.ensures.ok
+returns-clause-back c = package_is_read c.in_ok-bytes.bytes.items c.args.package.now (returns-clause-spelled c)
