@@ -12,9 +12,8 @@ use Rattle.scenario.specs.declared.why.Why.{Why}
 use Rattle.scenario.specs.declared.why.Why.TheVariants.{Form, Value, Later}
 use Rattle.scenario.specs.declared.blocks.BlockSource.{BlockSource}
 use Rattle.scenario.specs.Readings.{◌>>=◌, given}
-use Rattle.scenario.specs.Words.{action_in, name_in, version_in}
+use Rattle.scenario.specs.Words.{action_in, name_in, needs_in, version_in}
 use Rattle.scenario.specs.Blocks.{bytes_meant, length_meant, plain_block_in}
-use Rattle.scenario.specs.Lines.{needs_in}
 use Rattle.scenario.specs.Scripts.{words_of}
 use Rattle.recipe.specs.declared.packages.NamedPackage.{NamedPackage}
 

@@ -6,7 +6,7 @@ use Rattle.package_reader.specs.Printing.{is_too_large, package_text}
 use Rattle.scenario.specs.declared.why.Why.{Why}
 use Rattle.scenario.specs.declared.why.Why.TheVariants.{Twice, Limit}
 use Rattle.scenario.specs.Readings.{◌>>=◌, given}
-use Rattle.scenario.specs.Scripts.{Refused}
+use Rattle.scenario.specs.Scripts.{Refused, followed}
 use Rattle.recipe.specs.declared.packages.NamedPackage.{NamedPackage}
 use Rattle.recipe.specs.declared.made.TheConstants.{MADE_LIMIT}
 use Rattle.recipe.specs.Packages.{package_in}
@@ -44,10 +44,6 @@ with_package made (Some p) = added made p
 -- what is made below a line, where this is made above it
 abbrev pub below : List NamedBytes → List ℕ → Result (List NamedBytes) Why
 below made line = package_in line >>= with_package made
-
-abbrev pub followed : ℕ → (List NamedBytes → Result (List NamedBytes) Refused) → Result (List NamedBytes) Why → Result (List NamedBytes) Refused
-followed n more (Ok made) = more made
-followed n more (Err why) = Err (record { line = n; why = why })
 
 -- what lines make below others, where the first of them is the n-th
 abbrev pub made_from : ℕ → List NamedBytes → List (List ℕ) → Result (List NamedBytes) Refused

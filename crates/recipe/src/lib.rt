@@ -7,12 +7,10 @@
 #![tactic(auto)]
 
 mod fault;
-mod lines;
 mod made;
 mod packages;
 mod packing;
 mod recipe;
-mod seal;
 #[cfg(test)]
 mod tests;
 

@@ -7,7 +7,7 @@ ghost use Rattle.recipe.specs.Packing.{attach_text};
 ghost use Rattle.recipe.specs.Recipes.{added, has_named, printed};
 
 use crate::packages::NamedPackage;
-use crate::seal::seal_package;
+use package_reader::seal_package;
 use scenario::{Why, WordFault};
 use std::alloc::{AllocError, Global};
 use std::marker::Model;
@@ -54,6 +54,7 @@ impl Attachment {
         attach_line(alloc, self.name, self.bytes.len())
     }
 
+    /// Whether it has this name.
     fn is_named(&self, name: &ClusterName) -> bool
         ensures { result ≡ bytes_eq self.now.name name.now }
     {
@@ -61,12 +62,14 @@ impl Attachment {
     }
 }
 
+/// The line `attach <name> <length>`.
 fn attach_line(alloc: Global, name: ClusterName, len: usize) -> Result<String, AllocError>
     ensures { IfOk result (λ s. string_bytes s ≡ codes "attach " ++ name ++ 32 ∷ decimal len) }
 {
     format!(in alloc; "attach {name} {len}")
 }
 
+/// Whether a package of this name is made above.
 fn is_named_above(made: &[Attachment], name: &ClusterName) -> bool
     ensures { result ≡ has_named made.now name.now }
 {

@@ -3,12 +3,12 @@ ghost use Rattle.std.specs.Prelude.{◌≡◌, ◌≤◌, IfOk, IfErr, IsTrue, O
 ghost use Rattle.ucm_base.specs.Limits.{need_limit};
 ghost use Rattle.scenario.specs.declared.why.Why.{Why};
 ghost use Rattle.scenario.specs.Blocks.{bytes_meant};
-ghost use Rattle.scenario.specs.Lines.{needs_in};
 ghost use Rattle.recipe.specs.Packages.{by_words, free_name_in, package_form, package_in, package_named, contents_of, package_words, payload_in};
 
-use crate::lines::first_word;
 use package_reader::Package;
-use scenario::{BlockSource, Why, WordFault, action, name, need, plain_block, version};
+use scenario::{
+    BlockSource, Why, WordFault, action, first_piece, name, needs, plain_block, version,
+};
 use sha2::{Digest, Sha256};
 use std::alloc::{AllocError, Global};
 use ucm_base::limits::NEED_LIMIT;
@@ -45,21 +45,6 @@ fn payload(alloc: Global, action: Action, word: &[u8]) -> Result<BlockSource, Wo
         return Err(WordFault::Refused(Why::Value));
     }
     Ok(block)
-}
-
-/// The needs of these words.
-fn read_needs(alloc: Global, words: &[&[u8]]) -> Result<Needs, WordFault>
-    requires { length words.now ≤ need_limit }
-    ensures needs { IfOk result (λ ns. needs_in (map (λ w. w.now) words.now) ≡ Ok ns) }
-    ensures refused { IfErr result (λ e. (why : Why) → e ≡ WordFault.Refused why
-        → needs_in (map (λ w. w.now) words.now) ≡ Err why) }
-{
-    let mut needs = Vec::new(alloc);
-    'words: for i in 0..words.len() {
-        let need = need(alloc, words[i])?;
-        needs.push(need)?;
-    }
-    Ok(Needs::of(needs))
 }
 
 /// The package of these parts. Its payload is hashed once.
@@ -115,7 +100,7 @@ fn read_package(
     let cluster = scenario::name(words.cluster)?;
     let version = version(alloc, words.version)?;
     let block = payload(alloc, action, words.block)?;
-    let needs = read_needs(alloc, needed)?;
+    let needs = needs(alloc, needed)?;
     let contents = made(alloc, action, cluster, version, needs, &block)?;
     Ok(NamedPackage { name, contents })
 }
@@ -144,6 +129,7 @@ fn read_form(alloc: Global, words: &[&[u8]]) -> Result<NamedPackage, WordFault>
     }
 }
 
+/// The package of this first word and of these behind it, if they make one.
 fn read_named(
     alloc: Global,
     first: &[u8],
@@ -164,6 +150,7 @@ fn read_named(
     }
 }
 
+/// The package of these words, if they make one.
 fn read_words(alloc: Global, words: &[&[u8]]) -> Result<Option<NamedPackage>, WordFault>
     ensures package { IfOk result (λ o. by_words (map (λ w. w.now) words.now) ≡ Ok o) }
     ensures refused { IfErr result (λ e. (why : Why) → e ≡ WordFault.Refused why
@@ -179,7 +166,7 @@ fn read_words(alloc: Global, words: &[&[u8]]) -> Result<Option<NamedPackage>, Wo
 fn is_plain(line: &[u8]) -> bool
     ensures { IsTrue result → package_in line.now ≡ Ok None }
 {
-    let first = first_word(line);
+    let (first, _) = first_piece(line, b' ');
     first != b"step".as_slice() && first != b"package".as_slice()
 }
 

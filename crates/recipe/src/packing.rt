@@ -20,6 +20,7 @@ pub enum Kind {
     Script,
 }
 
+/// The bytes of the one package that is made.
 fn one_package(mut made: Vec<Attachment>) -> Result<Vec<u8>, PackFault>
     ensures package { IfOk result (λ b. package_of made.items ≡ Ok b.items) }
     ensures refused { IfErr result (λ e. (line : ℕ) (why : Why) → e ≡ PackFault.Refused line why
@@ -48,6 +49,7 @@ fn add_bytes(bytes: &mut Vec<u8>, made: &[Attachment]) -> Result<(), AllocError>
     Ok(())
 }
 
+/// The script, with the packages behind its line `end`.
 fn script(alloc: Global, input: &[u8], recipe: Recipe) -> Result<Vec<u8>, AllocError>
     requires { recipe.text.items ≡ text_of (lines_in input.now) }
     ensures { IfOk result (λ b. b.items ≡ script_of input.now recipe.made.items) }
@@ -74,9 +76,6 @@ pub fn pack(alloc: Global, input: &[u8], kind: Kind) -> Result<Vec<u8>, PackFaul
     let recipe = read_recipe(alloc, input)?;
     match kind {
         Kind::Package => one_package(recipe.made),
-        Kind::Script => {
-            let bytes = script(alloc, input, recipe)?;
-            Ok(bytes)
-        }
+        Kind::Script => Ok(script(alloc, input, recipe)?),
     }
 }

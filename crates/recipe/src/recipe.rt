@@ -1,15 +1,14 @@
 //! Recipes, read line by line.
-ghost use Rattle.std.specs.Prelude.{◌≡◌, ◌++◌, ◌+◌, ◌≤◌, ◌∷◌, [], IfOk, IfErr, OnOk, Ok, Err, length, ℕ};
+ghost use Rattle.std.specs.Prelude.{◌≡◌, ◌++◌, ◌<◌, ◌∷◌, [], IfOk, IfErr, OnOk, Ok, Err, length, ℕ};
 ghost use Rattle.scenario.specs.declared.why.Why.{Why};
 ghost use Rattle.recipe.specs.Lines.{lines_in};
 ghost use Rattle.recipe.specs.Packing.{attach_text, line_text, text_of};
 ghost use Rattle.recipe.specs.Recipes.{added, below, printed, recipe_of};
 
 use crate::fault::{PackFault, fault_at};
-use crate::lines::first_line;
 use crate::made::{Attachment, attachment_of};
 use crate::packages::{NamedPackage, read_line};
-use scenario::WordFault;
+use scenario::{WordFault, first_piece};
 use std::alloc::{AllocError, Global};
 
 /// What the lines so far make.
@@ -21,6 +20,7 @@ pub struct Recipe {
     pub made: Vec<Attachment>,
 }
 
+/// Adds a line and a line feed.
 fn add_text(text: &mut Vec<u8>, line: &[u8]) -> Result<(), AllocError>
     ensures { OnOk result (text.new.items ≡ text.old.items ++ line.now ++ 10 ∷ []) }
 {
@@ -30,6 +30,7 @@ fn add_text(text: &mut Vec<u8>, line: &[u8]) -> Result<(), AllocError>
 }
 
 impl Recipe {
+    /// What no lines make.
     fn new(alloc: Global) -> Recipe
         ensures text { result.text.items ≡ [] }
         ensures made { result.made.items ≡ [] }
@@ -71,6 +72,16 @@ impl Recipe {
             }
         }
     }
+}
+
+/// The first line of a text, and the text behind it.
+fn first_line(text: &[u8]) -> (&[u8], &[u8])
+    requires { 0 < length text.now }
+    ensures lines { lines_in text.now ≡ result.0.now ∷ lines_in result.1.now }
+    ensures rest { length result.1.now < length text.now }
+{
+    let (line, rest) = first_piece(text, b'\n');
+    (line, rest.unwrap_or(&[]))
 }
 
 /// What all lines of a recipe make.

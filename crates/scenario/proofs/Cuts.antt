@@ -1,21 +1,11 @@
 -- Texts cut at the first byte of a value.
-use Rattle.std.proofs.Common.{◌≡◌, ◌<◌, ◌≤◌, ◌+◌, ◌∙◌, ℕ, Bool, true, false, cond, List, [], ◌∷◌, Option, Some, None, option_map, length, take, drop, length-take, length-drop, refl, ap, arith}
+use Rattle.std.proofs.Common.{◌≡◌, ◌<◌, ◌≤◌, ◌+◌, ℕ, Bool, true, false, cond, List, [], ◌∷◌, Option, Some, None, option_map, length, take, drop, length-take, length-drop, refl, ap, arith}
 use Rattle.std.specs.Prelude.{◌==◌, nat_lt}
-use Rattle.std.specs.List.{position_or_len, slice_split, onto_first}
+use Rattle.std.specs.List.{position_or_len, slice_split}
 use Rattle.std.proofs.lemmas.Bool.Decides.{nat_tests}
-use Rattle.std.proofs.lemmas.List.Splits.{slice_split_first, slice_split-cons_no}
+use Rattle.std.proofs.lemmas.List.Splits.{slice_split_first, slice_split_none}
+use Rattle.std.proofs.lemmas.List.Sums.{fails_before_first}
 use Rattle.scenario.specs.Words.{cut}
-
--- where no byte has the value, the text is the one part
-none-at : (p : ℕ → Bool) (b : ℕ) (text : List ℕ) (passes : Bool) → p b ≡ passes → (length text ≤ position_or_len p text → slice_split p text ≡ text ∷ []) → length (b ∷ text) ≤ position_or_len p (b ∷ text) → slice_split p (b ∷ text) ≡ (b ∷ text) ∷ []
-none-at p b text true e more h = absurd (grind (arith, nat_tests))
-none-at p b text false e more h =
-    let below : length text ≤ position_or_len p text = grind (arith, nat_tests) in
-    slice_split-cons_no p b text e ∙ ap (onto_first b) (more below)
-
-none : (p : ℕ → Bool) (text : List ℕ) → length text ≤ position_or_len p text → slice_split p text ≡ text ∷ []
-none p [] h = refl
-none p (b ∷ text) h = none-at p b text (p b) refl (none p text) h
 
 abbrev place : ℕ → List ℕ → ℕ
 place at text = position_or_len (λ b. b == at) text
@@ -42,7 +32,9 @@ cut-Some at text first rest is = cut-at at text first rest (nat_lt (place at tex
 
 whole-at : (at : ℕ) (text : List ℕ) (found : Bool) → nat_lt (place at text) (length text) ≡ found → None ≡ cut_by at text found → slice_split (λ b. b == at) text ≡ text ∷ []
 whole-at at text true e is = absurd (cc)
-whole-at at text false e is = none (λ b. b == at) text (grind (arith, nat_tests))
+whole-at at text false e is =
+    let all : length text ≤ place at text = grind (arith, nat_tests) in
+    slice_split_none (λ b. b == at) text (λ k d lt. fails_before_first (λ b. b == at) text k d (omega arith))
 
 pub cut-None : (at : ℕ) (text : List ℕ) → None ≡ cut at text → slice_split (λ b. b == at) text ≡ text ∷ []
 unfolding cut

@@ -64,10 +64,6 @@ long-installed places (a ∷ b ∷ []) h = absurd (omega arith)
 long-installed places (a ∷ b ∷ c ∷ []) h = absurd (omega arith)
 long-installed places (a ∷ b ∷ c ∷ d ∷ needs) h = above (length needs) 16 _ (omega arith)
 
-either : (b : Bool) (line : Result ScriptLine Why) → IsForm line → IsForm (if b then Err Form else line)
-either true line e = refl
-either false line e = e
-
 choice : (b : Bool) (one other : Result ScriptLine Why) → IsForm one → IsForm other → IsForm (if b then one else other)
 choice true one other e f = e
 choice false one other e f = f

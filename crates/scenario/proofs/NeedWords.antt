@@ -4,8 +4,7 @@ use Rattle.std.proofs.Math.ListN.{get_or-map, length-map}
 use Rattle.ucm_base.specs.declared.parts.Need.{Need}
 use Rattle.scenario.specs.declared.why.Why.{Why}
 use Rattle.scenario.specs.Readings.{◌>>=◌}
-use Rattle.scenario.specs.Words.{need_in}
-use Rattle.scenario.specs.Lines.{needs_in}
+use Rattle.scenario.specs.Words.{need_in, needs_in}
 
 -- some needs before those that follow them
 abbrev pub after : List Need → Result (List Need) Why → Result (List Need) Why

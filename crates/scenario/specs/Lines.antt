@@ -1,7 +1,6 @@
 -- Lines, by their words: later and form first, then each word from left to right.
 use Rattle.std.specs.Prelude.{ℕ, ◌^◌, ◌&&◌, ◌||◌, nat_le, if◌then◌else◌, Bool, List, [], ◌∷◌, length, codes, Result, Ok, Err}
 use Rattle.std.specs.Str.{bytes_eq}
-use Rattle.ucm_base.specs.declared.parts.Need.{Need}
 use Rattle.ucm_base.specs.Limits.{need_limit}
 use Rattle.scenario.specs.declared.why.Why.{Why}
 use Rattle.scenario.specs.declared.why.Why.TheVariants.{Form, Value, Later}
@@ -10,7 +9,7 @@ use Rattle.scenario.specs.declared.lines.ScriptLine.{ScriptLine}
 use Rattle.scenario.specs.declared.lines.ScriptLine.TheVariants.{Time, Installed, Happens, Fails, Attach}
 use Rattle.scenario.specs.Readings.{◌>>=◌, given}
 use Rattle.scenario.specs.Attached.{Places}
-use Rattle.scenario.specs.Words.{number_in, node_in, client_in, call_no_in, name_in, version_in, need_in}
+use Rattle.scenario.specs.Words.{number_in, node_in, client_in, call_no_in, name_in, version_in, needs_in}
 use Rattle.scenario.specs.Blocks.{block_in}
 use Rattle.scenario.specs.Events.{call_in, query_in}
 
@@ -18,13 +17,6 @@ use Rattle.scenario.specs.Events.{call_in, query_in}
 abbrev pub time_line : List (List ℕ) → Result ScriptLine Why
 time_line (word ∷ []) = number_in word >>= λ n. given (nat_le n (2 ^ 62)) (Time n) Value
 time_line _ = Err Form
-
-abbrev pub needs_in : List (List ℕ) → Result (List Need) Why
-needs_in [] = Ok []
-needs_in (word ∷ words) = do
-  need ← need_in word
-  needs ← needs_in words
-  Ok (need ∷ needs)
 
 abbrev pub cluster_line : Places → List ℕ → List ℕ → List ℕ → List (List ℕ) → Result ScriptLine Why
 cluster_line places name version block needs = do

@@ -2,9 +2,6 @@
 use Rattle.std.specs.Prelude.{Bool, if◌then◌else◌, Result, Ok, Err}
 use Rattle.scenario.specs.declared.why.Why.{Why}
 
-abbrev pub Read : Type 0 → Type 0
-Read A = Result A Why
-
 -- a reading that goes on with what was read before; the first that is refused decides
 infixl 10 ◌>>=◌
 abbrev pub ◌>>=◌ : {A B : Type 0} → Result A Why → (A → Result B Why) → Result B Why

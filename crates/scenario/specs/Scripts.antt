@@ -96,7 +96,8 @@ script above at =
 abbrev pub finished : ℕ → Above → ℕ → Result Script Refused
 finished size above at = if above.attached == size - at then Ok (script above at) else Err (record { line = 0; why = Bytes })
 
-abbrev pub followed : ℕ → (Above → Result Script Refused) → Result Above Why → Result Script Refused
+-- a reading of lines that goes on below the n-th, unless that is refused
+abbrev pub followed : {A B : Type 0} → ℕ → (A → Result B Refused) → Result A Why → Result B Refused
 followed n more (Ok above) = more above
 followed n more (Err why) = Err (record { line = n; why = why })
 

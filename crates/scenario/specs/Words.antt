@@ -64,6 +64,14 @@ need_in word = do
   req ← req_in parts.1
   Ok (record { name = name; req = req })
 
+-- the needs of these words, in their order
+abbrev pub needs_in : List (List ℕ) → Result (List Need) Why
+needs_in [] = Ok []
+needs_in (word ∷ words) = do
+  need ← need_in word
+  needs ← needs_in words
+  Ok (need ∷ needs)
+
 abbrev pub action_in : List ℕ → Result Action Why
 action_in word =
     if bytes_eq word (codes "install") then Ok Install

@@ -58,6 +58,7 @@ impl BlockSource {
     }
 }
 
+/// A piece of the attached bytes, as far as they go.
 fn piece_made(alloc: Global, attached: &[u8], at: u64, len: u32) -> Result<Block, AllocError>
     ensures { IfOk result (λ block. block ≡ bytes_meant attached.now (BlockSource.Piece at len)) }
 {
@@ -68,6 +69,7 @@ fn piece_made(alloc: Global, attached: &[u8], at: u64, len: u32) -> Result<Block
     Ok(Block::of(bytes))
 }
 
+/// What stands behind `fill:`, as `<length>:<byte>`.
 fn fill(rest: &[u8]) -> Result<BlockSource, Why>
     ensures { result ≡ fill_in rest.now }
 {
@@ -86,6 +88,7 @@ fn fill(rest: &[u8]) -> Result<BlockSource, Why>
     }
 }
 
+/// What stands behind `hex:`, as an even number of digits.
 fn hex(alloc: Global, digits: &[u8]) -> Result<BlockSource, WordFault>
     ensures block { IfOk result (λ b. hex_in digits.now ≡ Ok b) }
     ensures refused { IfErr result (λ e. (why : Why) → e ≡ WordFault.Refused why
@@ -100,14 +103,14 @@ fn hex(alloc: Global, digits: &[u8]) -> Result<BlockSource, WordFault>
     }
 }
 
+/// A block that needs no attachment, by what stands before its first colon and behind it.
 fn plain_block_of(alloc: Global, kind: &[u8], rest: &[u8]) -> Result<BlockSource, WordFault>
     ensures block { IfOk result (λ b. plain_block kind.now rest.now ≡ Ok b) }
     ensures refused { IfErr result (λ e. (why : Why) → e ≡ WordFault.Refused why
         → plain_block kind.now rest.now ≡ Err why) }
 {
     if kind == b"fill".as_slice() {
-        let block = fill(rest)?;
-        Ok(block)
+        Ok(fill(rest)?)
     } else if kind == b"hex".as_slice() {
         hex(alloc, rest)
     } else {
@@ -127,12 +130,14 @@ pub fn plain_block(alloc: Global, word: &[u8]) -> Result<BlockSource, WordFault>
     plain_block_of(alloc, kind, rest)
 }
 
+/// The attachment of this name.
 fn known_as(attachments: &Attachments, name: ClusterName) -> Result<Attached, Why>
     ensures { result ≡ known attachments.now name }
 {
     attachments.named(name).ok_or(Why::Unknown)
 }
 
+/// So many bytes of an attachment from an offset on.
 fn part_within(a: Attached, offset: u64, len: u64) -> Result<BlockSource, Why>
     ensures { result ≡ part_of a offset len }
 {
@@ -145,6 +150,7 @@ fn part_within(a: Attached, offset: u64, len: u64) -> Result<BlockSource, Why>
     }
 }
 
+/// The i-th piece of an attachment. Each has 4,096 bytes, but the last may be shorter.
 fn piece_within(a: Attached, i: u64) -> Result<BlockSource, Why>
     ensures { result ≡ piece_of a i }
 {
@@ -158,6 +164,7 @@ fn piece_within(a: Attached, i: u64) -> Result<BlockSource, Why>
     }
 }
 
+/// What stands behind `block:`, as `<name>:<i>`.
 fn piece(attachments: &Attachments, rest: &[u8]) -> Result<BlockSource, Why>
     ensures { result ≡ piece_in attachments.now rest.now }
 {
@@ -170,6 +177,7 @@ fn piece(attachments: &Attachments, rest: &[u8]) -> Result<BlockSource, Why>
     piece_within(a, i)
 }
 
+/// What stands behind `part:`, as `<name>:<offset>:<length>`.
 fn part(attachments: &Attachments, rest: &[u8]) -> Result<BlockSource, Why>
     ensures { result ≡ part_in attachments.now rest.now }
 {
@@ -186,6 +194,7 @@ fn part(attachments: &Attachments, rest: &[u8]) -> Result<BlockSource, Why>
     part_within(a, offset, len)
 }
 
+/// A block, by what stands before its first colon and behind it.
 fn block_named(
     alloc: Global,
     attachments: &Attachments,
@@ -197,11 +206,9 @@ fn block_named(
         → block_of attachments.now kind.now rest.now ≡ Err why) }
 {
     if kind == b"block".as_slice() {
-        let block = piece(attachments, rest)?;
-        Ok(block)
+        Ok(piece(attachments, rest)?)
     } else if kind == b"part".as_slice() {
-        let block = part(attachments, rest)?;
-        Ok(block)
+        Ok(part(attachments, rest)?)
     } else {
         plain_block_of(alloc, kind, rest)
     }
@@ -223,6 +230,7 @@ pub(crate) fn block(
     block_named(alloc, attachments, kind, rest)
 }
 
+/// The length of an attachment, as `size:<name>`.
 fn length_named(attachments: &Attachments, kind: &[u8], rest: &[u8]) -> Result<u64, Why>
     ensures { result ≡ length_in attachments.now kind.now rest.now }
 {

@@ -96,6 +96,7 @@ pub fn call_of(alloc: Global, call: &ScriptCall, attached: &[u8]) -> Result<Call
     }
 }
 
+/// A call of one word.
 fn named_call(name: &[u8]) -> Result<ScriptCall, Why>
     ensures { result ≡ call_alone name.now }
 {
@@ -114,6 +115,7 @@ fn named_call(name: &[u8]) -> Result<ScriptCall, Why>
     }
 }
 
+/// A call of two words.
 fn call_with_word(attachments: &Attachments, name: &[u8], word: &[u8]) -> Result<ScriptCall, Why>
     ensures { result ≡ call_with attachments.now name.now word.now }
 {
@@ -134,6 +136,7 @@ fn call_with_word(attachments: &Attachments, name: &[u8], word: &[u8]) -> Result
     }
 }
 
+/// The call `process <id> <tag>`.
 fn process(name: &[u8], id: &[u8], tag: &[u8]) -> Result<ScriptCall, Why>
     ensures { result ≡ process_call name.now id.now tag.now }
 {
@@ -145,6 +148,7 @@ fn process(name: &[u8], id: &[u8], tag: &[u8]) -> Result<ScriptCall, Why>
     Ok(ScriptCall::ProcessSwPackage { id, tag })
 }
 
+/// The call `data <id> <counter> <block>`.
 fn data(
     alloc: Global,
     attachments: &Attachments,
@@ -178,23 +182,15 @@ pub(crate) fn call(
         → call_in attachments.now (map (λ w. w.now) words.now) ≡ Err why) }
 {
     match words {
-        [name] => {
-            let call = named_call(name)?;
-            Ok(call)
-        }
-        [name, word] => {
-            let call = call_with_word(attachments, name, word)?;
-            Ok(call)
-        }
-        [name, id, tag] => {
-            let call = process(name, id, tag)?;
-            Ok(call)
-        }
+        [name] => Ok(named_call(name)?),
+        [name, word] => Ok(call_with_word(attachments, name, word)?),
+        [name, id, tag] => Ok(process(name, id, tag)?),
         [name, id, counter, bytes] => data(alloc, attachments, name, id, counter, bytes),
         _ => Err(WordFault::Refused(Why::Form)),
     }
 }
 
+/// A query of one word.
 fn named_query(name: &[u8]) -> Result<Query, Why>
     ensures { result ≡ query_alone name.now }
 {
@@ -211,6 +207,7 @@ fn named_query(name: &[u8]) -> Result<Query, Why>
     }
 }
 
+/// The query `progress <id>`.
 fn progress(name: &[u8], id: &[u8]) -> Result<Query, Why>
     ensures { result ≡ progress_query name.now id.now }
 {
@@ -221,6 +218,7 @@ fn progress(name: &[u8], id: &[u8]) -> Result<Query, Why>
     Ok(Query::GetSwProcessProgress { id })
 }
 
+/// The query `history <ge> <lt>`.
 fn history(name: &[u8], ge: &[u8], lt: &[u8]) -> Result<Query, Why>
     ensures { result ≡ history_query name.now ge.now lt.now }
 {

@@ -22,4 +22,4 @@ pub use lines::Installed;
 pub use rows::Rows;
 pub use script::{Command, Script, read_script};
 pub use why::{ScriptFault, Why, WordFault};
-pub use words::{action, name, need, number, small, version};
+pub use words::{action, first_piece, name, need, needs, number, small, version};

@@ -2,13 +2,13 @@
 ghost use Rattle.std.specs.Prelude.{◌≡◌, ◌≤◌, ◌∷◌, [], IfOk, IfErr, Ok, Err, length, map};
 ghost use Rattle.ucm_base.specs.Limits.{need_limit};
 ghost use Rattle.scenario.specs.declared.why.Why.{Why};
-ghost use Rattle.scenario.specs.Lines.{ask_line, attach_line, call_line, cluster_line, fails_line, installed_line, is_call_form, is_later, is_query_form, client_query, line_in, line_named, needs_in, numbered_call, short_line, time_line, work_line};
+ghost use Rattle.scenario.specs.Lines.{ask_line, attach_line, call_line, cluster_line, fails_line, installed_line, is_call_form, is_later, is_query_form, client_query, line_in, line_named, numbered_call, short_line, time_line, work_line};
 
 use crate::attachments::Attachments;
 use crate::blocks::{BlockSource, block};
 use crate::events::{Event, call, query};
 use crate::why::{Why, WordFault};
-use crate::words::{call_no, client, name, need, node, number, version};
+use crate::words::{call_no, client, name, needs, node, number, version};
 use std::alloc::Global;
 use ucm_base::limits::NEED_LIMIT;
 use ucm_base::{ClusterName, Needs, VersionText};
@@ -38,6 +38,7 @@ pub enum ScriptLine {
     Attach { name: ClusterName, len: u64 },
 }
 
+/// The line `time <n>`, by its words behind the first, as all below.
 fn read_time(words: &[&[u8]]) -> Result<ScriptLine, Why>
     ensures { result ≡ time_line (map (λ w. w.now) words.now) }
 {
@@ -47,6 +48,7 @@ fn read_time(words: &[&[u8]]) -> Result<ScriptLine, Why>
     }
 }
 
+/// A start time, at most 2^62.
 fn start_time(word: &[u8]) -> Result<ScriptLine, Why>
     ensures { result ≡ time_line (word.now ∷ []) }
 {
@@ -58,21 +60,7 @@ fn start_time(word: &[u8]) -> Result<ScriptLine, Why>
     }
 }
 
-/// The needs of these words, of which there are at most 16.
-fn read_needs(alloc: Global, words: &[&[u8]]) -> Result<Needs, WordFault>
-    requires { length words.now ≤ need_limit }
-    ensures needs { IfOk result (λ ns. needs_in (map (λ w. w.now) words.now) ≡ Ok ns) }
-    ensures refused { IfErr result (λ e. (why : Why) → e ≡ WordFault.Refused why
-        → needs_in (map (λ w. w.now) words.now) ≡ Err why) }
-{
-    let mut needs = Vec::new(alloc);
-    'words: for i in 0..words.len() {
-        let need = need(alloc, words[i])?;
-        needs.push(need)?;
-    }
-    Ok(Needs::of(needs))
-}
-
+/// An installed cluster, by its words.
 fn read_cluster(
     alloc: Global,
     attachments: &Attachments,
@@ -91,7 +79,7 @@ fn read_cluster(
     let name = name(named)?;
     let version = version(alloc, versioned)?;
     let block = block(alloc, attachments, bytes)?;
-    let needs = read_needs(alloc, needed)?;
+    let needs = needs(alloc, needed)?;
     Ok(ScriptLine::Installed(Installed {
         name,
         version,
@@ -100,6 +88,7 @@ fn read_cluster(
     }))
 }
 
+/// The line `installed <node> <cluster> <version> <block> <need>*`, with at most 16 needs.
 fn read_installed(
     alloc: Global,
     attachments: &Attachments,
@@ -122,12 +111,14 @@ fn read_installed(
     }
 }
 
+/// Whether these are as many words as a call has.
 fn is_call(words: &[&[u8]]) -> bool
     ensures { result ≡ is_call_form (map (λ w. w.now) words.now) }
 {
     words.len() >= 1 && words.len() <= 4
 }
 
+/// A client's call, by its words.
 fn client_call(
     alloc: Global,
     attachments: &Attachments,
@@ -147,6 +138,7 @@ fn client_call(
     Ok(ScriptLine::Happens(Event::Call { client, no, call }))
 }
 
+/// The line `call <node> <client> <no> <call>`.
 fn read_call(
     alloc: Global,
     attachments: &Attachments,
@@ -169,6 +161,7 @@ fn read_call(
     }
 }
 
+/// The line `work <node> <client>`.
 fn read_work(words: &[&[u8]]) -> Result<ScriptLine, Why>
     ensures { result ≡ work_line (map (λ w. w.now) words.now) }
 {
@@ -182,12 +175,14 @@ fn read_work(words: &[&[u8]]) -> Result<ScriptLine, Why>
     }
 }
 
+/// Whether these are as many words as a query has.
 fn is_query(words: &[&[u8]]) -> bool
     ensures { result ≡ is_query_form (map (λ w. w.now) words.now) }
 {
     words.len() >= 1 && words.len() <= 3
 }
 
+/// A client's query, by its words.
 fn client_asks(client_word: &[u8], words: &[&[u8]]) -> Result<ScriptLine, Why>
     ensures { result ≡ client_query client_word.now (map (λ w. w.now) words.now) }
 {
@@ -196,6 +191,7 @@ fn client_asks(client_word: &[u8], words: &[&[u8]]) -> Result<ScriptLine, Why>
     Ok(ScriptLine::Happens(Event::Ask { client, query }))
 }
 
+/// The line `ask <node> <client> <query>`.
 fn read_ask(words: &[&[u8]]) -> Result<ScriptLine, Why>
     ensures { result ≡ ask_line (map (λ w. w.now) words.now) }
 {
@@ -211,6 +207,7 @@ fn read_ask(words: &[&[u8]]) -> Result<ScriptLine, Why>
     }
 }
 
+/// The line `fails <node> <cluster>`.
 fn read_fails(words: &[&[u8]]) -> Result<ScriptLine, Why>
     ensures { result ≡ fails_line (map (λ w. w.now) words.now) }
 {
@@ -224,6 +221,7 @@ fn read_fails(words: &[&[u8]]) -> Result<ScriptLine, Why>
     }
 }
 
+/// The line `attach <name> <length>`.
 fn read_attach(words: &[&[u8]]) -> Result<ScriptLine, Why>
     ensures { result ≡ attach_line (map (λ w. w.now) words.now) }
 {
@@ -233,6 +231,7 @@ fn read_attach(words: &[&[u8]]) -> Result<ScriptLine, Why>
     }
 }
 
+/// Attached bytes, by their name and length.
 fn named_bytes(named: &[u8], size: &[u8]) -> Result<ScriptLine, Why>
     ensures { result ≡ attach_line (named.now ∷ size.now ∷ []) }
 {
@@ -257,12 +256,14 @@ pub(crate) fn read_line(
     }
 }
 
+/// Whether lines of this first word aren't served yet.
 fn is_later_word(word: &[u8]) -> bool
     ensures { result ≡ is_later word.now }
 {
     word == b"stop".as_slice() || word == b"fault".as_slice()
 }
 
+/// The line of this first word and of these behind it.
 fn read_named(
     alloc: Global,
     attachments: &Attachments,
@@ -281,8 +282,7 @@ fn read_named(
     } else if first == b"call".as_slice() {
         read_call(alloc, attachments, words)
     } else {
-        let line = read_short(first, words)?;
-        Ok(line)
+        Ok(read_short(first, words)?)
     }
 }
 

@@ -10,7 +10,7 @@ use crate::events::EventLine;
 use crate::lines::{Installed, ScriptLine, read_line};
 use crate::rows::Rows;
 use crate::why::{ScriptFault, Why, WordFault};
-use crate::words::cut;
+use crate::words::first_piece;
 use std::alloc::{AllocError, Global};
 use ucm_base::ClusterName;
 use ucm_base::limits::{CLUSTER_LIMIT, INPUT_LIMIT, PACKAGE_LIMIT};
@@ -62,6 +62,7 @@ pub struct Above {
 }
 
 impl Above {
+    /// What is known before the first line.
     fn new(alloc: Global) -> Above
         ensures { result ≡ nothing_above }
     {
@@ -75,6 +76,7 @@ impl Above {
         }
     }
 
+    /// Adds the start time, which stands once.
     fn add_time(&mut self, n: u64) -> Result<(), WordFault>
         ensures added { OnOk result (time_added self.old n ≡ Ok self.new) }
         ensures refused { IfErr result (λ e. (why : Why) → e ≡ WordFault.Refused why
@@ -87,12 +89,14 @@ impl Above {
         Ok(())
     }
 
+    /// Whether a cluster of this name is installed.
     fn installs(&self, name: &ClusterName) -> bool
         ensures { result ≡ has_installed self.now.installed name.now }
     {
         self.installed.as_slice().iter().any(|c| c.name == *name)
     }
 
+    /// Whether one cluster more fits, and its block is no longer than a package.
     fn has_room_for(&self, cluster: &Installed) -> bool
         ensures { result ≡ has_room self.now cluster.now }
     {
@@ -100,6 +104,7 @@ impl Above {
         (installed.len() as u64) < CLUSTER_LIMIT && cluster.block.len() <= PACKAGE_LIMIT
     }
 
+    /// Adds a cluster, whose name stands once.
     fn add_installed(&mut self, cluster: Installed) -> Result<(), WordFault>
         ensures added { OnOk result (installed_added self.old cluster ≡ Ok self.new) }
         ensures refused { IfErr result (λ e. (why : Why) → e ≡ WordFault.Refused why
@@ -125,6 +130,7 @@ impl Above {
         }
     }
 
+    /// Adds an attachment, whose name stands once.
     fn add_attachment(&mut self, name: ClusterName, len: u64) -> Result<(), WordFault>
         ensures added { OnOk result (attach_added self.old name len ≡ Ok self.new) }
         ensures refused { IfErr result (λ e. (why : Why) → e ≡ WordFault.Refused why
@@ -145,6 +151,7 @@ impl Above {
         Ok(())
     }
 
+    /// Adds what a line says.
     fn add(&mut self, number: u64, line: ScriptLine) -> Result<(), WordFault>
         ensures added { OnOk result (added number self.old line ≡ Ok self.new) }
         ensures refused { IfErr result (λ e. (why : Why) → e ≡ WordFault.Refused why
@@ -200,6 +207,7 @@ fn finish(above: Above, size: u64, at: u64) -> Result<Script, ScriptFault>
     })
 }
 
+/// What a line's fault is at its number.
 fn fault_at(number: u64, fault: WordFault) -> ScriptFault
     ensures { (line : ℕ) (why : Why) → result ≡ ScriptFault.BadScenario line why
         → (line ≡ number) × (fault ≡ WordFault.Refused why) }
@@ -210,23 +218,13 @@ fn fault_at(number: u64, fault: WordFault) -> ScriptFault
     }
 }
 
+/// Whether a line is empty or begins with `#`.
 fn is_passed(line: &[u8]) -> bool
     ensures { result ≡ is_passed_over line.now }
 {
     match line {
         [] => true,
         [first, ..] => *first == b'#',
-    }
-}
-
-/// What stands before the first such byte, and what is left behind it.
-fn first_piece(text: &[u8], at: u8) -> (&[u8], Option<&[u8]>)
-    ensures split { pieces at text.now ≡ result.0.now ∷ pieces_left at (text_left result.1) }
-    ensures size { length result.0.now + size_left (text_left result.1) ≡ length text.now }
-{
-    match cut(text, at) {
-        Some((first, rest)) => (first, Some(rest)),
-        None => (text, None),
     }
 }
 
@@ -274,6 +272,7 @@ fn take_in(alloc: Global, above: &mut Above, number: u64, line: &[u8]) -> Result
     above.add(number, read)
 }
 
+/// Whether a line is `end`.
 fn is_last(line: &[u8]) -> bool
     ensures { result ≡ is_end line.now }
 {

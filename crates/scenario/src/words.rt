@@ -1,13 +1,18 @@
 //! What single words say. Whatever reads scripts or recipes shares these readers.
-ghost use Rattle.std.specs.Prelude.{◌≡◌, ◌==◌, ◌<◌, ◌∷◌, [], length, option_map, position, IfOk, IfErr, IfSome, Ok, Err};
+ghost use Rattle.std.specs.Prelude.{◌≡◌, ◌==◌, ◌<◌, ◌≤◌, ◌+◌, ◌∷◌, [], length, map, option_map, position, IfOk, IfErr, IfSome, Ok, Err};
+ghost use Rattle.ucm_base.specs.Limits.{need_limit};
 ghost use Rattle.scenario.specs.declared.why.Why.{Why};
-ghost use Rattle.scenario.specs.Words.{action_in, byte_in, call_no_in, client_in, cut, digit_value, from_one_in, name_in, need_in, node_in, number_in, req_in, small_in, version_in};
+ghost use Rattle.scenario.specs.Words.{action_in, byte_in, call_no_in, client_in, cut, digit_value, from_one_in, name_in, need_in, needs_in, node_in, number_in, req_in, small_in, version_in};
+ghost use Rattle.scenario.specs.Scripts.{pieces, pieces_left, size_left, text_left};
 
 use crate::why::{Why, WordFault};
 use std::alloc::Global;
-use ucm_base::{Action, CallNo, ClientId, ClusterName, Need, ReqText, TextFault, VersionText};
+use ucm_base::{
+    Action, CallNo, ClientId, ClusterName, Need, Needs, ReqText, TextFault, VersionText,
+};
 use ucm_text::number_of;
 
+/// The place of the first such byte.
 fn place_of(text: &[u8], at: u8) -> Option<usize>
     ensures place { result ≡ position (λ b. b == at) text.now }
     ensures inside { IfSome result (λ i. i < length text.now) }
@@ -22,6 +27,17 @@ pub(crate) fn cut(text: &[u8], at: u8) -> Option<(&[u8], &[u8])>
 {
     let place = place_of(text, at)?;
     Some((&text[..place], &text[place + 1..]))
+}
+
+/// What stands before the first such byte, and what is left behind it.
+pub fn first_piece(text: &[u8], at: u8) -> (&[u8], Option<&[u8]>)
+    ensures split { pieces at text.now ≡ result.0.now ∷ pieces_left at (text_left result.1) }
+    ensures size { length result.0.now + size_left (text_left result.1) ≡ length text.now }
+{
+    match cut(text, at) {
+        Some((first, rest)) => (first, Some(rest)),
+        None => (text, None),
+    }
 }
 
 /// A decimal number below 2^64, without leading zeros.
@@ -61,6 +77,7 @@ pub(crate) fn node(word: &[u8]) -> Result<u8, Why>
     }
 }
 
+/// A client, from 0 to 31.
 pub(crate) fn client(word: &[u8]) -> Result<ClientId, Why>
     ensures { result ≡ client_in word.now }
 {
@@ -105,6 +122,7 @@ pub fn action(word: &[u8]) -> Result<Action, Why>
     }
 }
 
+/// The value of a lower-case hexadecimal digit.
 fn digit(b: u8) -> Option<u8>
     ensures value { result ≡ digit_value b }
     ensures small { IfSome result (λ d. d < 16) }
@@ -126,6 +144,7 @@ pub(crate) fn byte(word: &[u8]) -> Result<u8, Why>
     }
 }
 
+/// The byte of two digits.
 fn byte_of(high: u8, low: u8) -> Result<u8, Why>
     ensures { result ≡ byte_in (high ∷ low ∷ []) }
 {
@@ -147,6 +166,7 @@ pub fn version(alloc: Global, word: &[u8]) -> Result<VersionText, WordFault>
     }
 }
 
+/// A version requirement.
 fn req(alloc: Global, word: &[u8]) -> Result<ReqText, WordFault>
     ensures req { IfOk result (λ r. req_in word.now ≡ Ok r) }
     ensures refused { IfErr result (λ e. (why : Why) → e ≡ WordFault.Refused why
@@ -171,4 +191,19 @@ pub fn need(alloc: Global, word: &[u8]) -> Result<Need, WordFault>
     let name = name(cluster)?;
     let req = req(alloc, accepted)?;
     Ok(Need { name, req })
+}
+
+/// The needs of these words, of which there are at most 16.
+pub fn needs(alloc: Global, words: &[&[u8]]) -> Result<Needs, WordFault>
+    requires { length words.now ≤ need_limit }
+    ensures needs { IfOk result (λ ns. needs_in (map (λ w. w.now) words.now) ≡ Ok ns) }
+    ensures refused { IfErr result (λ e. (why : Why) → e ≡ WordFault.Refused why
+        → needs_in (map (λ w. w.now) words.now) ≡ Err why) }
+{
+    let mut needs = Vec::new(alloc);
+    'words: for i in 0..words.len() {
+        let need = need(alloc, words[i])?;
+        needs.push(need)?;
+    }
+    Ok(Needs::of(needs))
 }

@@ -1,7 +1,7 @@
 use Rattle.std.proofs.lemmas.Result.{err_from_is_err_and}
 use Rattle.std.proofs.lemmas.List.{length_push}
 use Rattle.scenario.proofs.NeedWords.{next-read, next-refused}
-use Rattle.scenario.proofs.lines.read_needs.Goals as goal
+use Rattle.scenario.proofs.words.needs.Goals as goal
 
 pub returns-in_err-need-clause-refused : goal.returns-in_err-need-clause-refused
 returns-in_err-need-clause-refused c =

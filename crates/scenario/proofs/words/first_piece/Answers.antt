@@ -1,5 +1,5 @@
 use Rattle.scenario.proofs.Cuts.{cut-Some, cut-None}
-use Rattle.scenario.proofs.script.first_piece.Goals as goal
+use Rattle.scenario.proofs.words.first_piece.Goals as goal
 
 pub returns-in-Some-clause-split : goal.returns-in-Some-clause-split
 returns-in-Some-clause-split c = (cut-Some c.args.at _ _ _ c.in-Some.ensures).0

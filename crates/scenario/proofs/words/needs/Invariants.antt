@@ -1,7 +1,7 @@
 use Rattle.std.proofs.Common.{◌≡◌, drop, length, map}
-use Rattle.scenario.specs.Lines.{needs_in}
+use Rattle.scenario.specs.Words.{needs_in}
 use Rattle.scenario.proofs.NeedWords.{after}
-use Rattle.recipe.proofs.packages.read_needs.Given as goal
+use Rattle.scenario.proofs.words.needs.Given as goal
 
 abbrev pub invariant-words : goal.invariant-words
 invariant-words l =
