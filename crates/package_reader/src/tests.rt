@@ -10,22 +10,23 @@ use ucm_base::{Action, Block, ClusterName, Manifest, Needs, VersionText};
 
 /// `install core 1.0.0` with the payload `abc`.
 const INSTALL: &[u8; 186] = b"SWP1\x00\x00\x00\x8b\
-{\"action\":\"install\",\"name\":\"core\",\"needs\":[],\"sha256\":\"ba7816bf8f01cfea414140de5dae2223b00361a396177a9cb410ff61f20015ad\",\"version\":\"1.0.0\"}\
+{\"action\":\"install\",\"name\":\"core\",\"needs\":[],\
+\"sha256\":\"ba7816bf8f01cfea414140de5dae2223b00361a396177a9cb410ff61f20015ad\",\"version\":\"1.0.0\"}\
 \x00\x00\x00\x03abc\
 \x85\x19\xfb\x70\xb0\xde\xd6\xee\x46\x76\xa0\xb2\x3c\xfc\xf9\x33\
 \x4a\x59\x28\xb3\x38\xc4\xd8\xaa\xe2\x4b\x03\xa3\x8c\x17\x3c\xe1";
 
 /// The text of its manifest.
-const INSTALL_TEXT: &[u8] =
-    b"{\"action\":\"install\",\"name\":\"core\",\"needs\":[],\"sha256\":\"ba7816bf8f01cfea414140de5dae2223b00361a396177a9cb410ff61f20015ad\",\"version\":\"1.0.0\"}";
+const INSTALL_TEXT: &[u8] = b"{\"action\":\"install\",\"name\":\"core\",\"needs\":[],\
+\"sha256\":\"ba7816bf8f01cfea414140de5dae2223b00361a396177a9cb410ff61f20015ad\",\"version\":\"1.0.0\"}";
 
 /// The same text with a version that has two numbers.
-const TWO_NUMBERS: &[u8] =
-    b"{\"action\":\"install\",\"name\":\"core\",\"needs\":[],\"sha256\":\"ba7816bf8f01cfea414140de5dae2223b00361a396177a9cb410ff61f20015ad\",\"version\":\"1.0\"}";
+const TWO_NUMBERS: &[u8] = b"{\"action\":\"install\",\"name\":\"core\",\"needs\":[],\
+\"sha256\":\"ba7816bf8f01cfea414140de5dae2223b00361a396177a9cb410ff61f20015ad\",\"version\":\"1.0\"}";
 
 /// A removal of `core` whose digest is that of `abc`.
-const REMOVE: &[u8] =
-    b"{\"action\":\"remove\",\"name\":\"core\",\"needs\":[],\"sha256\":\"ba7816bf8f01cfea414140de5dae2223b00361a396177a9cb410ff61f20015ad\",\"version\":\"1.0.0\"}";
+const REMOVE: &[u8] = b"{\"action\":\"remove\",\"name\":\"core\",\"needs\":[],\
+\"sha256\":\"ba7816bf8f01cfea414140de5dae2223b00361a396177a9cb410ff61f20015ad\",\"version\":\"1.0.0\"}";
 
 fn block(alloc: Global, bytes: &[u8]) -> Result<Block, Fail> {
     if bytes.len() > 2_000_000 {

@@ -6,14 +6,16 @@ use std::test::Fail;
 
 /// `install core 1.0.0` with the payload `abc`.
 const INSTALL: &[u8] = b"SWP1\x00\x00\x00\x8b\
-{\"action\":\"install\",\"name\":\"core\",\"needs\":[],\"sha256\":\"ba7816bf8f01cfea414140de5dae2223b00361a396177a9cb410ff61f20015ad\",\"version\":\"1.0.0\"}\
+{\"action\":\"install\",\"name\":\"core\",\"needs\":[],\
+\"sha256\":\"ba7816bf8f01cfea414140de5dae2223b00361a396177a9cb410ff61f20015ad\",\"version\":\"1.0.0\"}\
 \x00\x00\x00\x03abc\
 \x85\x19\xfb\x70\xb0\xde\xd6\xee\x46\x76\xa0\xb2\x3c\xfc\xf9\x33\
 \x4a\x59\x28\xb3\x38\xc4\xd8\xaa\xe2\x4b\x03\xa3\x8c\x17\x3c\xe1";
 
 /// `remove core 1.0.0`.
 const REMOVE: &[u8] = b"SWP1\x00\x00\x00\x8a\
-{\"action\":\"remove\",\"name\":\"core\",\"needs\":[],\"sha256\":\"e3b0c44298fc1c149afbf4c8996fb92427ae41e4649b934ca495991b7852b855\",\"version\":\"1.0.0\"}\
+{\"action\":\"remove\",\"name\":\"core\",\"needs\":[],\
+\"sha256\":\"e3b0c44298fc1c149afbf4c8996fb92427ae41e4649b934ca495991b7852b855\",\"version\":\"1.0.0\"}\
 \x00\x00\x00\x00\
 \xd4\x59\x26\xeb\x3d\x4a\xe7\x44\x01\x0e\xd3\xfd\xb9\x2b\xb3\x21\
 \x33\x8c\xdb\x98\x44\x66\x1b\xeb\x2c\x61\xd1\xc2\xa5\x97\x3d\x20";

@@ -1,7 +1,8 @@
 //! Scripts: the lines that say what is done to a node, and why a text is no script.
 //!
-//! Layer: stands on `pm_types`, `ucm_base` and `ucm_text`; the commands that run scripts stand on
-//! it. Its one contract: a text is read exactly as the grammar in `specs/` says, or refused at the
+//! Layer: stands on `pm_types`, `ucm_base` and `ucm_text`; recipes and the commands that run scripts
+//! stand on it.
+//! Its one contract: a text is read exactly as the grammar in `specs/` says, or refused at the
 //! first line that is out of it, with the first reason.
 #![tactic(auto)]
 

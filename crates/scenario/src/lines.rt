@@ -38,7 +38,7 @@ pub enum ScriptLine {
     Attach { name: ClusterName, len: u64 },
 }
 
-/// The line `time <n>`, by its words behind the first, as all below.
+/// The line `time <n>`. This and each below is read by the words behind its first.
 fn read_time(words: &[&[u8]]) -> Result<ScriptLine, Why>
     ensures { result ≡ time_line (map (λ w. w.now) words.now) }
 {
