@@ -25,7 +25,8 @@ use Rattle.pm_types.specs.declared.status.Status.{Status}
 use Rattle.pm_types.specs.declared.status.Status.TheVariants.{Idle, Ready, Processing, Verifying, Activated, RolledBack, CleaningUp}
 use Rattle.pm_types.specs.declared.state.StoredTransfer.{StoredTransfer}
 use Rattle.pm_types.specs.NodeState.{NodeState, SessionOf}
-use Rattle.pm_types.specs.Sessions.{Goal, To, CleanUp, Resume, arrive, led_by, status_table}
+use Rattle.pm_types.specs.Refusals.{first_refusal}
+use Rattle.pm_types.specs.Sessions.{Goal, To, CleanUp, Resume, arrive, led_by, session_refusals, status_table}
 use Rattle.pm_types.specs.Steps.{acceptance, accepted, refused_or}
 use Rattle.pm_types.specs.Stored.{Areas, State, IsInOrder, meaning}
 use Rattle.pm_types.specs.Validity.{RunsWhatItShould, should_run}
@@ -35,7 +36,7 @@ use Rattle.node_core.specs.Core.{Holding, IsJudged, IsSound, node_of, refusal_by
 use Rattle.node_core.specs.declared.prepared.Prepared.{Prepared}
 use Rattle.node_core.specs.Packages.{package_reading}
 use Rattle.node_core.specs.Places.{IsCopied, IsCopiedIn, goes_to, units_done}
-use Rattle.node_core.specs.Sessions.{arrived, changes_kept, cleaning_up}
+use Rattle.node_core.specs.Sessions.{OnlyLeads, arrived, changes_kept, cleaning_up}
 
 -- a call that is refused is judged, whatever was ready for it
 pub refused-judged : (v : Holding) (client : ℕ) (call : Call) (why : Refusal) (p : Prepared) → IsSound v → refusal_by v client call ≡ Some why → IsJudged v client call (Refused why) (record v { prepared = p })
@@ -219,9 +220,37 @@ done-judged v client c goal s p before none done leads same table order copied e
         by [] = refl
         by (change ∷ changes) = refl
 
--- a call that only leads somewhere
-pub led-judged : (v : Holding) (client : ℕ) (c : Call) (reply : Reply) (new : Holding) (goal : Goal) → IsSound v → refusal_by v client c ≡ None → acceptance (node_of v) client c ≡ Done
-    → accepted (node_of v) client c (verdict_on v client c) ≡ led_by c (node_of v) → status_table v.state.status c ≡ Some goal → reply ≡ Done → new ≡ record v { state = arrived goal v.state } → IsJudged v client c reply new
+-- where an accepted call leads that does nothing before
+pub led-judged : (v : Holding) (client : ℕ) (c : Call) (reply : Reply) (new : Holding) (goal : Goal)
+    → IsSound v → refusal_by v client c ≡ None → acceptance (node_of v) client c ≡ Done
+    → accepted (node_of v) client c (verdict_on v client c) ≡ led_by c (node_of v)
+    → status_table v.state.status c ≡ Some goal → reply ≡ Done → new ≡ record v { state = arrived goal v.state }
+    → IsJudged v client c reply new
 led-judged v client c reply new goal sound none done leads table replies is =
     subst (λ (x : Reply × Holding). IsJudged v client c x.0 x.1) (sym (λ i. (replies i, is i)))
     (done-judged v client c goal v.state v.prepared (node_of v) none done leads refl table sound.order sound.copied refl)
+
+-- a call that only leads somewhere is refused as its session says, and does nothing before
+module _ (v : Holding) (client : ℕ) (c : Call) (sound : IsSound v) (only : OnlyLeads c) where
+  only-leads : (refusal_by v client c ≡ first_refusal (session_refusals (node_of v) client c))
+      × (acceptance (node_of v) client c ≡ Done)
+      × (accepted (node_of v) client c (verdict_on v client c) ≡ led_by c (node_of v))
+  only-leads = by c only
+    where
+      by : (d : Call) → OnlyLeads d → (refusal_by v client d ≡ first_refusal (session_refusals (node_of v) client d))
+          × (acceptance (node_of v) client d ≡ Done)
+          × (accepted (node_of v) client d (verdict_on v client d) ≡ led_by d (node_of v))
+      by call.Finish o = (refl, refl, refl)
+      by call.Rollback o = (refl, refl, refl)
+      by call.RevertProcessedSwPackages o = (refl, refl, refl)
+      by _ o = elim o [ ]
+
+  pub only-refused : (why : Refusal) (p : Prepared) → first_refusal (session_refusals (node_of v) client c) ≡ Some why
+      → IsJudged v client c (Refused why) (record v { prepared = p })
+  only-refused why p refused = refused-judged v client c why p sound (only-leads.0 ∙ refused)
+
+  pub only-led : (reply : Reply) (new : Holding) (goal : Goal) → first_refusal (session_refusals (node_of v) client c) ≡ None
+      → status_table v.state.status c ≡ Some goal → reply ≡ Done → new ≡ record v { state = arrived goal v.state }
+      → IsJudged v client c reply new
+  only-led reply new goal none =
+      led-judged v client c reply new goal sound (only-leads.0 ∙ none) only-leads.1 only-leads.2

@@ -1,6 +1,8 @@
 -- A stored node's session, and what a call makes of it.
-use Rattle.std.specs.Prelude.{ℕ, Bool, ◌==◌, ◌||◌, not, if◌then◌else◌, [], ◌∷◌, ◌++◌, List, length, map, is_none, option_map, Option, Some, None}
+use Rattle.std.specs.Prelude.{⊤, ℕ, Bool, ◌==◌, ◌||◌, not, if◌then◌else◌, [], ◌∷◌, ◌++◌, List, length, map, is_none, option_map, Option, Some, None}
 use Rattle.std.specs.Option.{option_map_or}
+use Rattle.pm_types.specs.declared.calls.Call.{Call}
+use Rattle.pm_types.specs.declared.calls.Call.TheVariants.{Finish, Rollback, RevertProcessedSwPackages}
 use Rattle.pm_types.specs.declared.clusters.Change.{Change}
 use Rattle.pm_types.specs.declared.clusters.Extent.{Extent}
 use Rattle.pm_types.specs.declared.status.Outcome.{Outcome}
@@ -31,6 +33,13 @@ abbrev pub goal_of : Aim → Goal
 goal_of (to status) = To status
 goal_of (clean_up outcome) = CleanUp outcome
 goal_of resume = Resume
+
+-- a call that does nothing but lead somewhere
+abbrev pub OnlyLeads : Call → Type 0
+OnlyLeads Finish = ⊤
+OnlyLeads Rollback = ⊤
+OnlyLeads RevertProcessedSwPackages = ⊤
+OnlyLeads _ = ⊥
 
 -- the planned changes
 abbrev pub changes_kept : State → List (Change Extent)

@@ -128,9 +128,9 @@ impl<S: Staging> Held<S> {
             Call::DeleteTransfer { id } => self.delete(client, *id),
             Call::ProcessSwPackage { id, tag } => self.process(client, *id, *tag),
             Call::Activate => self.activate(client),
-            Call::Finish => self.finish(client),
-            Call::Rollback => self.roll_back(client),
-            Call::RevertProcessedSwPackages => self.revert(client),
+            Call::Finish | Call::Rollback | Call::RevertProcessedSwPackages => {
+                self.lead(client, call)
+            }
             Call::Cancel { id } => self.cancel(client, *id),
         }
     }

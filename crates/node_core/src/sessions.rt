@@ -1,13 +1,13 @@
 //! The calls on a session.
-ghost use Rattle.std.specs.Prelude.{◌≡◌, ◌≤◌, [], length, None, Some, unwrap_or, IfOk, IfErr, OnOk};
+ghost use Rattle.std.specs.Prelude.{◌≡◌, ◌≤◌, [], length, None, Some, IfOk, IfErr, OnOk};
 ghost use Rattle.std.specs.Option.{option_or};
 ghost use Rattle.ucm_base.specs.Limits.{cluster_limit};
-ghost use Rattle.pm_types.specs.declared.calls.Call.TheVariants.{Activate, Cancel, Finish, ProcessSwPackage, RevertProcessedSwPackages, Rollback};
+ghost use Rattle.pm_types.specs.declared.calls.Call.TheVariants.{Activate, Cancel, ProcessSwPackage};
 ghost use Rattle.pm_types.specs.Refusals.{first_refusal};
 ghost use Rattle.pm_types.specs.Sessions.{parts_refusal, session_refusals, status_table};
 ghost use Rattle.node_core.specs.Core.{IsJudged, IsReady, IsSound, node_of, refusal_by};
-ghost use Rattle.node_core.specs.Prepared.{session_kept, unmet_kept};
-ghost use Rattle.node_core.specs.Sessions.{arrived, begun, changes_kept, cleaning_up, contents_of, goal_of, stopped};
+ghost use Rattle.node_core.specs.Prepared.{session_kept};
+ghost use Rattle.node_core.specs.Sessions.{OnlyLeads, arrived, begun, changes_kept, cleaning_up, contents_of, goal_of, stopped};
 ghost use Rattle.transfer_blocks.specs.Table.{stored_of};
 
 use crate::held::Held;
@@ -77,37 +77,14 @@ impl<S: Staging> Held<S> {
         }
     }
 
-    /// Finish.
-    pub(crate) fn finish(&mut self, client: ClientId) -> Reply
+    /// Finish, Rollback and RevertProcessedSwPackages, each of which only leads somewhere.
+    pub(crate) fn lead(&mut self, client: ClientId, call: &Call) -> Reply
         requires sound { IsSound self.old }
-        ensures judged { IsJudged self.old client Finish result self.new }
+        requires only { OnlyLeads call.now }
+        ensures judged { IsJudged self.old client call.now result self.new }
         ensures faults { self.new.faults ≡ self.old.faults }
     {
-        match self.goal(client, &Call::Finish) {
-            Ok(goal) => self.arrive(goal),
-            Err(refusal) => Reply::Refused(refusal),
-        }
-    }
-
-    /// Rollback.
-    pub(crate) fn roll_back(&mut self, client: ClientId) -> Reply
-        requires sound { IsSound self.old }
-        ensures judged { IsJudged self.old client Rollback result self.new }
-        ensures faults { self.new.faults ≡ self.old.faults }
-    {
-        match self.goal(client, &Call::Rollback) {
-            Ok(goal) => self.arrive(goal),
-            Err(refusal) => Reply::Refused(refusal),
-        }
-    }
-
-    /// RevertProcessedSwPackages.
-    pub(crate) fn revert(&mut self, client: ClientId) -> Reply
-        requires sound { IsSound self.old }
-        ensures judged { IsJudged self.old client RevertProcessedSwPackages result self.new }
-        ensures faults { self.new.faults ≡ self.old.faults }
-    {
-        match self.goal(client, &Call::RevertProcessedSwPackages) {
+        match self.goal(client, call) {
             Ok(goal) => self.arrive(goal),
             Err(refusal) => Reply::Refused(refusal),
         }
@@ -121,7 +98,7 @@ impl<S: Staging> Held<S> {
         ensures faults { self.new.faults ≡ self.old.faults }
     {
         match self.goal(client, &Call::Activate) {
-            Ok(goal) => match self.unmet() {
+            Ok(goal) => match self.prepared.unmet() {
                 Some(refusal) => Reply::Refused(refusal),
                 None => self.arrive(goal),
             },
@@ -202,13 +179,6 @@ impl<S: Staging> Held<S> {
         if let Some(session) = &mut self.session {
             session.processing = None;
         }
-    }
-
-    /// What refuses the activation.
-    fn unmet(&self) -> Option<Refusal>
-        ensures { result ≡ unwrap_or (unmet_kept self.now.prepared) None }
-    {
-        self.prepared.unmet()
     }
 
     /// The session takes up the package, or the one that is ready begins with it.

@@ -12,18 +12,6 @@ pub returns-in-TransferExit-clause-judged : goal.returns-in-TransferExit-clause-
 returns-in-TransferExit-clause-judged g c =
     subst (λ call. IsJudged c.args.self.now c.args.client call c.exit.result c.exit.new.self) (sym c.in-TransferExit.is) c.exit.ensures.judged
 
-pub returns-in-Finish-clause-judged : goal.returns-in-Finish-clause-judged
-returns-in-Finish-clause-judged g c =
-    subst (λ call. IsJudged c.args.self.now c.args.client call c.finish.result c.finish.new.self) (sym c.in-Finish.is) c.finish.ensures.judged
-
-pub returns-in-Rollback-clause-judged : goal.returns-in-Rollback-clause-judged
-returns-in-Rollback-clause-judged g c =
-    subst (λ call. IsJudged c.args.self.now c.args.client call c.roll_back.result c.roll_back.new.self) (sym c.in-Rollback.is) c.roll_back.ensures.judged
-
-pub returns-in-RevertProcessedSwPackages-clause-judged : goal.returns-in-RevertProcessedSwPackages-clause-judged
-returns-in-RevertProcessedSwPackages-clause-judged g c =
-    subst (λ call. IsJudged c.args.self.now c.args.client call c.revert.result c.revert.new.self) (sym c.in-RevertProcessedSwPackages.is) c.revert.ensures.judged
-
 pub returns-in-Cancel-clause-judged : goal.returns-in-Cancel-clause-judged
 returns-in-Cancel-clause-judged g c =
     subst (λ call. IsJudged c.args.self.now c.args.client call c.cancel.result c.cancel.new.self) (sym c.in-Cancel.is) c.cancel.ensures.judged
