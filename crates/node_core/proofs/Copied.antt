@@ -1,6 +1,6 @@
 -- What copying the next unit of a package leaves, and makes ready.
 use Rattle.std.proofs.Common.{◌≡◌, ◌≢◌, refl, sym, subst, ap, ◌∙◌, ℕ, ◌+◌, ◌-◌, ◌*◌, ◌<◌, ◌≤◌, ◌++◌, Bool, true, List, [], ◌∷◌, length, map, take, drop, arith}
-use Rattle.std.specs.Prelude.{◌==◌, min, nat_lt, slice_index_or, slice_range, IfSome, Option, Some, None, Result, Ok, Err, OnOk}
+use Rattle.std.specs.Prelude.{◌==◌, if◌then◌else◌, min, nat_lt, slice_index_or, slice_range, IfSome, Option, Some, None, Result, Ok, Err, OnOk}
 use Rattle.std.proofs.lemmas.Bool.Decides.{nat_tests}
 use Rattle.std.specs.List.{AllByRecursion}
 use Rattle.std.specs.Int.{from_be_bytes, w32}
@@ -28,7 +28,6 @@ use Rattle.transfer_blocks.specs.Areas.{AreasFit, IsArea, LeavesOutside, content
 use Rattle.transfer_blocks.proofs.Bytes.{before-stands, take-overwritten}
 use Rattle.node_laws.proofs.Lists.{each-both, each-unmap, found-has}
 use Rattle.node_core.specs.declared.prepared.Prepared.{Prepared}
-use Rattle.node_core.specs.declared.prepared.Prepared.TheVariants.{Change as Planned}
 use Rattle.node_core.specs.Prepared.{with_length}
 use Rattle.node_core.proofs.Judged.{rise}
 use Rattle.node_core.proofs.Stored.{only}
@@ -42,7 +41,7 @@ use Rattle.pm_types.specs.declared.status.Status.TheVariants.{Processing}
 use Rattle.node_core.specs.Core.{Holding, IsKept, IsSound, node_of}
 use Rattle.node_core.specs.Packages.{package_reading}
 use Rattle.node_core.specs.Places.{IsCopied, IsCopiedIn, IsPartCopied, goes_to}
-use Rattle.node_core.specs.Units.{IsNextUnit, IsPackageReady, IsPartReady, IsReservedWork, IsUnitOf, change_next, extent_in, payload_start, unit_end}
+use Rattle.node_core.specs.Units.{IsPackageReady, IsPartReady, IsReservedWork, IsUnitOf, change_due, change_kept, change_next, extent_in, extent_next, payload_start, unit_end}
 use Rattle.node_core.proofs.Handled.{InHand, at_process, begin-within, busy, bytes_of, in-hand, part_of, payload-is}
 use Rattle.node_core.proofs.Lastly.{change-extent, short, there-is}
 use Rattle.node_core.proofs.Removal.{removal-empty}
@@ -206,28 +205,39 @@ module _ (v : Holding) (x : SessionOf Extent) (id : ℕ) (sound : IsSound (at_pr
     put-kept faults p more = record { state = refl; node = means; order = ordered; copied = copied-still; faults = more }
 
   -- what is ready then
-  abbrev pub change : Change Extent
-  change = change_next (at_process v x id).state id (with_length (part_of h.pack))
+  abbrev pub part : Part ℕ
+  part = with_length (part_of h.pack)
 
-  ready-of : (areas : Areas) (faults : ℕ) → ((t : StoredTransfer) → transfer_meaning package_reading areas t ≡ transfer_meaning package_reading v.areas t)
+  abbrev pub due : Option (Change Extent)
+  due = change_due x.units_done id part (extent_next (at_process v x id).state part)
+
+  abbrev left_with : Areas → ℕ → Prepared → Holding
+  left_with areas faults p = record { areas = areas; faults = faults; state = (at_process v x id).state; prepared = p }
+
+  ready-of : (areas : Areas) (faults : ℕ) (p : Prepared) → change_kept p ≡ due
+      → ((t : StoredTransfer) → transfer_meaning package_reading areas t ≡ transfer_meaning package_reading v.areas t)
       → take (unit_end x.units_done (length payload)) (content_of area areas) ≡ take ((x.units_done + 1) * block_limit) payload
-      → IsReservedWork (record { areas = areas; faults = faults; state = (at_process v x id).state; prepared = Planned change })
-  ready-of areas faults reads bytes =
-      subst (λ o. IfSome o (IsPackageReady (record { areas = areas; faults = faults; state = (at_process v x id).state; prepared = Planned change }) (busy x id) id)) (sym h.is)
-      (subst (AllByRecursion (IsPartReady (record { areas = areas; faults = faults; state = (at_process v x id).state; prepared = Planned change }) (busy x id) id))
-      (sym (ap (λ (k : MeantTransfer). k.parts) (reads h.transfer) ∙ h.parts)) (record { bytes = bytes; change = λ last. refl }, tt))
+      → IsReservedWork (left_with areas faults p)
+  ready-of areas faults p kept reads bytes =
+      subst (λ o. IfSome o (IsPackageReady (left_with areas faults p) (busy x id) id)) (sym h.is)
+      (subst (AllByRecursion (IsPartReady (left_with areas faults p) (busy x id) id))
+      (sym (ap (λ (k : MeantTransfer). k.parts) (reads h.transfer) ∙ h.parts))
+      (record { bytes = bytes; change = λ last. kept ∙ ap (λ b. if b then None else Some (change_next (at_process v x id).state id part)) last }, tt))
 
   unit-bytes : take (at + len) payload ≡ take ((x.units_done + 1) * block_limit) payload
   unit-bytes = ap (λ n. take n payload) ends ∙ take_min ((x.units_done + 1) * block_limit) payload
 
-  pub none-ready : (faults : ℕ) → len ≡ 0 → IsReservedWork (record { areas = v.areas; faults = faults; state = (at_process v x id).state; prepared = Planned change })
-  none-ready faults none = ready-of v.areas faults (λ t. refl)
-      (ap (λ n. take n (content_of area v.areas)) (sym ends ∙ (let z : at + len ≡ at = omega (arith, none) in z)) ∙ copied-so-far ∙ ap (λ n. take n payload) (let z : at ≡ at + len = omega (arith, none) in z) ∙ unit-bytes)
+  pub none-ready : (faults : ℕ) (p : Prepared) → change_kept p ≡ due → len ≡ 0 → IsReservedWork (left_with v.areas faults p)
+  none-ready faults p kept none =
+      let all : at + len ≡ at = omega (arith, none) in
+      ready-of v.areas faults p kept (λ t. refl)
+      (ap (λ n. take n (content_of area v.areas)) (sym ends ∙ all) ∙ copied-so-far ∙ ap (λ n. take n payload) (sym all) ∙ unit-bytes)
 
-  pub put-ready : (fit : AreasFit v.areas) (some : 0 < len) (areas : Areas) (faults : ℕ) → LeavesOutside area at len v.areas areas
+  pub put-ready : (fit : AreasFit v.areas) (some : 0 < len) (areas : Areas) (faults : ℕ) (p : Prepared) → change_kept p ≡ due
+      → LeavesOutside area at len v.areas areas
       → content_of area areas ≡ overwritten at (take len (drop at payload)) (content_of area v.areas)
-      → IsReservedWork (record { areas = areas; faults = faults; state = (at_process v x id).state; prepared = Planned change })
-  put-ready fit some areas faults left put = ready-of areas faults (same-read fit some areas left)
+      → IsReservedWork (left_with areas faults p)
+  put-ready fit some areas faults p kept left put = ready-of areas faults p kept (same-read fit some areas left)
       (ap (λ n. take n (content_of area areas)) (sym ends) ∙ ap (take (at + len)) put
       ∙ take-overwritten at (take len (drop at payload)) (content_of area v.areas) done-lies (at + len) wide
       ∙ ap (λ b. b ++ take len (drop at payload)) copied-so-far
@@ -248,20 +258,31 @@ module _ {v w : Holding} (e : v ≡ w) (x : SessionOf Extent) (id : ℕ) (is : x
 -- what a next unit needs, and what copying it leaves and makes ready
 pub record Needs (v : Holding) (n : NextUnit) : Type 0 where
   pub slot : IsArea (Transfer n.slot)
-  pub area : IsArea (side_of n.change.part.payload)
+  pub area : IsArea (side_of n.payload)
   pub head : 0 < n.len → 8 ≤ length (content_of (Transfer n.slot) v.areas)
-  pub range : 0 < n.len → payload_start (content_of (Transfer n.slot) v.areas) + n.at + n.len ≤ length (content_of (Transfer n.slot) v.areas)
-  pub done : n.at ≤ length (content_of (side_of n.change.part.payload) v.areas)
+  pub range : 0 < n.len
+      → payload_start (content_of (Transfer n.slot) v.areas) + n.at + n.len ≤ length (content_of (Transfer n.slot) v.areas)
+  pub done : n.at ≤ length (content_of (side_of n.payload) v.areas)
   pub fits : n.at + n.len ≤ package_limit
-  pub kept : AreasFit v.areas → 0 < n.len → (new : Holding) → new.state ≡ v.state → v.faults ≤ new.faults → LeavesOutside (side_of n.change.part.payload) n.at n.len v.areas new.areas → IsKept v new
-  pub ready : AreasFit v.areas → 0 < n.len → (new : Holding) → new.state ≡ v.state → new.prepared ≡ Planned n.change → LeavesOutside (side_of n.change.part.payload) n.at n.len v.areas new.areas
-      → new.areas ≡ with_content (side_of n.change.part.payload) (overwritten n.at (slice_range (content_of (Transfer n.slot) v.areas) (payload_start (content_of (Transfer n.slot) v.areas) + n.at) (payload_start (content_of (Transfer n.slot) v.areas) + n.at + n.len)) (content_of (side_of n.change.part.payload) v.areas)) v.areas
+  pub kept : AreasFit v.areas → 0 < n.len → (new : Holding) → new.state ≡ v.state → v.faults ≤ new.faults
+      → LeavesOutside (side_of n.payload) n.at n.len v.areas new.areas → IsKept v new
+  pub ready : AreasFit v.areas → 0 < n.len → (new : Holding) → new.state ≡ v.state → change_kept new.prepared ≡ n.change
+      → LeavesOutside (side_of n.payload) n.at n.len v.areas new.areas
+      → new.areas ≡ with_content (side_of n.payload) (overwritten n.at
+      (slice_range (content_of (Transfer n.slot) v.areas)
+      (payload_start (content_of (Transfer n.slot) v.areas) + n.at)
+      (payload_start (content_of (Transfer n.slot) v.areas) + n.at + n.len))
+      (content_of (side_of n.payload) v.areas)) v.areas
       → IsReservedWork new
-  pub none : n.len ≡ 0 → (new : Holding) → new.areas ≡ v.areas → new.state ≡ v.state → new.prepared ≡ Planned n.change → IsReservedWork new
+  pub none : n.len ≡ 0 → (new : Holding) → new.areas ≡ v.areas → new.state ≡ v.state → change_kept new.prepared ≡ n.change
+      → IsReservedWork new
 
 module _ (v : Holding) (x : SessionOf Extent) (id : ℕ) (sound : IsSound (at_process v x id)) (h : InHand v x id) where
+  abbrev goes : Extent
+  goes = extent_next (at_process v x id).state (part v x id sound h)
+
   abbrev next : NextUnit
-  next = record { slot = h.transfer.slot; at = at v x id sound h; len = len v x id sound h; change = change v x id sound h }
+  next = record { slot = h.transfer.slot; at = at v x id sound h; len = len v x id sound h; payload = goes; change = due v x id sound h }
 
   slot-area : IsArea (Transfer h.transfer.slot)
   slot-area = slot-is (at_process v x id) sound x.owner id h.transfer h.is
@@ -269,35 +290,39 @@ module _ (v : Holding) (x : SessionOf Extent) (id : ℕ) (sound : IsSound (at_pr
   lies : h.transfer.header.received ≤ length (content_of (Transfer h.transfer.slot) v.areas)
   lies = came-lies (at_process v x id) sound x.owner id h.transfer h.is
 
-  is-side : side_of (change v x id sound h).part.payload ≡ area v x id sound h
+  is-side : side_of goes ≡ area v x id sound h
   is-side = goes-side (at_process v x id).state h.pack.manifest h.pack.manifest.action (length h.pack.payload)
 
-  as-new : (new : Holding) → new.state ≡ (at_process v x id).state → new ≡ record { areas = new.areas; faults = new.faults; state = (at_process v x id).state; prepared = new.prepared }
-  as-new new e = λ i. record new { state = e i }
-
-  as-planned : (new : Holding) → new.state ≡ (at_process v x id).state → new.prepared ≡ Planned (change v x id sound h)
-      → new ≡ record { areas = new.areas; faults = new.faults; state = (at_process v x id).state; prepared = Planned (change v x id sound h) }
-  as-planned new e p = λ i. record new { state = e i; prepared = p i }
+  as-left : (new : Holding) → new.state ≡ (at_process v x id).state → new ≡ left_with v x id sound h new.areas new.faults new.prepared
+  as-left new e = λ i. record new { state = e i }
 
   pub needs-next : Needs (at_process v x id) next
-  needs-next = record {
-    slot = slot-area;
-    area = area-is v x id sound h;
-    head = λ some. head-lies h.transfer.header.received (content_of (Transfer h.transfer.slot) v.areas) h.pack h.reads lies (at v x id sound h) (len v x id sound h) some (within v x id sound h);
-    range = λ some. unit-lies h.transfer.header.received (content_of (Transfer h.transfer.slot) v.areas) h.pack h.reads lies (at v x id sound h) (len v x id sound h) some (within v x id sound h);
-    done = subst (λ a. at v x id sound h ≤ length (content_of a v.areas)) (sym is-side) (done-lies v x id sound h);
-    fits = fits v x id sound h;
-    kept = λ fit some new state more left. subst (IsKept (at_process v x id)) (sym (as-new new state))
-        (put-kept v x id sound h fit some new.areas (subst (λ a. LeavesOutside a (at v x id sound h) (len v x id sound h) v.areas new.areas) is-side left) new.faults new.prepared more);
-    ready = λ fit some new state prepared left put. subst IsReservedWork (sym (as-planned new state prepared))
-        (put-ready v x id sound h fit some new.areas new.faults (subst (λ a. LeavesOutside a (at v x id sound h) (len v x id sound h) v.areas new.areas) is-side left)
-        (ap (λ a. content_of a new.areas) (sym is-side) ∙ ap (content_of (side_of (change v x id sound h).part.payload)) put ∙ content-here (side_of (change v x id sound h).part.payload) v.areas (area-is v x id sound h) fit _
-        ∙ ap (λ b. overwritten (at v x id sound h) b (content_of (side_of (change v x id sound h).part.payload) v.areas))
-        (piece-is h.transfer.header.received (content_of (Transfer h.transfer.slot) v.areas) h.pack h.reads lies (at v x id sound h) (len v x id sound h) some (within v x id sound h))
-        ∙ ap (λ a. overwritten (at v x id sound h) (take (len v x id sound h) (drop (at v x id sound h) h.pack.payload)) (content_of a v.areas)) is-side));
-    none = λ zero new areas state prepared. subst IsReservedWork (sym (as-planned new state prepared ∙ (λ i. record { areas = areas i; faults = new.faults; state = (at_process v x id).state; prepared = Planned (change v x id sound h) })))
-        (none-ready v x id sound h new.faults zero);
-  }
+  needs-next =
+      let came = h.transfer.header.received in
+      let slot = content_of (Transfer h.transfer.slot) v.areas in
+      let side = content_of (side_of goes) v.areas in
+      let from = at v x id sound h in
+      let n = len v x id sound h in
+      let inside = within v x id sound h in record {
+        slot = slot-area;
+        area = area-is v x id sound h;
+        head = λ some. head-lies came slot h.pack h.reads lies from n some inside;
+        range = λ some. unit-lies came slot h.pack h.reads lies from n some inside;
+        done = subst (λ a. from ≤ length (content_of a v.areas)) (sym is-side) (done-lies v x id sound h);
+        fits = fits v x id sound h;
+        kept = λ fit some new state more left. subst (IsKept (at_process v x id)) (sym (as-left new state))
+            (put-kept v x id sound h fit some new.areas (subst (λ a. LeavesOutside a from n v.areas new.areas) is-side left) new.faults new.prepared more);
+        ready = λ fit some new state kept left put. subst IsReservedWork (sym (as-left new state))
+            (put-ready v x id sound h fit some new.areas new.faults new.prepared kept
+            (subst (λ a. LeavesOutside a from n v.areas new.areas) is-side left)
+            (ap (λ a. content_of a new.areas) (sym is-side) ∙ ap (content_of (side_of goes)) put
+            ∙ content-here (side_of goes) v.areas (area-is v x id sound h) fit _
+            ∙ ap (λ b. overwritten from b side) (piece-is came slot h.pack h.reads lies from n some inside)
+            ∙ ap (λ a. overwritten from (take n (drop from h.pack.payload)) (content_of a v.areas)) is-side));
+        none = λ zero new areas state kept.
+            subst IsReservedWork (sym (as-left new state ∙ ap (λ a. left_with v x id sound h a new.faults new.prepared) areas))
+            (none-ready v x id sound h new.faults new.prepared kept zero);
+      }
 
 -- the same of a node in processing, and of its next unit
 pub needs : {v w : Holding} → v ≡ w → IsSound w → w.state.status ≡ Processing → (n : NextUnit) → IsUnitOf w n → Needs v n
@@ -307,12 +332,16 @@ needs {v = v} {w = w} e sound q n u =
     let whole = subst IsSound base sound in
     let hand = in-hand w u.x u.id whole in
     let same : u.transfer ≡ hand.transfer = let z = sym u.stored ∙ hand.is in cc in
-    let part : u.part ≡ with_length (part_of hand.pack) = let z = sym u.contents ∙ ap (λ (t : StoredTransfer). t.contents) same ∙ hand.contents in cc in
+    let brings : u.part ≡ part w u.x u.id whole hand =
+    let z = sym u.contents ∙ ap (λ (t : StoredTransfer). t.contents) same ∙ hand.contents in cc in
+    let extent : n.payload ≡ goes w u.x u.id whole hand =
+    u.payload ∙ ap (λ (k : Holding). extent_next k.state u.part) base ∙ ap (extent_next (at_process w u.x u.id).state) brings in
     let is : n ≡ next w u.x u.id whole hand = λ i. record {
       slot = (u.slot ∙ ap (λ (t : StoredTransfer). t.slot) same) i;
       at = u.at i;
-      len = (u.len ∙ ap (λ (k : Part ℕ). min (k.payload - u.x.units_done * block_limit) block_limit) part) i;
-      change = (u.change ∙ ap (λ (k : Holding). change_next k.state u.id u.part) base ∙ ap (change_next (at_process w u.x u.id).state u.id) part) i;
+      len = (u.len ∙ ap (λ (k : Part ℕ). min (k.payload - u.x.units_done * block_limit) block_limit) brings) i;
+      payload = extent i;
+      change = (u.change ∙ (λ j. change_due u.x.units_done u.id (brings j) (extent j))) i;
     } in
     subst (Needs v) (sym is) (subst (λ k. Needs k (next w u.x u.id whole hand)) (sym (e ∙ base)) (needs-next w u.x u.id whole hand))
 

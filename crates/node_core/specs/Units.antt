@@ -1,5 +1,5 @@
 -- Units of work.
-use Rattle.std.specs.Prelude.{◌≡◌, ◌==◌, ◌||◌, ℕ, ◌+◌, ◌*◌, min, nat_lt, not, Bool, false, ⊤, List, length, sum_by, take, unwrap_or, IfSome, Option, Some, None, [], ◌∷◌, ◌-◌}
+use Rattle.std.specs.Prelude.{◌≡◌, ◌==◌, ◌||◌, ℕ, ◌+◌, ◌*◌, min, nat_lt, not, if◌then◌else◌, Bool, false, ⊤, List, length, sum_by, take, unwrap_or, IfSome, Option, Some, None, [], ◌∷◌, ◌-◌}
 use Rattle.std.specs.List.{AllByRecursion, list_any}
 use Rattle.std.specs.Option.{option_map_or}
 use Rattle.std.specs.Str.{bytes_eq}
@@ -78,12 +78,22 @@ abbrev pub extent_in : Area → ℕ → Extent
 extent_in (Side place side) size = record { place = place; side = side; length = size }
 extent_in (Transfer slot) size = record { place = slot; side = 0; length = size }
 
+-- where a part's payload goes
+abbrev pub extent_next : State → Part ℕ → Extent
+extent_next s part = extent_in (goes_to s part.manifest part.manifest.action) part.payload
+
+-- the change of a part whose payload goes to an extent
+abbrev pub change_to : ℕ → Part ℕ → Extent → Change Extent
+change_to id part extent = record { transfer = id; part = record { manifest = part.manifest; payload = extent } }
+
 -- the change that a part's last unit plans
 abbrev pub change_next : State → ℕ → Part ℕ → Change Extent
-change_next s id part = record {
-  transfer = id;
-  part = record { manifest = part.manifest; payload = extent_in (goes_to s part.manifest part.manifest.action) part.payload };
-}
+change_next s id part = change_to id part (extent_next s part)
+
+-- what the unit behind these done ones plans: the change, if it is the part's last
+abbrev pub change_due : ℕ → ℕ → Part ℕ → Extent → Option (Change Extent)
+change_due done id part extent =
+    if nat_lt (done + 1) (units_of part.payload) then None else Some (change_to id part extent)
 
 -- what the next unit of a part needs: its bytes lie behind the done ones, and the last one's change is ready
 pub record IsPartReady (v : Holding) (x : SessionOf Extent) (id : ℕ) (part : Part Bytes) : Type 0 where
@@ -140,7 +150,8 @@ pub record IsUnitOf (v : Holding) (n : NextUnit) : Type 0 where
   pub slot : n.slot ≡ transfer.slot
   pub at : n.at ≡ x.units_done * block_limit
   pub len : n.len ≡ min (part.payload - x.units_done * block_limit) block_limit
-  pub change : n.change ≡ change_next v.state id part
+  pub payload : n.payload ≡ extent_next v.state part
+  pub change : n.change ≡ change_due x.units_done id part n.payload
 
 abbrev pub IsNextUnit : Holding → Option NextUnit → Type 0
 IsNextUnit v None = ⊥

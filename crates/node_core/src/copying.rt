@@ -7,24 +7,28 @@ ghost use Rattle.transfer_blocks.specs.Areas.{IsArea, LeavesOutside, content_of,
 ghost use Rattle.transfer_blocks.specs.Faults.{HasRisen};
 ghost use Rattle.transfer_blocks.specs.declared.area.Area.TheVariants.{Transfer};
 ghost use Rattle.node_core.specs.Core.{IsKept, IsSound};
-ghost use Rattle.node_core.specs.Units.{IsNextUnit, IsReservedWork, payload_start};
+ghost use Rattle.node_core.specs.Units.{IsNextUnit, IsReservedWork, change_due, payload_start};
 
 use crate::held::Held;
 use crate::node::Hold;
 use crate::prepared::Prepared;
-use pm_types::{Change, Extent, Part};
+use crate::process::units_of;
+use pm_types::{Change, Contents, Extent, Part};
 use std::alloc::{AllocError, Global};
 use transfer_blocks::{Area, Staging};
 use ucm_base::limits::BLOCK_LIMIT;
 
-/// The next unit of a package: where its bytes lie and how many they are, and the change that the last unit plans.
+/// The next unit of a package: where its bytes lie and how many they are, where they go, and what it plans.
 #[derive(Drop)]
 pub(crate) struct NextUnit {
     pub(crate) slot: u8,
     /// The payload's bytes of the units done.
     pub(crate) at: u64,
     pub(crate) len: u64,
-    pub(crate) change: Change<Extent>,
+    /// Where the payload goes.
+    pub(crate) payload: Extent,
+    /// The change, which only the last unit plans.
+    pub(crate) change: Option<Change<Extent>>,
 }
 
 impl<S: Staging> Held<S> {
@@ -44,16 +48,17 @@ impl<S: Staging> Held<S> {
             slot,
             at,
             len,
+            payload,
             change,
         } = next;
-        let area = Area::Side {
-            place: change.part.payload.place,
-            side: change.part.payload.side,
-        };
-        self.prepared = Prepared::Change(change);
+        self.prepared = Prepared::planning(change);
         if len == 0 {
             return Ok(());
         }
+        let area = Area::Side {
+            place: payload.place,
+            side: payload.side,
+        };
         self.copy(slot, area, at, len)
     }
 
@@ -79,13 +84,12 @@ impl<S: Staging> Held<S> {
         let at = u64::from(session.units_done) * BLOCK_LIMIT;
         let len = size.saturating_sub(at).min(BLOCK_LIMIT);
         let payload = self.goes_to(&part.manifest, part.payload);
-        let manifest = part.manifest.copied(alloc)?;
-        let part = Part { manifest, payload };
         Ok(Some(NextUnit {
             slot: transfer.slot,
             at,
             len,
-            change: Change { transfer: id, part },
+            payload,
+            change: change_due(alloc, session.units_done, id, part, payload)?,
         }))
     }
 
@@ -117,6 +121,24 @@ impl<S: Staging> Held<S> {
         self.staging.put(area, at, bytes.as_slice())?;
         Ok(())
     }
+}
+
+// The change that the unit behind these done ones plans, which only the last one does.
+fn change_due(
+    alloc: Global,
+    done: u32,
+    id: u32,
+    part: &Contents,
+    payload: Extent,
+) -> Result<Option<Change<Extent>>, AllocError>
+    ensures { IfOk result (λ change. change ≡ change_due done id part.now payload) }
+{
+    if u64::from(done) + 1 < units_of(part.payload) {
+        return Ok(None);
+    }
+    let manifest = part.manifest.copied(alloc)?;
+    let part = Part { manifest, payload };
+    Ok(Some(Change { transfer: id, part }))
 }
 
 // The number that four bytes spell.

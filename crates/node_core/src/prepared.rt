@@ -23,6 +23,16 @@ pub enum Prepared {
 }
 
 impl Prepared {
+    /// The change that a unit plans, if it does.
+    pub(crate) fn planning(change: Option<Change<Extent>>) -> Prepared
+        ensures { change_kept result ≡ change }
+    {
+        match change {
+            Some(change) => Prepared::Change(change),
+            None => Prepared::Nothing,
+        }
+    }
+
     /// Takes the verdict; where there is none the bytes are no package.
     pub(crate) fn take_verdict(&mut self) -> ExitVerdict
         ensures { result ≡ verdict_in (verdict_kept self.old) }

@@ -53,8 +53,8 @@ fn all_units(contents: &PartList) -> u64
     }
 }
 
-// The units that bring a payload of this size.
-fn units_of(size: u32) -> u64
+/// The units that bring a payload of this size.
+pub(crate) fn units_of(size: u32) -> u64
     ensures { result ≡ units_of size }
 {
     ((u64::from(size) + BLOCK_LIMIT - 1) / BLOCK_LIMIT).max(1)

@@ -1,5 +1,5 @@
 use Rattle.std.proofs.Common.{◌≡◌, refl, sym, subst, ap, ◌∙◌, ℕ, ◌<◌, arith}
-use Rattle.node_core.specs.Units.{IsNextUnit}
+use Rattle.node_core.specs.Units.{IsNextUnit, change_kept}
 use Rattle.node_core.proofs.Copied.{needs, on-ok}
 use Rattle.node_core.proofs.Staging.{kept-from}
 use Rattle.node_core.proofs.held.Held.reserve_unit.Goals as goal
@@ -9,7 +9,7 @@ some-left n some = omega (arith, some)
 
 pub returns-then-len-eq0-clause-ready : goal.returns-then-len-eq0-clause-ready
 returns-then-len-eq0-clause-ready g c =
-    (needs c.self.view_is c.requires.sound c.requires.status c.in-Some.next (subst (IsNextUnit c.args.self.now) c.in-Some.is c.in_ok-next.ensures)).none c.if-len-eq0.true _ refl refl refl
+    (needs c.self.view_is c.requires.sound c.requires.status c.in-Some.next (subst (IsNextUnit c.args.self.now) c.in-Some.is c.in_ok-next.ensures)).none c.if-len-eq0.true _ refl refl c.planning.ensures
 
 pub copy-requires-clause-slot : goal.copy-requires-clause-slot
 copy-requires-clause-slot g c = (needs c.self.view_is c.requires.sound c.requires.status c.in-Some.next (subst (IsNextUnit c.args.self.now) c.in-Some.is c.in_ok-next.ensures)).slot
@@ -38,5 +38,5 @@ pub returns-clause-ready : goal.returns-clause-ready
 returns-clause-ready g c =
     on-ok c.copy.result
     (λ put. (needs c.self.view_is c.requires.sound c.requires.status c.in-Some.next (subst (IsNextUnit c.args.self.now) c.in-Some.is c.in_ok-next.ensures)).ready (g.met.S.Staging.areas_fit c.self.inside.staging)
-    (some-left c.in-Some.next.len c.if-len-eq0.false) c.copy.new.self c.copy.ensures.state c.copy.ensures.prepared c.copy.ensures.left put)
+    (some-left c.in-Some.next.len c.if-len-eq0.false) c.copy.new.self c.copy.ensures.state (ap change_kept c.copy.ensures.prepared ∙ c.planning.ensures) c.copy.ensures.left put)
     c.copy.ensures.put
