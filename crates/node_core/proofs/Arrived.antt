@@ -1,42 +1,18 @@
 -- Where a call leads, a stored node stands for the node there, and stays in order.
-use Rattle.std.proofs.Common.{◌≡◌, refl, sym, subst, ap, ◌∙◌, ℕ, ◌*◌, [], ◌∷◌, List, take}
-use Rattle.std.specs.Prelude.{Option, Some, None, IfSome}
-use Rattle.std.specs.Option.{option_map_or}
-use Rattle.ucm_base.specs.declared.parts.Action.{Action}
-use Rattle.ucm_base.specs.declared.parts.Action.TheVariants.{Install, Update, Remove}
-use Rattle.ucm_base.specs.declared.parts.Manifest.{Manifest}
-use Rattle.ucm_base.specs.Limits.{block_limit}
-use Rattle.ucm_base.specs.Parts.{Bytes}
-use Rattle.pm_types.specs.declared.clusters.Part.{Part}
-use Rattle.transfer_blocks.specs.Areas.{content_of}
-use Rattle.pm_types.specs.declared.calls.Call.{Call}
+use Rattle.node_core.proofs.Names.{Action, Activated, AllByRecursion, Area, Areas, BeingProcessed, Bytes, Call}
+use Rattle.node_core.proofs.Names.{Change, CleanUp, CleaningUp, Cluster, Done, Extent, Goal, Holding, Idle, IfSome}
+use Rattle.node_core.proofs.Names.{Install, IsCopied, IsCopiedIn, IsInOrder, IsJudged, IsSound, List, Manifest}
+use Rattle.node_core.proofs.Names.{NodeState, None, Old, OnlyLeads, Option, Outcome, Part, Phase, Prepared, Processed}
+use Rattle.node_core.proofs.Names.{Processing, Ready, Refusal, Refused, Remove, Reply, Resume, RolledBack}
+use Rattle.node_core.proofs.Names.{RunsWhatItShould, SessionOf, Side, Some, State, Status, StoredTransfer, To}
+use Rattle.node_core.proofs.Names.{Transferred, Transferring, Update, Verifying, acceptance, accepted, all_places, ap}
+use Rattle.node_core.proofs.Names.{arrive, arrived, block_limit, changes_kept, cleaning_up, cluster_at, content_of}
+use Rattle.node_core.proofs.Names.{find, first_refusal, goes_to, led_by, list_any, meaning, node_of, not}
+use Rattle.node_core.proofs.Names.{option_map_or, package_reading, places_in, refl, refusal_by, refused_or}
+use Rattle.node_core.proofs.Names.{running_at, session_refusals, should_run, status_table, subst, sym, take}
+use Rattle.node_core.proofs.Names.{units_done, unwrap_or, verdict_on, [], ℕ, ◌*◌, ◌-◌, ◌==◌, ◌∙◌, ◌∷◌, ◌≡◌}
 use Rattle.pm_types.specs.declared.calls.Call.TheVariants as call
-use Rattle.pm_types.specs.declared.clusters.Change.{Change}
-use Rattle.pm_types.specs.declared.clusters.Cluster.{Cluster}
-use Rattle.pm_types.specs.declared.clusters.Extent.{Extent}
-use Rattle.pm_types.specs.declared.replies.Refusal.{Refusal}
-use Rattle.pm_types.specs.declared.replies.Reply.{Reply}
-use Rattle.pm_types.specs.declared.replies.Reply.TheVariants.{Done, Refused}
-use Rattle.pm_types.specs.declared.status.Outcome.{Outcome}
-use Rattle.pm_types.specs.declared.status.Outcome.TheVariants.{Old}
-use Rattle.pm_types.specs.declared.status.Phase.{Phase}
-use Rattle.pm_types.specs.declared.status.Phase.TheVariants.{Transferring, Transferred, Processing as BeingProcessed, Processed}
-use Rattle.pm_types.specs.declared.status.Status.{Status}
-use Rattle.pm_types.specs.declared.status.Status.TheVariants.{Idle, Ready, Processing, Verifying, Activated, RolledBack, CleaningUp}
-use Rattle.pm_types.specs.declared.state.StoredTransfer.{StoredTransfer}
-use Rattle.pm_types.specs.NodeState.{NodeState, SessionOf}
-use Rattle.pm_types.specs.Refusals.{first_refusal}
-use Rattle.pm_types.specs.Sessions.{Goal, To, CleanUp, Resume, arrive, led_by, session_refusals, status_table}
-use Rattle.pm_types.specs.Steps.{acceptance, accepted, refused_or}
-use Rattle.pm_types.specs.Stored.{Areas, State, IsInOrder, meaning}
-use Rattle.pm_types.specs.Validity.{RunsWhatItShould, should_run}
-use Rattle.transfer_blocks.specs.declared.area.Area.{Area}
 use Rattle.node_laws.proofs.Lists.{each-imp}
-use Rattle.node_core.specs.Core.{Holding, IsJudged, IsSound, node_of, refusal_by, verdict_on}
-use Rattle.node_core.specs.declared.prepared.Prepared.{Prepared}
-use Rattle.node_core.specs.Packages.{package_reading}
-use Rattle.node_core.specs.Places.{IsCopied, IsCopiedIn, goes_to, units_done}
-use Rattle.node_core.specs.Sessions.{OnlyLeads, arrived, changes_kept, cleaning_up}
 
 -- a call that is refused is judged, whatever was ready for it
 pub refused-judged : (v : Holding) (client : ℕ) (call : Call) (why : Refusal) (p : Prepared) → IsSound v → refusal_by v client call ≡ Some why → IsJudged v client call (Refused why) (record v { prepared = p })
@@ -48,20 +24,38 @@ refused-judged v client call why p sound refused = record {
   entries = refl;
 }
 
--- whatever a session has processed and decided, it has the same plan
-abbrev pub marked : Option ℕ → ℕ → Option Outcome → SessionOf Extent → SessionOf Extent
-marked processing done outcome x = record x { processing = processing; units_done = done; outcome = outcome }
+-- the same cluster runs
+running-by : (s n : State) → n.running ≡ s.running → (m : Manifest) → running_at n m.name ≡ running_at s m.name
+running-by s n ran m =
+    ap (λ cs. option_map_or (λ (c : Cluster Extent). c.content) (cluster_at cs m.name) (record { place = 0; side = 0; length = 0 })) ran
 
--- a package in processing goes where it went
-pub copied-in : (areas : Areas) (s n : State) → units_done n ≡ units_done s → ((m : Manifest) (a : Action) → goes_to n m a ≡ goes_to s m a) → (t : StoredTransfer) (phase : Phase) → IsCopiedIn package_reading areas s t phase → IsCopiedIn package_reading areas n t phase
-copied-in areas s n done goes t BeingProcessed copied =
-    each-imp _ _ (λ part c. subst (λ (x : ℕ × Area). IsAt part x.0 x.1) (sym (λ i. (done i, goes part.manifest part.manifest.action i))) c) _ copied
+-- a payload goes to the same side by the same clusters and places
+pub goes-by : (s n : State) → n.running ≡ s.running → places_in n ≡ places_in s → (m : Manifest) (a : Action) → goes_to n m a ≡ goes_to s m a
+goes-by s n ran places m Install =
+    ap (λ pairs. Side (unwrap_or (find (λ place. not (list_any (λ taken. taken.1 == place) pairs)) all_places) 0) 0) places
+goes-by s n ran places m Update = ap (λ (e : Extent). Side e.place (1 - e.side)) (running-by s n ran m)
+goes-by s n ran places m Remove = ap (λ (e : Extent). Side e.place e.side) (running-by s n ran m)
+
+-- so what is copied stays copied while as many units are done
+pub copied-by : (areas : Areas) (s n : State) → units_done n ≡ units_done s → n.running ≡ s.running → places_in n ≡ places_in s
+    → (ts : List StoredTransfer) → AllByRecursion (λ t. IsCopiedIn package_reading areas s t t.header.phase) ts
+    → AllByRecursion (λ t. IsCopiedIn package_reading areas n t t.header.phase) ts
+copied-by areas s n done ran places ts copied = each-imp _ _ (λ t. in_phase t t.header.phase) ts copied
   where
     IsAt : Part Bytes → ℕ → Area → Type 0
     IsAt part k area = take (k * block_limit) (content_of area areas) ≡ take (k * block_limit) part.payload
-copied-in areas s n done goes t Transferring copied = tt
-copied-in areas s n done goes t Transferred copied = tt
-copied-in areas s n done goes t Processed copied = tt
+
+    in_phase : (t : StoredTransfer) (phase : Phase) → IsCopiedIn package_reading areas s t phase → IsCopiedIn package_reading areas n t phase
+    in_phase t BeingProcessed each =
+        each-imp _ _ (λ part c. subst (λ (x : ℕ × Area). IsAt part x.0 x.1) (sym (λ i. (done i, goes-by s n ran places part.manifest part.manifest.action i))) c) _ each
+    in_phase t Transferring each = tt
+    in_phase t Transferred each = tt
+    in_phase t Processed each = tt
+
+-- whatever a session has processed, verified and decided, it has the same plan
+abbrev pub marked : Option ℕ → ℕ → ℕ → Option Outcome → SessionOf Extent → SessionOf Extent
+marked processing done verified outcome x =
+    record x { processing = processing; units_done = done; verified = verified; outcome = outcome }
 
 module _ (areas : Areas) (s : State) where
   -- the state with another session
@@ -69,25 +63,11 @@ module _ (areas : Areas) (s : State) where
   withs status o = record s { status = status; session = o }
 
   -- the same plan under other marks is in order, where it should run
-  pub marked-order : (status : Status) (x : SessionOf Extent) (processing : Option ℕ) (done : ℕ) (outcome : Option Outcome) → IsInOrder package_reading areas (withs s.status (Some x)) → s.running ≡ should_run x status outcome
-      → IsInOrder package_reading areas (withs status (Some (marked processing done outcome x)))
-  marked-order status x processing done outcome i runs = record {
-    clusters = i.clusters;
-    session = i.session;
-    transfers = i.transfers;
-    slots = i.slots;
-    places = i.places;
-    running = runs;
-  }
-
-  goes-marked : (a b : Status) (x : SessionOf Extent) (processing : Option ℕ) (done : ℕ) (outcome : Option Outcome) (m : Manifest) (act : Action) → goes_to (withs b (Some (marked processing done outcome x))) m act ≡ goes_to (withs a (Some x)) m act
-  goes-marked a b x processing done outcome m Install = refl
-  goes-marked a b x processing done outcome m Update = refl
-  goes-marked a b x processing done outcome m Remove = refl
-
-  pub marked-copied : (status : Status) (x : SessionOf Extent) (processing : Option ℕ) (outcome : Option Outcome) → IsCopied package_reading areas (withs s.status (Some x)) → IsCopied package_reading areas (withs status (Some (marked processing x.units_done outcome x)))
-  marked-copied status x processing outcome copied =
-      each-imp _ _ (λ t c. copied-in areas (withs s.status (Some x)) (withs status (Some (marked processing x.units_done outcome x))) refl (goes-marked s.status status x processing x.units_done outcome) t t.header.phase c) s.transfers copied
+  pub marked-order : (status : Status) (x : SessionOf Extent) (processing : Option ℕ) (done verified : ℕ) (outcome : Option Outcome)
+      → IsInOrder package_reading areas (withs s.status (Some x)) → s.running ≡ should_run x status outcome
+      → IsInOrder package_reading areas (withs status (Some (marked processing done verified outcome x)))
+  marked-order status x processing done verified outcome i runs =
+      record { clusters = i.clusters; session = i.session; transfers = i.transfers; slots = i.slots; places = i.places; running = runs }
 
 -- the state after a processing that was cancelled
 abbrev resumed : State → List (Change Extent) → State
@@ -144,7 +124,7 @@ module _ (areas : Areas) where
     where
       go : (o : Option (SessionOf Extent)) → IfSome o (λ x. s.running ≡ runs-at x (CleanUp outcome)) → IsInOrder package_reading areas (record s { session = o }) → IsInOrder package_reading areas (cleaning_up outcome (record s { session = o }))
       go None runs i = record { clusters = i.clusters; session = tt; transfers = i.transfers; slots = i.slots; places = i.places; running = tt }
-      go (Some x) runs i = marked-order areas s CleaningUp x x.processing x.units_done (Some outcome) i runs
+      go (Some x) runs i = marked-order areas s CleaningUp x x.processing x.units_done x.verified (Some outcome) i runs
 
   to-order : (status : Status) (s : State) → IfSome s.session (λ x. s.running ≡ should_run x status x.outcome) → IsInOrder package_reading areas s → IsInOrder package_reading areas (record s { status = status })
   to-order status s runs i = record { clusters = i.clusters; session = i.session; transfers = i.transfers; slots = i.slots; places = i.places; running = runs }
@@ -162,22 +142,14 @@ module _ (areas : Areas) where
   cleaning-copied : (outcome : Outcome) (s : State) → IsCopied package_reading areas s → IsCopied package_reading areas (cleaning_up outcome s)
   cleaning-copied outcome s = go s.session
     where
-      goes : (m : Manifest) (a : Action) → goes_to (cleaning_up outcome (record s { session = None })) m a ≡ goes_to (record s { session = None }) m a
-      goes m Install = refl
-      goes m Update = refl
-      goes m Remove = refl
-
-      go : (o : Option (SessionOf Extent)) → IsCopied package_reading areas (record s { session = o }) → IsCopied package_reading areas (cleaning_up outcome (record s { session = o }))
-      go None copied = each-imp _ _ (λ t c. copied-in areas (record s { session = None }) (cleaning_up outcome (record s { session = None })) refl goes t t.header.phase c) s.transfers copied
-      go (Some x) copied = marked-copied areas s CleaningUp x x.processing (Some outcome) copied
+      go : (o : Option (SessionOf Extent)) → IsCopied package_reading areas (record s { session = o })
+          → IsCopied package_reading areas (cleaning_up outcome (record s { session = o }))
+      go None = copied-by areas (record s { session = None }) (cleaning_up outcome (record s { session = None })) refl refl refl s.transfers
+      go (Some x) =
+          copied-by areas (record s { session = Some x }) (cleaning_up outcome (record s { session = Some x })) refl refl refl s.transfers
 
   to-copied : (status : Status) (s : State) → IsCopied package_reading areas s → IsCopied package_reading areas (record s { status = status })
-  to-copied status s copied = each-imp _ _ (λ t c. copied-in areas s (record s { status = status }) refl goes t t.header.phase c) s.transfers copied
-    where
-      goes : (m : Manifest) (a : Action) → goes_to (record s { status = status }) m a ≡ goes_to s m a
-      goes m Install = refl
-      goes m Update = refl
-      goes m Remove = refl
+  to-copied status s = copied-by areas s (record s { status = status }) refl refl refl s.transfers
 
   arrived-copied : (goal : Goal) (s : State) → IsCopied package_reading areas s → IsCopied package_reading areas (arrived goal s)
   arrived-copied (To status) s = to-copied status s

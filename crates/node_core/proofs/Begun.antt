@@ -1,46 +1,28 @@
 -- ProcessSwPackage is judged as the node's table says.
-use Rattle.std.proofs.Common.{◌≡◌, refl, sym, subst, ap, ◌∙◌, ℕ, Bool, true, false, [], ◌∷◌, ◌++◌, List, map}
-use Rattle.std.specs.Prelude.{◌==◌, ◌||◌, if◌then◌else◌, not, is_none, option_map, unwrap_or, Option, Some, None}
-use Rattle.std.specs.Bool.{beq}
-use Rattle.std.specs.List.{AllByRecursion, list_all}
-use Rattle.std.specs.Option.{option_or, option_map_or}
-use Rattle.std.specs.Str.{bytes_eq}
-use Rattle.std.specs.Cmp.Derive.{both_true}
-use Rattle.std.proofs.lemmas.Bool.{and_parts}
-use Rattle.std.proofs.lemmas.List.{append-nil}
-use Rattle.ucm_base.specs.Parts.{Bytes}
-use Rattle.pm_types.specs.declared.calls.Call.TheVariants.{Activate, ProcessSwPackage}
-use Rattle.pm_types.specs.declared.clusters.Cluster.{Cluster}
-use Rattle.pm_types.specs.declared.clusters.Extent.{Extent}
-use Rattle.pm_types.specs.Clusters.{planned, unmet_among}
-use Rattle.pm_types.specs.declared.clusters.Part.{Part}
-use Rattle.pm_types.specs.declared.replies.Refusal.{Refusal}
-use Rattle.pm_types.specs.declared.replies.Refusal.TheVariants.{InvalidTransferId, OperationNotPermitted}
-use Rattle.pm_types.specs.declared.replies.Reply.{Reply}
-use Rattle.pm_types.specs.declared.replies.Reply.TheVariants.{Done, Refused}
-use Rattle.pm_types.specs.declared.state.StoredTransfer.{StoredTransfer}
-use Rattle.pm_types.specs.declared.status.Phase.{Phase}
-use Rattle.pm_types.specs.declared.status.Phase.TheVariants.{Transferring, Transferred, Processing as BeingProcessed, Processed}
-use Rattle.pm_types.specs.declared.status.Status.TheVariants.{Idle}
-use Rattle.pm_types.specs.NodeState.{Session, SessionOf, Transfer, is_in, phase_code, some_passes}
-use Rattle.pm_types.specs.Refusals.{first_refusal}
-use Rattle.pm_types.specs.Sessions.{Goal, activate_refusal, begin_processing, changes_in, is_wrong_tag, new_session, parts_refusal, process_refusal, session_refusals, status_table}
-use Rattle.pm_types.specs.Stored.{IsInOrder, IsPlaced, change_meaning, cluster_place, meaning, names_fit_places, session_meaning, slots_differ, transfer_meaning}
-use Rattle.pm_types.specs.Transfers.{parts_of, transfer_of}
-use Rattle.pm_types.specs.Validity.{should_run}
-use Rattle.transfer_blocks.specs.declared.found.Found.{Found}
-use Rattle.transfer_blocks.specs.Table.{found_of, stored_header, stored_of}
-use Rattle.node_laws.proofs.Lists.{both-none, found-has, is-transferred, not-false, rows-clear}
+use Rattle.node_core.proofs.Names.{Activate, AllByRecursion, BeingProcessed, Bool, Bytes, Cluster, Done, Extent}
+use Rattle.node_core.proofs.Names.{Found, Goal, Holding, Idle, InvalidTransferId, IsCopied, IsCopiedIn, IsInOrder}
+use Rattle.node_core.proofs.Names.{IsJudged, IsPlaced, IsReady, IsSound, List, None, OperationNotPermitted, Option}
+use Rattle.node_core.proofs.Names.{Part, Phase, ProcessSwPackage, Processed, Refusal, Refused, Reply, Session}
+use Rattle.node_core.proofs.Names.{SessionOf, Some, StoredTransfer, Transfer, Transferred, Transferring}
+use Rattle.node_core.proofs.Names.{activate_refusal, ap, arrived, begin_processing, begun, change_meaning, changes_in}
+use Rattle.node_core.proofs.Names.{changes_kept, cluster_place, contents_of, false, first_refusal, found_of}
+use Rattle.node_core.proofs.Names.{if◌then◌else◌, is_in, is_none, is_wrong_tag, map, meaning, missing_dependencies}
+use Rattle.node_core.proofs.Names.{names_fit_places, new_session, node_of, not, opened, option_map, option_map_or}
+use Rattle.node_core.proofs.Names.{option_or, package_reading, package_refusals, parts_of, parts_refusal, phase_code}
+use Rattle.node_core.proofs.Names.{phased, planned, process_refusal, refl, refusal_by, session_kept, session_meaning}
+use Rattle.node_core.proofs.Names.{session_refusals, should_run, slots_differ, some_passes, status_table}
+use Rattle.node_core.proofs.Names.{stored_header, stored_of, subst, sym, taken_up, transfer_meaning, transfer_of}
+use Rattle.node_core.proofs.Names.{true, unmet_among, unmet_kept, unwrap_or, with_length, [], ℕ, ◌++◌, ◌==◌, ◌∙◌, ◌∷◌}
+use Rattle.node_core.proofs.Names.{◌≡◌}
+use Rattle.node_laws.proofs.Lists.{each-append, each-first, both-none, found-has, is-transferred, not-false}
+use Rattle.node_laws.proofs.Lists.{rows-clear}
 use Rattle.node_laws.proofs.Sessions.{free-of}
-use Rattle.node_core.specs.Core.{Holding, IsJudged, IsReady, IsSound, node_of, refusal_by}
-use Rattle.node_core.specs.Packages.{package_reading}
-use Rattle.node_core.specs.Places.{IsCopied, IsCopiedIn, IsPartCopied}
-use Rattle.node_core.specs.Prepared.{session_kept, unmet_kept, with_length}
-use Rattle.node_core.specs.Sessions.{arrived, begun, changes_kept, contents_of, missing_dependencies, opened, package_refusals, phased, taken_up}
+use Rattle.node_core.proofs.Planned.{among-fit}
+use Rattle.node_core.proofs.Lists.{every}
+use Rattle.node_core.proofs.Stored.{found-header, found-means, some-stored}
 use Rattle.node_core.proofs.Arrived.{done-judged, led-judged, refused-judged}
 use Rattle.node_core.proofs.Natural.{parts-mean, parts-with-length, planned-means, unmet-means}
 use Rattle.node_core.proofs.Phased.{phased-means, phased-placed, phased-slots}
-use Rattle.node_core.proofs.Stored.{found-means, some-stored}
 
 -- what a stored transfer brings is what its package has
 contents-mean : (v : Holding) → IsSound v → (client id : ℕ) → contents_of (stored_of v.state.transfers client id) ≡ map with_length (parts_of (option_map (transfer_meaning package_reading v.areas) (stored_of v.state.transfers client id)))
@@ -50,25 +32,24 @@ contents-mean v sound client id = go (stored_of v.state.transfers client id) ref
     go None e = refl
     go (Some u) e = (found-has _ (IsPlaced package_reading v.areas) v.state.transfers u sound.order.transfers e).1.contents
 
--- the rows before the parts are those of what is stored
-rows-mean : (v : Holding) (client id tag : ℕ) → first_refusal (
+-- the rows before the parts
+abbrev rows_of : Holding → ℕ → ℕ → Option Transfer → List (Bool × Refusal)
+rows_of v client tag found =
     (is_wrong_tag (node_of v) client tag, OperationNotPermitted)
-    ∷ (is_none (transfer_of (node_of v) client id), InvalidTransferId)
-    ∷ (some_passes (λ (t : Transfer). not (is_in Transferred t.header)) (transfer_of (node_of v) client id), OperationNotPermitted)
-    ∷ []) ≡ first_refusal (package_refusals v.state.session client tag (stored_header v.state.transfers client id))
+    ∷ (is_none found, InvalidTransferId)
+    ∷ (some_passes (λ (t : Transfer). not (is_in Transferred t.header)) found, OperationNotPermitted)
+    ∷ []
+
+-- they are those of what is stored
+rows-mean : (v : Holding) (client id tag : ℕ) → first_refusal (rows_of v client tag (transfer_of (node_of v) client id))
+    ≡ first_refusal (package_refusals v.state.session client tag (stored_header v.state.transfers client id))
 rows-mean v client id tag =
-    ap (λ o. first_refusal (
-    (is_wrong_tag (node_of v) client tag, OperationNotPermitted)
-    ∷ (is_none o, InvalidTransferId)
-    ∷ (some_passes (λ (t : Transfer). not (is_in Transferred t.header)) o, OperationNotPermitted)
-    ∷ [])) (found-means package_reading v.areas client id v.state.transfers)
+    ap (λ o. first_refusal (rows_of v client tag o)) (found-means package_reading v.areas client id v.state.transfers)
     ∙ go v.state.session (stored_of v.state.transfers client id)
   where
-    go : (x : Option (SessionOf Extent)) (o : Option StoredTransfer) → first_refusal (
-        ((if client == 0 then tag == 0 else not (tag == 0)) || some_passes (λ (x : Session). not (x.tag == tag)) (option_map (session_meaning v.areas) x), OperationNotPermitted)
-        ∷ (is_none (option_map (transfer_meaning package_reading v.areas) o), InvalidTransferId)
-        ∷ (some_passes (λ (t : Transfer). not (is_in Transferred t.header)) (option_map (transfer_meaning package_reading v.areas) o), OperationNotPermitted)
-        ∷ []) ≡ first_refusal (package_refusals x client tag (option_map (λ t. t.header) o))
+    go : (x : Option (SessionOf Extent)) (o : Option StoredTransfer)
+        → first_refusal (rows_of (record v { state = record v.state { session = x } }) client tag (option_map (transfer_meaning package_reading v.areas) o))
+        ≡ first_refusal (package_refusals x client tag (option_map (λ t. t.header) o))
     go None None = refl
     go None (Some u) = refl
     go (Some x) None = refl
@@ -97,14 +78,10 @@ process-by {v = v} {w = w} same sound client id tag found o q there judged parts
     ∙ (λ i. option_or (rows-mean w client id tag i) (parts-refused w sound client id i))
     ∙ (λ i. option_or (rows i) (sym parts i))
   where
-    of : (s : Option StoredTransfer) → option_map (λ t. t.header) s ≡ option_map (λ (f : Found). f.header) (option_map (λ t. record { header = t.header; slot = t.slot }) s)
-    of None = refl
-    of (Some t) = refl
-
     rows : first_refusal (package_refusals w.state.session client tag (stored_header w.state.transfers client id)) ≡ o
     rows =
         ap (λ (x : Holding). first_refusal (package_refusals x.state.session client tag (stored_header x.state.transfers client id))) (sym same)
-        ∙ ap (λ h. first_refusal (package_refusals v.state.session client tag h)) (of (stored_of v.state.transfers client id) ∙ ap (option_map (λ (f : Found). f.header)) (sym there))
+        ∙ ap (λ h. first_refusal (package_refusals v.state.session client tag h)) (found-header v.state.transfers client id ∙ ap (option_map (λ (f : Found). f.header)) (sym there))
         ∙ sym judged
 
 -- the same, by the rows before the parts
@@ -117,19 +94,7 @@ package-refused {w = w} same sound client id tag found o why there judged none s
 
 -- names twice fit places where they do once
 fit-twice : (pairs : List (List ℕ × ℕ)) → names_fit_places (pairs ++ []) ≡ true → names_fit_places (pairs ++ (pairs ++ [])) ≡ true
-fit-twice pairs fits =
-    subst (λ l. names_fit_places (pairs ++ l) ≡ true) (sym (append-nil pairs))
-    (twice _ pairs pairs (inner pairs (subst (λ l. names_fit_places l ≡ true) (append-nil pairs) fits)) (inner pairs (subst (λ l. names_fit_places l ≡ true) (append-nil pairs) fits)))
-  where
-    twice : {X : Type 0} (p : X → Bool) (xs ys : List X) → list_all p xs ≡ true → list_all p ys ≡ true → list_all p (xs ++ ys) ≡ true
-    twice p [] ys h k = k
-    twice p (x ∷ xs) ys h k = let parts = and_parts (p x) (list_all p xs) h in both_true parts.0 (twice p xs ys parts.1 k)
-
-    inner : (xs : List (List ℕ × ℕ)) → list_all (λ a. list_all (λ b. beq (bytes_eq a.0 b.0) (a.1 == b.1)) pairs) xs ≡ true → list_all (λ a. list_all (λ b. beq (bytes_eq a.0 b.0) (a.1 == b.1)) (pairs ++ pairs)) xs ≡ true
-    inner [] h = refl
-    inner (x ∷ xs) h =
-        let parts = and_parts (list_all (λ b. beq (bytes_eq x.0 b.0) (x.1 == b.1)) pairs) _ h in
-        both_true (twice (λ b. beq (bytes_eq x.0 b.0) (x.1 == b.1)) pairs pairs parts.0 parts.0) (inner xs parts.1)
+fit-twice pairs = among-fit (pairs ++ (pairs ++ [])) (pairs ++ []) (λ P each. each-append P pairs (pairs ++ []) (each-first P pairs [] each) each)
 
 -- what taking up a package leaves
 module _ (v : Holding) (sound : IsSound v) (client id tag : ℕ) (u : StoredTransfer) (e : stored_of v.state.transfers client id ≡ Some u) (phase : u.header.phase ≡ Transferred) where
@@ -180,21 +145,13 @@ module _ (v : Holding) (sound : IsSound v) (client id tag : ℕ) (u : StoredTran
       }
 
   begun-copied : IsCopied package_reading v.areas (begun id (Some (takes_up v.state.session)) v.state)
-  begun-copied = all (begun id (Some (takes_up v.state.session)) v.state).transfers
+  begun-copied = every (λ t. in_phase t t.header.phase) (begun id (Some (takes_up v.state.session)) v.state).transfers
     where
-      every : (parts : List (Part Bytes)) → AllByRecursion (IsPartCopied v.areas (begun id (Some (takes_up v.state.session)) v.state)) parts
-      every [] = tt
-      every (part ∷ parts) = (refl, every parts)
-
       in_phase : (t : StoredTransfer) (phase : Phase) → IsCopiedIn package_reading v.areas (begun id (Some (takes_up v.state.session)) v.state) t phase
       in_phase t Transferring = tt
       in_phase t Transferred = tt
-      in_phase t BeingProcessed = every (transfer_meaning package_reading v.areas t).parts
+      in_phase t BeingProcessed = every (λ (part : Part Bytes). refl) (transfer_meaning package_reading v.areas t).parts
       in_phase t Processed = tt
-
-      all : (ts : List StoredTransfer) → AllByRecursion (λ t. IsCopiedIn package_reading v.areas (begun id (Some (takes_up v.state.session)) v.state) t t.header.phase) ts
-      all [] = tt
-      all (t ∷ ts) = (in_phase t t.header.phase, all ts)
 
 -- the session that was taken: the node's own, or the one that is ready
 taken-is : (o kept : Option (SessionOf Extent)) (x : SessionOf Extent) → (o ≡ None → kept ≡ Some x) → option_or o kept ≡ Some (unwrap_or o x)
@@ -214,12 +171,10 @@ process-judged v client id tag reply goal w new sound ready none table begins re
     rows : first_refusal (package_refusals v.state.session client tag (stored_header v.state.transfers client id)) ≡ None
     rows =
         sym (rows-mean v client id tag)
-        ∙ (both-none (first_refusal (
-        (is_wrong_tag (node_of v) client tag, OperationNotPermitted)
-        ∷ (is_none (transfer_of (node_of v) client id), InvalidTransferId)
-        ∷ (some_passes (λ (t : Transfer). not (is_in Transferred t.header)) (transfer_of (node_of v) client id), OperationNotPermitted)
-        ∷ [])) (parts_refusal (node_of v).running (changes_in (node_of v)) [] (parts_of (transfer_of (node_of v) client id)))
-        (both-none (first_refusal (session_refusals (node_of v) client (ProcessSwPackage id tag))) (process_refusal (node_of v) client tag (transfer_of (node_of v) client id)) none).1).0
+        ∙ (both-none (first_refusal (rows_of v client tag (transfer_of (node_of v) client id)))
+        (parts_refusal (node_of v).running (changes_in (node_of v)) [] (parts_of (transfer_of (node_of v) client id)))
+        (both-none (first_refusal (session_refusals (node_of v) client (ProcessSwPackage id tag)))
+        (process_refusal (node_of v) client tag (transfer_of (node_of v) client id)) none).1).0
 
     clear : AllByRecursion (λ row. row.0 ≡ false) (package_refusals v.state.session client tag (stored_header v.state.transfers client id))
     clear = rows-clear (package_refusals v.state.session client tag (stored_header v.state.transfers client id)) rows

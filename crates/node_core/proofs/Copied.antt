@@ -1,48 +1,25 @@
 -- What copying the next unit of a package leaves, and makes ready.
-use Rattle.std.proofs.Common.{◌≡◌, ◌≢◌, refl, sym, subst, ap, ◌∙◌, ℕ, ◌+◌, ◌-◌, ◌*◌, ◌<◌, ◌≤◌, ◌++◌, Bool, true, List, [], ◌∷◌, length, map, take, drop, arith}
-use Rattle.std.specs.Prelude.{◌==◌, if◌then◌else◌, min, nat_lt, slice_index_or, slice_range, IfSome, Option, Some, None, Result, Ok, Err, OnOk}
-use Rattle.std.proofs.lemmas.Bool.Decides.{nat_tests}
-use Rattle.std.specs.List.{AllByRecursion}
-use Rattle.std.specs.Int.{from_be_bytes, w32}
-use Rattle.std.proofs.lemmas.List.{length-take, length-drop, take-take, drop-drop, drop-take, take_min}
-use Rattle.std.proofs.Math.Seq.{take-add}
-use Rattle.ucm_base.specs.Limits.{block_limit, package_limit}
-use Rattle.ucm_base.specs.Parts.{Bytes}
-use Rattle.package_reader.specs.declared.package.Package.{Package}
-use Rattle.package_reader.specs.Fields.{number_at, payload_in, payload_place}
+use Rattle.node_core.proofs.Names.{Action, AllByRecursion, Area, Areas, AreasFit, Bytes, Change, Err, Extent, Holding}
+use Rattle.node_core.proofs.Names.{IfSome, Install, IsArea, IsCopied, IsCopiedIn, IsInOrder, IsKept, IsPackageReady}
+use Rattle.node_core.proofs.Names.{IsPartCopied, IsPartReady, IsReservedWork, IsSound, IsUnitOf, LeavesOutside}
+use Rattle.node_core.proofs.Names.{Manifest, NextUnit, None, Ok, OnOk, Option, Package, Part, Prepared, Processing}
+use Rattle.node_core.proofs.Names.{Remove, Result, SessionOf, Side, Some, State, StoredTransfer}
+use Rattle.node_core.proofs.Names.{Transfer as MeantTransfer, Update, ap, arith, block_limit, change_due, change_kept}
+use Rattle.node_core.proofs.Names.{change_next, content_of, drop, drop-drop, drop-take, extent_in, extent_next}
+use Rattle.node_core.proofs.Names.{from_be_bytes, goes_to, if◌then◌else◌, is_of, length, length-drop, length-take}
+use Rattle.node_core.proofs.Names.{meaning, min, node_of, number_at, overwritten, package_limit, package_reading}
+use Rattle.node_core.proofs.Names.{payload_place, payload_start, refl, slice_range, stored_of, subst, sym, take}
+use Rattle.node_core.proofs.Names.{take-add, take-take, take_min, transfer_meaning, unit_end, w32, with_content}
+use Rattle.node_core.proofs.Names.{with_length, [], ℕ, ◌*◌, ◌++◌, ◌+◌, ◌-◌, ◌<◌, ◌∙◌, ◌≡◌, ◌≢◌, ◌≤◌}
 use Rattle.package_reader.specs.Reading.{reading}
-use Rattle.ucm_base.specs.declared.parts.Action.{Action}
-use Rattle.ucm_base.specs.declared.parts.Action.TheVariants.{Install, Update, Remove}
-use Rattle.ucm_base.specs.declared.parts.Manifest.{Manifest}
-use Rattle.pm_types.specs.declared.clusters.Extent.{Extent}
-use Rattle.pm_types.specs.declared.state.StoredTransfer.{StoredTransfer}
-use Rattle.pm_types.specs.declared.clusters.Change.{Change}
-use Rattle.pm_types.specs.declared.status.Phase.{Phase}
-use Rattle.pm_types.specs.declared.status.Phase.TheVariants.{Transferring, Transferred, Processing as BeingProcessed, Processed}
-use Rattle.pm_types.specs.NodeState.{SessionOf, Transfer as MeantTransfer, is_in, phase_code}
-use Rattle.pm_types.specs.Stored.{Areas, IsInOrder, State, meaning, transfer_meaning}
-use Rattle.pm_types.specs.Transfers.{is_of}
-use Rattle.transfer_blocks.specs.declared.area.Area.{Area}
-use Rattle.transfer_blocks.specs.declared.area.Area.TheVariants.{Side, Transfer}
-use Rattle.transfer_blocks.specs.Areas.{AreasFit, IsArea, LeavesOutside, content_of, overwritten, with_content}
+use Rattle.transfer_blocks.specs.declared.area.Area.TheVariants.{Transfer}
 use Rattle.transfer_blocks.proofs.Bytes.{before-stands, take-overwritten}
-use Rattle.node_laws.proofs.Lists.{each-both, each-unmap, found-has}
-use Rattle.node_core.specs.declared.prepared.Prepared.{Prepared}
-use Rattle.node_core.specs.Prepared.{with_length}
-use Rattle.node_core.proofs.Judged.{rise}
-use Rattle.node_core.proofs.Stored.{only}
+use Rattle.node_laws.proofs.Lists.{found-has}
+use Rattle.transfer_blocks.proofs.Areas.{content-here}
+use Rattle.node_core.proofs.Handled.{hand-copied, InHand, at_process, begin-within, busy, bytes_of, in-hand, part_of}
+use Rattle.node_core.proofs.Handled.{payload-is}
 use Rattle.node_core.proofs.Worked.{at-work, sound-at}
 use Rattle.node_core.proofs.Staging.{came-lies, slot-is}
-use Rattle.transfer_blocks.proofs.Areas.{content-here}
-use Rattle.node_core.specs.declared.copying.NextUnit.{NextUnit}
-use Rattle.pm_types.specs.declared.clusters.Part.{Part}
-use Rattle.transfer_blocks.specs.Table.{stored_of}
-use Rattle.pm_types.specs.declared.status.Status.TheVariants.{Processing}
-use Rattle.node_core.specs.Core.{Holding, IsKept, IsSound, node_of}
-use Rattle.node_core.specs.Packages.{package_reading}
-use Rattle.node_core.specs.Places.{IsCopied, IsCopiedIn, IsPartCopied, goes_to}
-use Rattle.node_core.specs.Units.{IsPackageReady, IsPartReady, IsReservedWork, IsUnitOf, change_due, change_kept, change_next, extent_in, extent_next, payload_start, unit_end}
-use Rattle.node_core.proofs.Handled.{InHand, at_process, begin-within, busy, bytes_of, in-hand, part_of, payload-is}
 use Rattle.node_core.proofs.Lastly.{change-extent, short, there-is}
 use Rattle.node_core.proofs.Removal.{removal-empty}
 use Rattle.node_core.proofs.Sides.{AreApart, goes-apart, side-means, side-order}
@@ -185,21 +162,8 @@ module _ (v : Holding) (x : SessionOf Extent) (id : ℕ) (sound : IsSound (at_pr
     own : IsPartCopied areas (at_process v x id).state (part_of h.pack)
     own = before-stands at len (content_of area v.areas) (content_of area areas) at (omega arith) left.here ∙ copied-so-far
 
-    still : (t : StoredTransfer) (phase : Phase) → (phase_code phase == 2) ≡ (id == t.header.id) → ((t.header.id == id) ≡ true → t ≡ h.transfer) → IsCopiedIn package_reading areas (at_process v x id).state t phase
-    still t Transferring due same = tt
-    still t Transferred due same = tt
-    still t BeingProcessed due same =
-        subst (λ (u : StoredTransfer). AllByRecursion (IsPartCopied areas (at_process v x id).state) (transfer_meaning package_reading areas u).parts) (sym (same (flip t.header.id due)))
-        (subst (AllByRecursion (IsPartCopied areas (at_process v x id).state)) (sym (ap (λ (k : MeantTransfer). k.parts) (same-read h.transfer) ∙ h.parts)) (own, tt))
-      where
-        flip : (n : ℕ) → true ≡ (id == n) → (n == id) ≡ true
-        flip n e = grind (arith, nat_tests, sym e)
-    still t Processed due same = tt
-
     pub copied-still : IsCopied package_reading areas (at_process v x id).state
-    copied-still = each-both _ _ _ (λ t due same. still t t.header.phase due same) v.state.transfers
-        (each-unmap (λ (t : MeantTransfer). is_in BeingProcessed t.header ≡ (id == t.header.id)) (transfer_meaning package_reading v.areas) v.state.transfers sound.fit.consistent.processing.each)
-        (only x.owner id v.state.transfers h.transfer (rise (at_process v x id) sound) h.is)
+    copied-still = hand-copied v x id v.prepared sound h areas (at_process v x id).state same-read own
 
     pub put-kept : (faults : ℕ) (p : Prepared) → v.faults ≤ faults → IsKept (at_process v x id) (record { areas = areas; faults = faults; state = (at_process v x id).state; prepared = p })
     put-kept faults p more = record { state = refl; node = means; order = ordered; copied = copied-still; faults = more }

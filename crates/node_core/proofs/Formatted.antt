@@ -1,93 +1,43 @@
 -- A node that begins with installed clusters is sound.
-use Rattle.std.proofs.Common.{◌≡◌, ◌≢◌, refl, sym, subst, ap, ap₂, ◌∙◌, arith, ℕ, ◌≤◌, ◌<◌, ◌+◌, Bool, true, false, List, [], ◌∷◌, ◌++◌, length, map, take, cond, append-nil}
-use Rattle.std.specs.Prelude.{◌&&◌, ◌==◌}
-use Rattle.std.specs.Bool.{beq}
-use Rattle.std.specs.List.{AllByRecursion, list_all}
-use Rattle.std.specs.Str.{bytes_eq}
-use Rattle.std.specs.Cmp.Derive.{both_true}
-use Rattle.std.proofs.lemmas.Bool.Decides.{nat_tests}
-use Rattle.std.proofs.lemmas.List.{get_or-replicate, length-append, length-map, map-append, take_all}
-use Rattle.ucm_base.specs.Limits.{cluster_limit, package_limit}
-use Rattle.ucm_base.specs.Names.{different_names, has_name, name_lt, names_rise}
-use Rattle.ucm_base.specs.Parts.{Bytes}
-use Rattle.pm_types.specs.declared.clusters.Cluster.{Cluster}
-use Rattle.pm_types.specs.declared.clusters.Extent.{Extent}
-use Rattle.pm_types.specs.Histories.{formatted}
-use Rattle.pm_types.specs.Stored.{Areas, IsExtent, cluster_meaning, cluster_place, fresh_state, names_fit_places}
-use Rattle.transfer_blocks.specs.declared.area.Area.{Area}
-use Rattle.transfer_blocks.specs.declared.area.Area.TheVariants.{Side}
-use Rattle.transfer_blocks.specs.Areas.{AreasFit, content_of, no_contents, with_content}
+use Rattle.node_core.proofs.Names.{AllByRecursion, AreInstalled, Area, Areas, AreasFit, Bytes, Cluster, Extent}
+use Rattle.node_core.proofs.Names.{IsExtent, IsFit, IsSound, List, Side, ap, append-nil, ap₂, arith, bytes_eq}
+use Rattle.node_core.proofs.Names.{cluster_limit, cluster_meaning, cluster_place, content_of, different_names, false}
+use Rattle.node_core.proofs.Names.{formatted, fresh_state, get_or-replicate, holding, in_order, length, length-append}
+use Rattle.node_core.proofs.Names.{length-map, map, map-append, name_lt, names_fit_places, names_rise, nat_tests}
+use Rattle.node_core.proofs.Names.{no_contents, package_limit, package_reading, placed, placed_from, refl, subst, sym}
+use Rattle.node_core.proofs.Names.{take, take_all, true, with_content, [], ℕ, ◌++◌, ◌+◌, ◌<◌, ◌==◌, ◌∙◌, ◌∷◌, ◌≡◌}
+use Rattle.node_core.proofs.Names.{◌≢◌, ◌≤◌}
 use Rattle.transfer_blocks.proofs.Areas.{content-here, content-elsewhere}
-use Rattle.node_laws.specs.Fit.{IsFit}
 use Rattle.node_laws.proofs.Kept.{keeps-fit}
 use Rattle.node_laws.proofs.Lists.{each-unmap}
-use Rattle.node_laws.proofs.NameLists.{eq-name, name-swap, names-behind, names-tail}
-use Rattle.node_laws.proofs.NameLists.{names_of}
-use Rattle.node_core.specs.Core.{IsSound, holding}
-use Rattle.node_core.specs.Format.{AreInstalled, in_order, placed, placed_from}
-use Rattle.node_core.specs.Packages.{package_reading}
+use Rattle.node_laws.proofs.NameLists.{names-behind, names-tail, names_of}
+use Rattle.node_core.proofs.Free.{fits-onto}
+use Rattle.node_core.proofs.Named.{not-more}
 use Rattle.node_core.proofs.Ordered.{lt-differ, order-each, order-rises}
 use Rattle.node_core.proofs.Sound.{reading-is}
 
--- each with its own place
-abbrev fits : List ℕ × ℕ → List ℕ × ℕ → Bool
-fits a b = beq (bytes_eq a.0 b.0) (a.1 == b.1)
-
-abbrev FitBoth : List ℕ × ℕ → List ℕ × ℕ → Type 0
-FitBoth a b = (fits a b ≡ true) × (fits b a ≡ true)
-
-fits-onto : (a : List ℕ × ℕ) (xs : List (List ℕ × ℕ)) → AllByRecursion (FitBoth a) xs → names_fit_places xs ≡ true → names_fit_places (a ∷ xs) ≡ true
-fits-onto a xs each rest =
-    both_true (both_true (ap₂ beq (eq-name a.0 a.0 refl) (own a.1)) (onto xs each)) (under xs each xs rest)
-  where
-    own : (n : ℕ) → (n == n) ≡ true
-    own n = grind (arith, nat_tests)
-
-    onto : (ys : List (List ℕ × ℕ)) → AllByRecursion (FitBoth a) ys → list_all (fits a) ys ≡ true
-    onto [] h = refl
-    onto (y ∷ ys) h = both_true h.0.0 (onto ys h.1)
-
-    under : (ys : List (List ℕ × ℕ)) → AllByRecursion (FitBoth a) ys → (all : List (List ℕ × ℕ)) → list_all (λ y. list_all (fits y) all) ys ≡ true → list_all (λ y. list_all (fits y) (a ∷ all)) ys ≡ true
-    under [] h all r = refl
-    under (y ∷ ys) h all r = both_true (both_true h.0.1 (first _ _ r)) (under ys h.1 all (second _ _ r))
-      where
-        first : (p q : Bool) → (p && q) ≡ true → p ≡ true
-        first true q e = refl
-        first false q e = absurd (cc)
-
-        second : (p q : Bool) → (p && q) ≡ true → q ≡ true
-        second true q e = e
-        second false q e = absurd (cc)
-
 -- names behind one, at higher places
-above : (n : List ℕ) (k j : ℕ) → k < j → (cs : List (Cluster Bytes)) → AllByRecursion (λ c. name_lt n c.name ≡ true) cs → AllByRecursion (FitBoth (n, k)) (map cluster_place (placed_from j cs))
+above : (n : List ℕ) (k j : ℕ) → k < j → (cs : List (Cluster Bytes)) → AllByRecursion (λ c. name_lt n c.name ≡ true) cs
+    → AllByRecursion (λ b. (bytes_eq n b.0 ≡ false) × ((k == b.1) ≡ false)) (map cluster_place (placed_from j cs))
 above n k j less [] h = tt
 above n k j less (c ∷ cs) h =
-    let apart = lt-differ n c.name h.0 in
-    let left : (k == j) ≡ false = grind (arith, nat_tests, less) in
-    let right : (j == k) ≡ false = grind (arith, nat_tests, less) in
-    ((ap₂ beq apart left, ap₂ beq (name-swap c.name n ∙ apart) right), above n k (j + 1) (omega (arith, less)) cs h.1)
+    let other : (k == j) ≡ false = grind (arith, nat_tests, less) in
+    ((lt-differ n c.name h.0, other), above n k (j + 1) (omega (arith, less)) cs h.1)
 
-places-fit : (k : ℕ) (cs : List (Cluster Bytes)) → names_rise (names_of cs) ≡ true → names_fit_places (map cluster_place (placed_from k cs)) ≡ true
+-- so each has its own place
+places-fit : (k : ℕ) (cs : List (Cluster Bytes)) → names_rise (names_of cs) ≡ true
+    → names_fit_places (map cluster_place (placed_from k cs)) ≡ true
 places-fit k [] r = refl
 places-fit k (c ∷ cs) r =
     fits-onto (c.name, k) (map cluster_place (placed_from (k + 1) cs))
-    (above c.name k (k + 1) (omega arith) cs (each-unmap (λ n. name_lt c.name n ≡ true) (λ (d : Cluster Bytes). d.name) cs (names-behind c.name (names_of cs) r)))
+    (above c.name k (k + 1) (omega arith) cs (each-unmap (λ n. name_lt c.name n ≡ true) (λ (d : Cluster Bytes). d.name) cs
+    (names-behind c.name (names_of cs) r)))
     (places-fit (k + 1) cs (names-tail c.name (names_of cs) r))
 
 -- where they lie
 extents-are : (k : ℕ) (cs : List (Cluster Bytes)) → k + length cs ≤ cluster_limit → AllByRecursion (λ c. length c.content ≤ package_limit) cs → AllByRecursion (λ c. IsExtent c.content) (placed_from k cs)
 extents-are k [] few short = tt
 extents-are k (c ∷ cs) few short = ((omega (arith, few), omega arith, short.0), extents-are (k + 1) cs (omega (arith, few)) short.1)
-
--- the different ones of some names are not more
-not-more : (ns : List (List ℕ)) → length (different_names ns) ≤ length ns
-not-more [] = omega arith
-not-more (n ∷ ns) = go (has_name ns n) (not-more ns)
-  where
-    go : (b : Bool) → length (different_names ns) ≤ length ns → length (cond b (different_names ns) (n ∷ different_names ns)) ≤ length (n ∷ ns)
-    go true h = omega (arith, h)
-    go false h = omega (arith, h)
 
 -- a node with clusters in order
 pub installed-sound : (areas : Areas) (faults : ℕ) (stored : List (Cluster Extent)) (cs : List (Cluster Bytes)) → AreInstalled areas stored cs → names_rise (names_of cs) ≡ true → length cs ≤ cluster_limit → AllByRecursion (λ c. length c.content ≤ package_limit) cs → IsSound (holding areas faults (fresh_state stored))

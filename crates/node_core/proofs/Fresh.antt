@@ -1,9 +1,6 @@
 -- A node that has just been formatted, without clusters, is sound.
-use Rattle.std.proofs.Common.{refl, ℕ, [], arith}
-use Rattle.pm_types.specs.Stored.{Areas, fresh_state}
+use Rattle.node_core.proofs.Names.{Areas, IsSound, arith, fresh_state, holding, package_reading, refl, [], ℕ}
 use Rattle.node_laws.proofs.Kept.{keeps-fit}
-use Rattle.node_core.specs.Core.{IsSound, holding}
-use Rattle.node_core.specs.Packages.{package_reading}
 use Rattle.node_core.proofs.Sound.{reading-is}
 
 pub fresh-sound : (areas : Areas) (faults : ℕ) → IsSound (holding areas faults (fresh_state []))

@@ -1,45 +1,20 @@
 -- What a unit of a package leaves of a sound node.
-use Rattle.std.proofs.Common.{◌≡◌, refl, sym, subst, ap, ◌∙◌, ℕ, ◌+◌, ◌*◌, ◌<◌, ◌≤◌, Bool, true, List, [], ◌∷◌, length, map, take, drop, arith}
-use Rattle.std.specs.Prelude.{◌==◌, nat_lt, if◌then◌else◌, option_map, slice_index_or, IfSome, IsSomeAnd, Option, Some, None, Result, Ok, Err}
-use Rattle.std.specs.List.{AllByRecursion}
-use Rattle.std.proofs.lemmas.Bool.{eq-eqb, ltb-true}
-use Rattle.std.proofs.lemmas.Bool.Decides.{nat_tests}
-use Rattle.std.proofs.lemmas.List.{length-take, length-drop}
-use Rattle.std.proofs.lemmas.List.Sums.{sum_by-cons}
-use Rattle.ucm_base.specs.declared.parts.Action.{Action}
-use Rattle.ucm_base.specs.declared.parts.Action.TheVariants.{Install, Update, Remove}
-use Rattle.ucm_base.specs.declared.parts.Manifest.{Manifest}
-use Rattle.ucm_base.specs.Limits.{block_limit}
-use Rattle.ucm_base.specs.Parts.{Bytes}
-use Rattle.pm_types.specs.declared.clusters.Extent.{Extent}
-use Rattle.pm_types.specs.declared.clusters.Part.{Part}
-use Rattle.pm_types.specs.declared.state.StoredTransfer.{StoredTransfer}
-use Rattle.pm_types.specs.declared.status.Phase.{Phase}
-use Rattle.pm_types.specs.declared.status.Phase.TheVariants.{Transferring, Transferred, Processing as BeingProcessed, Processed}
-use Rattle.pm_types.specs.declared.status.Status.TheVariants.{Processing}
-use Rattle.pm_types.specs.NodeState.{NodeState, SessionOf, Transfer, is_in, phase_code}
-use Rattle.pm_types.specs.Clusters.{all_units, units_of}
-use Rattle.pm_types.specs.Stored.{Areas, State, session_meaning, transfer_meaning}
-use Rattle.pm_types.specs.Transfers.{is_of, parts_of, parts_read, transfer_of}
-use Rattle.pm_types.specs.Validity.{IsWholeFromTransferred}
-use Rattle.pm_types.specs.Work.{processed, unit}
-use Rattle.package_reader.specs.declared.fault.PackageFault.{PackageFault}
-use Rattle.package_reader.specs.declared.package.Package.{Package}
-use Rattle.package_reader.specs.Fields.{number_at, payload_in, payload_place}
-use Rattle.package_reader.specs.Reading.{reading, unless}
-use Rattle.transfer_blocks.specs.Areas.{content_of}
-use Rattle.transfer_blocks.specs.Table.{stored_of}
-use Rattle.node_laws.specs.Fit.{IsRead}
-use Rattle.node_laws.proofs.Lists.{each-both, each-imp, each-unmap, found-has}
-use Rattle.node_laws.proofs.Lists.{is-processing}
-use Rattle.node_core.specs.Core.{Holding, IsSound, node_of}
-use Rattle.node_core.specs.declared.prepared.Prepared.{Prepared}
-use Rattle.node_core.specs.Packages.{package_reading, verdict_of}
-use Rattle.node_core.specs.Places.{IsCopiedIn, IsPartCopied, goes_to}
-use Rattle.node_core.specs.Prepared.{with_length}
-use Rattle.node_core.specs.Units.{IsPackageReady, IsPartReady, IsUnit, IsUnitReady, stored_units, unit_end}
-use Rattle.node_core.proofs.Judged.{rise}
-use Rattle.node_core.proofs.Stored.{found-is, found-means, only}
+use Rattle.node_core.proofs.Names.{AllByRecursion, Areas, BeingProcessed, Bool, Bytes, Err, Extent, Holding, IfSome}
+use Rattle.node_core.proofs.Names.{IsCopiedIn, IsPackageReady, IsPartCopied, IsPartReady, IsRead, IsSomeAnd, IsSound}
+use Rattle.node_core.proofs.Names.{IsUnit, IsUnitReady, IsWholeFromTransferred, List, Manifest, NodeState, None, Ok}
+use Rattle.node_core.proofs.Names.{Option, Package, PackageFault, Part, Phase, Prepared, Processed, Processing}
+use Rattle.node_core.proofs.Names.{Result, SessionOf, Some, State, StoredTransfer, Transfer, Transferred}
+use Rattle.node_core.proofs.Names.{Transferring, all_units, ap, arith, block_limit, content_of, drop, eq-eqb, goes_to}
+use Rattle.node_core.proofs.Names.{if◌then◌else◌, is_in, is_of, length, length-drop, length-take, ltb-true, map}
+use Rattle.node_core.proofs.Names.{nat_lt, nat_tests, node_of, number_at, option_map, package_reading, parts_of}
+use Rattle.node_core.proofs.Names.{parts_read, payload_in, payload_place, phase_code, processed, refl}
+use Rattle.node_core.proofs.Names.{session_meaning, slice_index_or, stored_of, stored_units, subst, sum_by-cons, sym}
+use Rattle.node_core.proofs.Names.{take, transfer_meaning, transfer_of, true, unit, unit_end, units_of, unless}
+use Rattle.node_core.proofs.Names.{verdict_of, with_length, [], ℕ, ◌*◌, ◌+◌, ◌<◌, ◌==◌, ◌∙◌, ◌∷◌, ◌≡◌, ◌≤◌}
+use Rattle.package_reader.specs.Reading.{reading}
+use Rattle.node_laws.proofs.Lists.{each-both, each-imp, each-unmap, found-has, is-processing}
+use Rattle.node_core.proofs.Arrived.{goes-by, marked-order}
+use Rattle.node_core.proofs.Stored.{rise, found-is, found-means, only}
 use Rattle.node_core.proofs.Worked.{at_work, moved}
 
 -- the session with a package in processing
@@ -135,12 +110,6 @@ end-last done size last = omega (arith, last)
 pub begin-within : (done size : ℕ) → done < units_of size → done * block_limit ≤ size
 begin-within done size left = omega (arith, left)
 
--- a payload goes to the same side while only the units done rise
-goes-same : (v : Holding) (x : SessionOf Extent) (id n : ℕ) (m : Manifest) (a : Action) → goes_to (record (at_process v x id).state { session = Some (record (busy x id) { units_done = n }) }) m a ≡ goes_to (at_process v x id).state m a
-goes-same v x id n m Install = refl
-goes-same v x id n m Update = refl
-goes-same v x id n m Remove = refl
-
 module _ (v : Holding) (x : SessionOf Extent) (id : ℕ) (p : Prepared) (sound : IsSound (at_process v x id)) (h : InHand v x id) where
   -- what is ready for the part in processing
   pub part-ready : IsUnitReady Processing (at_process v x id) (busy x id) → IsPartReady (at_process v x id) (busy x id) id (part_of h.pack)
@@ -155,6 +124,26 @@ module _ (v : Holding) (x : SessionOf Extent) (id : ℕ) (p : Prepared) (sound :
       let s = node_of (at_process v x id) in
       let y = session_meaning v.areas (busy x id) in
       Some (if more then record s { session = Some (record y { units_done = y.units_done + 1 }) } else processed s y id parts)
+
+  -- what is copied of the part in hand is all that need be, while transfers mean the same
+  pub hand-copied : (areas : Areas) (s : State) → ((t : StoredTransfer) → transfer_meaning package_reading areas t ≡ transfer_meaning package_reading v.areas t)
+      → IsPartCopied areas s (part_of h.pack) → AllByRecursion (λ t. IsCopiedIn package_reading areas s t t.header.phase) v.state.transfers
+  hand-copied areas s reads own = each-both _ _ _ (λ t due same. copied t t.header.phase due same) v.state.transfers
+      (each-unmap (λ (t : Transfer). is_in BeingProcessed t.header ≡ (id == t.header.id)) (transfer_meaning package_reading v.areas) v.state.transfers
+      sound.fit.consistent.processing.each)
+      (only x.owner id v.state.transfers h.transfer (rise (at_process v x id) sound) h.is)
+    where
+      flip : (n : ℕ) → true ≡ (id == n) → (n == id) ≡ true
+      flip n e = grind (arith, nat_tests, sym e)
+
+      copied : (t : StoredTransfer) (phase : Phase) → (phase_code phase == 2) ≡ (id == t.header.id) → ((t.header.id == id) ≡ true → t ≡ h.transfer)
+          → IsCopiedIn package_reading areas s t phase
+      copied t Transferring due same = tt
+      copied t Transferred due same = tt
+      copied t BeingProcessed due same =
+          subst (λ (u : StoredTransfer). AllByRecursion (IsPartCopied areas s) (transfer_meaning package_reading areas u).parts) (sym (same (flip t.header.id due)))
+          (subst (AllByRecursion (IsPartCopied areas s)) (sym (ap (λ (k : Transfer). k.parts) (reads h.transfer) ∙ h.parts)) (own, tt))
+      copied t Processed due same = tt
 
   -- what the unit does
   pub unit-done : (passed more : Bool) → nat_lt (x.units_done + 1) (units_of (length h.pack.payload)) ≡ more → unit (node_of (at_process v x id)) passed ≡ process_at (part_of h.pack ∷ []) more
@@ -172,37 +161,17 @@ module _ (v : Holding) (x : SessionOf Extent) (id : ℕ) (p : Prepared) (sound :
       → IsUnit (at_process v x id) passed (moved v (busy x id) p Processing (record (busy x id) { units_done = x.units_done + 1 }) v.state.running)
   more-unit passed ready more = record {
     node = unit-done passed true more;
-    order = record {
-      clusters = sound.order.clusters;
-      session = sound.order.session;
-      transfers = sound.order.transfers;
-      slots = sound.order.slots;
-      places = sound.order.places;
-      running = sound.order.running;
-    };
-    copied = each-both _ _ _ (λ t due same. copied t t.header.phase due same) v.state.transfers
-        (each-unmap (λ (t : Transfer). is_in BeingProcessed t.header ≡ (id == t.header.id)) (transfer_meaning package_reading v.areas) v.state.transfers sound.fit.consistent.processing.each)
-        (only x.owner id v.state.transfers h.transfer (rise (at_process v x id) sound) h.is);
+    order = marked-order v.areas (at_process v x id).state Processing (busy x id) (Some id) (x.units_done + 1) x.verified x.outcome
+        sound.order sound.order.running;
+    copied = hand-copied v.areas new (λ t. refl) own;
     entries = refl;
   }
     where
-      m : Manifest
-      m = h.pack.manifest
-
-      flip : (n : ℕ) → true ≡ (id == n) → (n == id) ≡ true
-      flip n e = grind (arith, nat_tests, sym e)
-
       own : IsPartCopied v.areas new (part_of h.pack)
       own =
           let within = end-within x.units_done (length h.pack.payload) (ltb-true _ _ more) in
           let ends : unit_end x.units_done (length h.pack.payload) ≡ (x.units_done + 1) * block_limit = omega (arith, within) in
-          ap (λ a. take ((x.units_done + 1) * block_limit) (content_of a v.areas)) (goes-same v x id (x.units_done + 1) m m.action)
-          ∙ ap (λ n. take n (content_of (goes_to (at_process v x id).state m m.action) v.areas)) (sym ends)
-          ∙ (part-ready ready).bytes
-
-      copied : (t : StoredTransfer) (phase : Phase) → (phase_code phase == 2) ≡ (id == t.header.id) → ((t.header.id == id) ≡ true → t ≡ h.transfer) → IsCopiedIn package_reading v.areas new t phase
-      copied t Transferring due same = tt
-      copied t Transferred due same = tt
-      copied t BeingProcessed due same =
-          subst (λ (u : StoredTransfer). AllByRecursion (IsPartCopied v.areas new) (transfer_meaning package_reading v.areas u).parts) (sym (same (flip t.header.id due))) (subst (AllByRecursion (IsPartCopied v.areas new)) (sym h.parts) (own, tt))
-      copied t Processed due same = tt
+          let area = goes_to (at_process v x id).state h.pack.manifest h.pack.manifest.action in
+          ap (λ a. take ((x.units_done + 1) * block_limit) (content_of a v.areas))
+          (goes-by (at_process v x id).state new refl refl h.pack.manifest h.pack.manifest.action)
+          ∙ ap (λ n. take n (content_of area v.areas)) (sym ends) ∙ (part-ready ready).bytes

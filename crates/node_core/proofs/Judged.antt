@@ -1,34 +1,23 @@
 -- A call on the table of transfers is judged as the node's table says.
-use Rattle.std.proofs.Common.{◌≡◌, refl, sym, subst, ap, ◌∙◌, ℕ, ◌+◌, true, List, [], ◌++◌, length, map, take}
-use Rattle.std.specs.Prelude.{◌==◌, not, if◌then◌else◌, option_map, Option, Some, None, Ok, Err, slice_index_or}
-use Rattle.std.specs.Option.{option_or, option_map_or}
-use Rattle.std.specs.List.{AllByRecursion}
-use Rattle.std.proofs.lemmas.List.{length-map}
-use Rattle.pm_types.specs.declared.calls.Call.{Call}
-use Rattle.pm_types.specs.declared.calls.Call.TheVariants.{TransferStart, TransferData, TransferExit, DeleteTransfer}
-use Rattle.pm_types.specs.declared.replies.Refusal.{Refusal}
-use Rattle.pm_types.specs.declared.replies.Reply.{Reply}
-use Rattle.pm_types.specs.declared.replies.Reply.TheVariants.{Done, Started}
-use Rattle.pm_types.specs.declared.state.StoredTransfer.{StoredTransfer}
-use Rattle.pm_types.specs.declared.transfers.ExitVerdict.{ExitVerdict}
-use Rattle.pm_types.specs.declared.transfers.ExitVerdict.TheVariants.{Good, Bad}
-use Rattle.pm_types.specs.declared.status.Phase.TheVariants.{Transferring, Transferred}
-use Rattle.pm_types.specs.NodeState.{Transfer, is_in, phase_code, some_passes}
-use Rattle.pm_types.specs.Refusals.{first_refusal}
-use Rattle.pm_types.specs.Steps.{acceptance, accepted, after_reply, refused_or}
-use Rattle.pm_types.specs.Stored.{Areas, IsInOrder, transfer_meaning}
-use Rattle.pm_types.specs.Transfers.{start_refusals, data_refusals, exit_refusals, delete_refusals, Verdict, grown, header_of, in_phase, is_of, parts_read, transfer_of, verdict_refusal, with_transfer}
-use Rattle.pm_types.specs.Validity.{numbers_rise}
-use Rattle.transfer_blocks.specs.Table.{IsTable, Table, bad_refusal, good_parts, lowest_free, received, slots_of, stored_header, stored_of, unless_refused, whole, with_fresh, with_stored, without}
-use Rattle.node_laws.proofs.Lists.{each-append, each-both, found-has, each-filter, each-imp}
-use Rattle.node_laws.proofs.Lists.{rows-clear, both-none, not-false, is-transferring}
-use Rattle.node_core.specs.Core.{Holding, IsBehind, IsReady, IsJudged, IsSound, node_of, refusal_by, table_of, verdict_on, with_table}
-use Rattle.node_core.specs.Packages.{package_reading}
-use Rattle.node_core.specs.Places.{IsCopied, IsCopiedIn}
-use Rattle.node_core.specs.Prepared.{IsVerdictKept, verdict_in, verdict_kept, with_length}
-use Rattle.node_core.specs.declared.prepared.Prepared.{Prepared}
+use Rattle.node_core.proofs.Names.{AllByRecursion, Areas, Bad, Call, DeleteTransfer, Done, Err, ExitVerdict, Good}
+use Rattle.node_core.proofs.Names.{Holding, IsBehind, IsCopied, IsCopiedIn, IsInOrder, IsJudged, IsReady, IsSound}
+use Rattle.node_core.proofs.Names.{IsTable, IsVerdictKept, List, None, Ok, Option, Prepared, Refusal, Reply, Some}
+use Rattle.node_core.proofs.Names.{Started, StoredTransfer, Table, Transfer, TransferData, TransferExit}
+use Rattle.node_core.proofs.Names.{TransferStart, Transferred, Transferring, Verdict, acceptance, accepted}
+use Rattle.node_core.proofs.Names.{after_reply, ap, bad_refusal, data_refusals, delete_refusals, exit_refusals}
+use Rattle.node_core.proofs.Names.{first_refusal, good_parts, grown, header_of, if◌then◌else◌, in_phase, is_in, is_of}
+use Rattle.node_core.proofs.Names.{length, length-map, map, map-append, node_of, not, option_map, option_map_or}
+use Rattle.node_core.proofs.Names.{option_or, package_reading, parts_read, phase_code, received, refl, refusal_by}
+use Rattle.node_core.proofs.Names.{refused_or, slice_index_or, some_passes, start_refusals, stored_header, stored_of}
+use Rattle.node_core.proofs.Names.{subst, sym, table_of, take, transfer_meaning, transfer_of, unless_refused}
+use Rattle.node_core.proofs.Names.{verdict_in, verdict_kept, verdict_on, verdict_refusal, whole, with_fresh}
+use Rattle.node_core.proofs.Names.{with_length, with_stored, with_table, with_transfer, without, [], ℕ, ◌++◌, ◌+◌}
+use Rattle.node_core.proofs.Names.{◌==◌, ◌∙◌, ◌≡◌}
+use Rattle.transfer_blocks.proofs.Meanings.{filter-means, header-means}
+use Rattle.node_laws.proofs.Lists.{each-append, each-both, found-has, each-filter, each-imp, rows-clear, both-none}
+use Rattle.node_laws.proofs.Lists.{not-false, is-transferring}
+use Rattle.node_core.proofs.Stored.{rise, found-is, only-has, changed-means, found-means, some-stored, staged-bytes}
 use Rattle.node_core.proofs.Lists.{change-each}
-use Rattle.node_core.proofs.Stored.{ids, found-is, only-has, ids-mean, header-means, started-means, filtered-means, changed-means, found-means, some-stored, staged-bytes}
 
 -- the node with another table
 abbrev pub tabled : Table → Prepared → Holding → Holding
@@ -92,9 +81,6 @@ accepts v client call next p sound node each form = record {
   copied = each-imp _ _ (λ t kept. kept.1) next.transfers each;
 }
 
-pub rise : (v : Holding) → IsSound v → numbers_rise (ids v.state.transfers) ≡ true
-rise v sound = ap numbers_rise (sym (ids-mean package_reading v.areas v.state.transfers)) ∙ sound.fit.consistent.transfers.rise
-
 -- one transfer changed
 changed : (v : Holding) (client : ℕ) (call : Call) (id : ℕ) (u : StoredTransfer) (g : StoredTransfer → StoredTransfer) (h : Transfer → Transfer) (p : Prepared) → IsSound v → stored_of v.state.transfers client id ≡ Some u
     → accepted (node_of v) client call (verdict_on v client call) ≡ with_transfer id h (node_of v) → transfer_meaning package_reading v.areas (g u) ≡ h (transfer_meaning package_reading v.areas u) → IsTended v (g u) → IsTable (with_stored id g (table_of v.state))
@@ -113,7 +99,7 @@ start-judged v client size reply table sound form answers tables =
     judged-by v client (TransferStart size) (Started v.state.next_id) _ reply table (with_fresh client size (table_of v.state)) v.prepared sound form
     (ap (λ n. first_refusal (start_refusals v.state.next_id n size)) (length-map v.state.transfers (transfer_meaning package_reading v.areas))) refl refl refl answers tables
     (λ none next. accepts v client (TransferStart size) (with_fresh client size (table_of v.state)) v.prepared sound
-    (ap (λ ts. record (node_of v) { next_id = v.state.next_id + 1; transfers = ts }) (started-means package_reading v.areas v.state.next_id client size (lowest_free (slots_of v.state.transfers)) v.state.transfers))
+    (ap (λ ts. record (node_of v) { next_id = v.state.next_id + 1; transfers = ts }) (map-append (transfer_meaning package_reading v.areas) v.state.transfers _))
     (each-append (IsTended v) v.state.transfers _ (tended v sound) ((refl, tt), tt)) next)
 
 -- DeleteTransfer
@@ -122,9 +108,9 @@ pub delete-judged : (v : Holding) (client id : ℕ) (reply : Reply) (table : Tab
     → IsJudged v client (DeleteTransfer id) reply (tabled table v.prepared v)
 delete-judged v client id reply table sound form answers tables =
     judged-by v client (DeleteTransfer id) Done _ reply table (without id (table_of v.state)) v.prepared sound form
-    (ap (λ h. first_refusal (delete_refusals h)) (header-means package_reading v.areas client id v.state.transfers)) refl refl refl answers tables
+    (ap (λ h. first_refusal (delete_refusals h)) (header-means package_reading v.areas (is_of client id) v.state.transfers)) refl refl refl answers tables
     (λ none next. accepts v client (DeleteTransfer id) (without id (table_of v.state)) v.prepared sound
-    (ap (λ ts. record (node_of v) { transfers = ts }) (filtered-means package_reading v.areas (λ h. not (h.id == id)) v.state.transfers))
+    (ap (λ ts. record (node_of v) { transfers = ts }) (sym (filter-means package_reading v.areas (λ h. not (h.id == id)) v.state.transfers)))
     (each-filter (IsTended v) _ v.state.transfers (tended v sound)) next)
 
 -- a transfer that isn't whole has no parts yet
@@ -133,7 +119,7 @@ early areas t e = ap (λ p. if phase_code p == 0 then [] else parts_read (packag
 
 -- a block is refused by what is stored
 pub data-same : (v : Holding) (client id counter : ℕ) (block : List ℕ) → refusal_by v client (TransferData id counter block) ≡ first_refusal (data_refusals (stored_header v.state.transfers client id) counter (length block))
-data-same v client id counter block = ap (λ h. first_refusal (data_refusals h counter (length block))) (header-means package_reading v.areas client id v.state.transfers)
+data-same v client id counter block = ap (λ h. first_refusal (data_refusals h counter (length block))) (header-means package_reading v.areas (is_of client id) v.state.transfers)
 
 -- TransferData
 pub block-judged : (v : Holding) (client id counter : ℕ) (block : List ℕ) (reply : Reply) (table : Table) → IsSound v → IsReady v client (TransferData id counter block) → IsTable table
@@ -190,7 +176,7 @@ exit-judged v client id reply table sound ready form answers tables p =
     accepted-of both.0 both.1 there.0 there.1 next)
   where
     header : header_of (transfer_of (node_of v) client id) ≡ stored_header v.state.transfers client id
-    header = header-means package_reading v.areas client id v.state.transfers
+    header = header-means package_reading v.areas (is_of client id) v.state.transfers
 
     judged : first_refusal (exit_refusals (stored_header v.state.transfers client id)) ≡ None → IsVerdictKept (verdict_kept v.prepared) (verdict_on v client (TransferExit id))
     judged none = ready (ap (λ h. first_refusal (exit_refusals h)) header ∙ none)

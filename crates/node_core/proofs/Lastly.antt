@@ -1,71 +1,32 @@
 -- What the last unit of a package leaves of a sound node.
-use Rattle.std.proofs.Common.{◌≡◌, refl, sym, subst, ap, ◌∙◌, ℕ, ◌+◌, ◌-◌, ◌*◌, ◌^◌, ◌<◌, ◌≤◌, Bool, true, false, List, [], ◌∷◌, ◌++◌, length, map, take, arith}
-use Rattle.std.specs.Prelude.{cond, slice_index_or, ◌==◌, ◌||◌, not, nat_lt, if◌then◌else◌, unwrap_or, Option, Some, None}
-use Rattle.std.specs.List.{AllByRecursion}
-use Rattle.std.specs.Option.{option_map_or}
-use Rattle.std.specs.Str.{bytes_eq}
-use Rattle.std.proofs.lemmas.Bool.{and_parts, eq-eqb, le-ltb, lt-ltb, ltb-false, ltb-true}
-use Rattle.std.proofs.lemmas.Bool.Decides.{nat_tests}
-use Rattle.std.proofs.lemmas.List.{length-map, length-append, length-take, append-nil, map-append, take_all}
-use Rattle.ucm_base.specs.declared.parts.Action.{Action}
-use Rattle.ucm_base.specs.declared.parts.Action.TheVariants.{Install, Update, Remove}
-use Rattle.ucm_base.specs.declared.parts.Manifest.{Manifest}
-use Rattle.ucm_base.specs.Limits.{block_limit, cluster_limit, package_limit}
-use Rattle.ucm_base.specs.Names.{all_differ, different_names, has_name}
-use Rattle.ucm_base.specs.Parts.{Bytes}
-use Rattle.pm_types.specs.declared.clusters.Change.{Change}
-use Rattle.pm_types.specs.declared.clusters.Cluster.{Cluster}
-use Rattle.pm_types.specs.declared.clusters.Extent.{Extent}
-use Rattle.pm_types.specs.declared.clusters.Part.{Part}
-use Rattle.pm_types.specs.declared.state.StoredTransfer.{StoredTransfer}
-use Rattle.pm_types.specs.declared.status.Phase.TheVariants.{Processing as BeingProcessed, Processed}
-use Rattle.pm_types.specs.declared.status.Status.TheVariants.{Processing, Ready}
-use Rattle.pm_types.specs.declared.status.Status.{Status}
-use Rattle.pm_types.specs.NodeState.{SessionOf, Transfer, is_in, phase_code}
-use Rattle.pm_types.specs.Transfers.{is_of}
-use Rattle.pm_types.specs.Clusters.{cluster_at, cluster_of, has_cluster, units_of}
-use Rattle.pm_types.specs.Sessions.{applies, suits}
-use Rattle.pm_types.specs.Validity.{parts_in}
-use Rattle.pm_types.specs.Stored.{Areas, State, session_meaning, IsExtent, change_meaning, change_place, cluster_meaning, cluster_place, names_fit_places, on_side, places_in, takes_side, transfer_meaning}
-use Rattle.transfer_blocks.specs.Areas.{content_of}
-use Rattle.node_laws.proofs.Lists.{each-append, each-first, each-imp, each-map, each-unmap, found-has}
-use Rattle.node_laws.proofs.NameLists.{Within, eq-name, has-append, name-swap, name-eq, within-left, within-right, within-self}
-use Rattle.node_laws.proofs.Lists.{not-true}
-use Rattle.node_core.specs.Core.{Holding, IsSound, node_of, table_of, with_table}
-use Rattle.node_core.specs.Places.{all_places, goes_to, lowest_free, running_at}
-use Rattle.node_core.specs.declared.prepared.Prepared.{Prepared}
-use Rattle.node_core.specs.Packages.{package_reading}
-use Rattle.node_core.specs.Prepared.{with_length}
-use Rattle.node_core.specs.Units.{IsReservedWork, IsUnit, IsUnitReady, change_kept, extent_in, stored_units, unit_end}
-use Rattle.transfer_blocks.specs.Table.{Table, moved as moved_to, stored_of, with_stored}
+use Rattle.node_core.proofs.Names.{Action, AllByRecursion, Areas, BeingProcessed, Bool, Bytes, Change, Cluster}
+use Rattle.node_core.proofs.Names.{Extent, Holding, Install, IsExtent, IsReservedWork, IsSound, IsUnit, IsUnitReady}
+use Rattle.node_core.proofs.Names.{List, Manifest, None, Option, Part, Prepared, Processed, Processing, Ready, Remove}
+use Rattle.node_core.proofs.Names.{SessionOf, Some, State, Status, StoredTransfer, Table, Transfer, Update}
+use Rattle.node_core.proofs.Names.{all_differ, all_places, ap, append-nil, applies, arith, block_limit, bytes_eq}
+use Rattle.node_core.proofs.Names.{change_kept, change_meaning, change_place, cluster_at, cluster_limit}
+use Rattle.node_core.proofs.Names.{cluster_meaning, cluster_of, cluster_place, content_of, different_names, eq-eqb}
+use Rattle.node_core.proofs.Names.{extent_in, false, goes_to, has_cluster, has_name, if◌then◌else◌, is_in, is_of}
+use Rattle.node_core.proofs.Names.{le-ltb, length, length-append, length-map, length-take, lowest_free, lt-ltb}
+use Rattle.node_core.proofs.Names.{ltb-false, ltb-true, map, map-append, map-map, moved as moved_to, names_fit_places}
+use Rattle.node_core.proofs.Names.{nat_lt, nat_tests, node_of, not, on_side, option_map_or, package_limit}
+use Rattle.node_core.proofs.Names.{package_reading, parts_in, phase_code, places_in, refl, running_at}
+use Rattle.node_core.proofs.Names.{session_meaning, slice_index_or, stored_of, stored_units, subst, suits, sym}
+use Rattle.node_core.proofs.Names.{table_of, take, take_all, takes_side, transfer_meaning, true, unit_end, units_of}
+use Rattle.node_core.proofs.Names.{unwrap_or, with_length, with_stored, with_table, [], ℕ, ◌*◌, ◌++◌, ◌+◌, ◌-◌, ◌<◌}
+use Rattle.node_core.proofs.Names.{◌==◌, ◌^◌, ◌||◌, ◌∙◌, ◌∷◌, ◌≡◌, ◌≤◌}
+use Rattle.node_laws.proofs.Lists.{each-append, each-first, each-imp, each-map, each-unmap, found-has, not-true}
+use Rattle.node_laws.proofs.NameLists.{Within, has-append, name-eq, within-left, within-right, within-self}
+use Rattle.node_core.proofs.Lists.{all-each, each-all, any-found, each-second}
+use Rattle.node_core.proofs.Named.{differ-before, has-named, differ-few}
 use Rattle.node_core.proofs.Phased.{phased-means, phased-placed, phased-slots}
 use Rattle.node_core.proofs.Sound.{table-is}
 use Rattle.node_core.proofs.Worked.{none-copied, ready-at, sound-at, unit-at}
-use Rattle.node_core.proofs.Free.{Pair, differ-few, each-fits, free-place, fresh-fits, is_taken}
-use Rattle.node_core.proofs.Handled.{InHand, at_process, busy, bytes_of, end-last, in-hand, more-unit, part-ready, part_of, parts-found, payload-fits, stored-one, unit-done}
+use Rattle.node_core.proofs.Free.{Pair, each-fits, free-place, fresh-fits, is_taken}
+use Rattle.node_core.proofs.Handled.{InHand, at_process, busy, bytes_of, end-last, in-hand, more-unit, part-ready}
+use Rattle.node_core.proofs.Handled.{part_of, parts-found, payload-fits, stored-one, unit-done}
 use Rattle.node_core.proofs.Natural.{has-means}
-use Rattle.node_core.proofs.Planned.{all-each, among-fit, each-all}
-
-behind : {X : Type 0} (P : X → Type 0) (xs ys : List X) → AllByRecursion P (xs ++ ys) → AllByRecursion P ys
-behind P [] ys h = h
-behind P (x ∷ xs) ys h = behind P xs ys h.1
-
--- of different names, each is another than the last
-last-differs : (ns : List (List ℕ)) (n : List ℕ) → all_differ (ns ++ n ∷ []) ≡ true → has_name ns n ≡ false
-last-differs [] n d = refl
-last-differs (m ∷ ns) n d =
-    let parts = and_parts (not (has_name (ns ++ n ∷ []) m)) (all_differ (ns ++ n ∷ [])) d in
-    apart (bytes_eq n m) refl (not-true _ parts.0) ∙ last-differs ns n parts.1
-  where
-    apart : (b : Bool) → bytes_eq n m ≡ b → has_name (ns ++ n ∷ []) m ≡ false → (bytes_eq n m || has_name ns n) ≡ has_name ns n
-    apart false e k = ap (λ c. c || has_name ns n) e
-    apart true e k =
-        let same : n ≡ m = name-eq n m e in
-        absurd (let z = sym k ∙ has-append ns (n ∷ []) m ∙ or-true (has_name ns m) (has_name (n ∷ []) m) (ap (λ l. bytes_eq m l || false) same ∙ ap (λ c. c || false) (eq-name m m refl)) in let f : ⊥ = cc in f)
-      where
-        or-true : (a b : Bool) → b ≡ true → (a || b) ≡ true
-        or-true true b q = refl
-        or-true false b q = q
+use Rattle.node_core.proofs.Planned.{among-fit}
 
 -- a payload goes to an area of a place
 pub goes-lies : (areas : Areas) (s : State) (m : Manifest) (a : Action) (n : ℕ) → on_side areas (extent_in (goes_to s m a) n) ≡ take n (content_of (goes_to s m a) areas)
@@ -87,7 +48,9 @@ module _ (v : Holding) (x : SessionOf Extent) (id : ℕ) (sound : IsSound (at_pr
   plans = map (λ (c : Change Bytes). c.part) (map (change_meaning v.areas) x.changes)
 
   -- the names that the session's parts have
-  part-names : (changes : List (Change Extent)) → map cluster_of (map (λ (c : Change Bytes). c.part) (map (change_meaning v.areas) changes) ++ part_of h.pack ∷ []) ≡ map (λ (c : Change Extent). cluster_of c.part) changes ++ name ∷ []
+  part-names : (changes : List (Change Extent))
+      → map cluster_of (map (λ (c : Change Bytes). c.part) (map (change_meaning v.areas) changes) ++ part_of h.pack ∷ [])
+      ≡ map (λ (c : Change Extent). cluster_of c.part) changes ++ name ∷ []
   part-names [] = refl
   part-names (c ∷ cs) = ap (λ ns. cluster_of c.part ∷ ns) (part-names cs)
 
@@ -101,7 +64,7 @@ module _ (v : Holding) (x : SessionOf Extent) (id : ℕ) (sound : IsSound (at_pr
   pub there-is : suits h.pack.manifest.action (has_cluster x.saved name) ≡ true
   there-is =
       ap (suits h.pack.manifest.action) (sym (has-means v.areas x.saved name))
-      ∙ (behind (λ part. applies part (map (cluster_meaning v.areas) x.saved) ≡ true) plans (part_of h.pack ∷ [])
+      ∙ (each-second (λ part. applies part (map (cluster_meaning v.areas) x.saved) ≡ true) plans (part_of h.pack ∷ [])
       (subst (AllByRecursion (λ part. applies part (map (cluster_meaning v.areas) x.saved) ≡ true)) parts-are sound.fit.consistent.applying.each)).0
 
   pub runs : v.state.running ≡ x.saved
@@ -109,14 +72,14 @@ module _ (v : Holding) (x : SessionOf Extent) (id : ℕ) (sound : IsSound (at_pr
 
   -- no change is planned of its name
   pub new-change : has_name changed name ≡ false
-  new-change = last-differs changed name differ
+  new-change = differ-before changed name [] differ
 
   abbrev all : List (List ℕ)
   all = (map (λ (c : Cluster Extent). c.name) v.state.running ++ map (λ (c : Cluster Extent). c.name) x.saved) ++ (changed ++ name ∷ [])
 
-  pub names-mean : (cs : List (Cluster Extent)) → map (λ (c : Cluster Bytes). c.name) (map (cluster_meaning v.areas) cs) ≡ map (λ (c : Cluster Extent). c.name) cs
-  names-mean [] = refl
-  names-mean (c ∷ cs) = ap (λ ns. c.name ∷ ns) (names-mean cs)
+  pub names-mean : (cs : List (Cluster Extent))
+      → map (λ (c : Cluster Bytes). c.name) (map (cluster_meaning v.areas) cs) ≡ map (λ (c : Cluster Extent). c.name) cs
+  names-mean cs = map-map (λ (c : Cluster Bytes). c.name) (cluster_meaning v.areas) cs
 
   few : length (different_names all) ≤ cluster_limit
   few =
@@ -138,14 +101,6 @@ module _ (v : Holding) (x : SessionOf Extent) (id : ℕ) (sound : IsSound (at_pr
   abbrev size : ℕ
   size = length h.pack.payload
 
-  run-names : (cs : List (Cluster Extent)) → map (λ (a : Pair). a.0) (map cluster_place cs) ≡ map (λ (c : Cluster Extent). c.name) cs
-  run-names [] = refl
-  run-names (c ∷ cs) = ap (λ ns. c.name ∷ ns) (run-names cs)
-
-  change-names : (cs : List (Change Extent)) → map (λ (a : Pair). a.0) (map change_place cs) ≡ map (λ (c : Change Extent). cluster_of c.part) cs
-  change-names [] = refl
-  change-names (c ∷ cs) = ap (λ ns. cluster_of c.part ∷ ns) (change-names cs)
-
   abbrev ran : List (List ℕ)
   ran = map (λ (c : Cluster Extent). c.name) v.state.running
 
@@ -155,17 +110,19 @@ module _ (v : Holding) (x : SessionOf Extent) (id : ℕ) (sound : IsSound (at_pr
   pair-names : map (λ (a : Pair). a.0) pairs ≡ ran ++ (kept ++ changed)
   pair-names =
       map-append (λ (a : Pair). a.0) (map cluster_place v.state.running) (map cluster_place x.saved ++ map change_place x.changes)
-      ∙ (λ i. run-names v.state.running i ++ (map-append (λ (a : Pair). a.0) (map cluster_place x.saved) (map change_place x.changes) ∙ (λ j. run-names x.saved j ++ change-names x.changes j)) i)
+      ∙ (λ i. map-map (λ (a : Pair). a.0) cluster_place v.state.running i
+      ++ (map-append (λ (a : Pair). a.0) (map cluster_place x.saved) (map change_place x.changes)
+      ∙ (λ j. map-map (λ (a : Pair). a.0) cluster_place x.saved j ++ map-map (λ (a : Pair). a.0) change_place x.changes j)) i)
 
-  has-named : (cs : List (Cluster Extent)) → has_name (map (λ (c : Cluster Extent). c.name) cs) name ≡ has_cluster cs name
-  has-named [] = refl
-  has-named (c ∷ cs) = (λ i. name-swap name c.name i || has-named cs i)
+  has-there : (cs : List (Cluster Extent)) → has_cluster cs name ≡ false → has_name (map (λ (c : Cluster Extent). c.name) cs) name ≡ false
+  has-there cs other = has-named (λ (c : Cluster Extent). c.name) cs name ∙ other
 
   -- a place is free where the name is new
   pub free : has_cluster x.saved name ≡ false → (is_taken pairs (lowest_free state) ≡ false) × (lowest_free state < cluster_limit) × (has_name (map (λ (a : Pair). a.0) pairs) name ≡ false)
   free other =
       let absent : has_name (ran ++ (kept ++ changed)) name ≡ false = has-append ran (kept ++ changed) name
-      ∙ (λ i. (ap (λ (cs : List (Cluster Extent)). has_name (map (λ (c : Cluster Extent). c.name) cs) name) runs ∙ has-named x.saved ∙ other) i || (has-append kept changed name ∙ (λ j. (has-named x.saved ∙ other) j || new-change j)) i) in
+      ∙ (λ i. has-there v.state.running (ap (λ cs. has_cluster cs name) runs ∙ other) i
+      || (has-append kept changed name ∙ (λ j. has-there x.saved other j || new-change j)) i) in
       let new : has_name (map (λ (a : Pair). a.0) pairs) name ≡ false = ap (λ ns. has_name ns name) pair-names ∙ absent in
       let inside : Within (ran ++ (kept ++ changed)) all = each-append _ ran (kept ++ changed) (within-left ran (ran ++ kept) (changed ++ name ∷ []) (within-left ran ran kept (within-self ran)))
       (each-append _ kept changed (within-left kept (ran ++ kept) (changed ++ name ∷ []) (within-right kept ran kept (within-self kept))) (within-right changed (ran ++ kept) (changed ++ name ∷ []) (within-left changed changed (name ∷ []) (within-self changed)))) in
@@ -184,15 +141,7 @@ module _ (v : Holding) (x : SessionOf Extent) (id : ℕ) (sound : IsSound (at_pr
 
   -- what a search for a running cluster finds
   pub ran-there : has_cluster x.saved name ≡ true → (c : Cluster Extent) × (cluster_at v.state.running name ≡ Some c)
-  ran-there there = any-cluster v.state.running (ap (λ (cs : List (Cluster Extent)). has_cluster cs name) runs ∙ there)
-    where
-      any-cluster : (cs : List (Cluster Extent)) → has_cluster cs name ≡ true → (c : Cluster Extent) × (cluster_at cs name ≡ Some c)
-      any-cluster [] t = absurd (cc)
-      any-cluster (c ∷ cs) t = go (bytes_eq c.name name) t (any-cluster cs)
-        where
-          go : (b : Bool) → (b || has_cluster cs name) ≡ true → (has_cluster cs name ≡ true → (d : Cluster Extent) × (cluster_at cs name ≡ Some d)) → (d : Cluster Extent) × (cond b (Some c) (cluster_at cs name) ≡ Some d)
-          go true k rec = (c, refl)
-          go false k rec = rec k
+  ran-there there = any-found (λ (c : Cluster Extent). bytes_eq c.name name) v.state.running (ap (λ (cs : List (Cluster Extent)). has_cluster cs name) runs ∙ there)
 
   -- the places with the change's
   abbrev later : Action → List Pair
@@ -200,10 +149,10 @@ module _ (v : Holding) (x : SessionOf Extent) (id : ℕ) (sound : IsSound (at_pr
 
   later-among : (a : Action) (P : Pair → Type 0) → P (change_place (change_at a)) → AllByRecursion P pairs → AllByRecursion P (later a)
   later-among a P own each =
-      let rest = behind P (map cluster_place v.state.running) (map cluster_place x.saved ++ map change_place x.changes) each in
+      let rest = each-second P (map cluster_place v.state.running) (map cluster_place x.saved ++ map change_place x.changes) each in
       each-append P (map cluster_place v.state.running) _ (each-first P (map cluster_place v.state.running) (map cluster_place x.saved ++ map change_place x.changes) each)
       (each-append P (map cluster_place x.saved) _ (each-first P (map cluster_place x.saved) (map change_place x.changes) rest)
-      (subst (AllByRecursion P) (sym (map-append change_place x.changes (change_at a ∷ []))) (each-append P (map change_place x.changes) _ (behind P (map cluster_place x.saved) (map change_place x.changes) rest) (own, tt))))
+      (subst (AllByRecursion P) (sym (map-append change_place x.changes (change_at a ∷ []))) (each-append P (map change_place x.changes) _ (each-second P (map cluster_place x.saved) (map change_place x.changes) rest) (own, tt))))
 
   -- a change of a running cluster has its place
   own-place : (c : Cluster Extent) → cluster_at v.state.running name ≡ Some c → (P : Pair → Type 0) → AllByRecursion P pairs → P (name, (running_at state name).place)
@@ -215,7 +164,7 @@ module _ (v : Holding) (x : SessionOf Extent) (id : ℕ) (sound : IsSound (at_pr
   pub later-fits : (a : Action) → suits a (has_cluster x.saved name) ≡ true → names_fit_places (later a) ≡ true
   later-fits Install s =
       let f = free (not-true _ s) in
-      among-fit (later Install) ((name, lowest_free state) ∷ pairs) (λ P each. later-among Install P each.0 each.1) (fresh-fits pairs (each-fits pairs sound.order.places) name (lowest_free state) f.2 f.0)
+      among-fit (later Install) ((name, lowest_free state) ∷ pairs) (λ P each. later-among Install P each.0 each.1) (fresh-fits pairs name (lowest_free state) sound.order.places f.2 f.0)
   later-fits Update s = let r = ran-there s in among-fit (later Update) pairs (λ P each. later-among Update P (own-place r.0 r.1 P each) each) sound.order.places
   later-fits Remove s = let r = ran-there s in among-fit (later Remove) pairs (λ P each. later-among Remove P (own-place r.0 r.1 P each) each) sound.order.places
 

@@ -1,41 +1,68 @@
--- Lists in which one member is changed.
-use Rattle.std.proofs.Common.{◌≡◌, refl, ap, ◌∙◌, Bool, true, false, List, [], ◌∷◌, map, filter, cond, Option, Some}
-use Rattle.std.specs.Prelude.{find, if◌then◌else◌, option_map}
-use Rattle.std.specs.List.{AllByRecursion}
+-- Facts of each member of a list, and lists in which one member is changed.
+use Rattle.node_core.proofs.Names.{AllByRecursion, Bool, List, Some, and_parts, arith, both_true, cond, false, filter}
+use Rattle.node_core.proofs.Names.{find, if◌then◌else◌, list_all, list_any, map, option_map, refl, true, [], ◌++◌}
+use Rattle.node_core.proofs.Names.{◌||◌, ◌∷◌, ◌≡◌}
+use Rattle.node_laws.proofs.Lists.{neither}
+
+pub every : {X : Type 0} {P : X → Type 0} → ((x : X) → P x) → (xs : List X) → AllByRecursion P xs
+every f [] = tt
+every f (x ∷ xs) = (f x, every f xs)
+
+pub each-second : {X : Type 0} (P : X → Type 0) (xs ys : List X) → AllByRecursion P (xs ++ ys) → AllByRecursion P ys
+each-second P [] ys h = h
+each-second P (x ∷ xs) ys h = each-second P xs ys h.1
+
+-- a test that each passes
+pub all-each : {X : Type 0} (p : X → Bool) (xs : List X) → list_all p xs ≡ true → AllByRecursion (λ x. p x ≡ true) xs
+all-each p [] e = tt
+all-each p (x ∷ xs) e = let parts = and_parts (p x) (list_all p xs) e in (parts.0, all-each p xs parts.1)
+
+pub each-all : {X : Type 0} (p : X → Bool) (xs : List X) → AllByRecursion (λ x. p x ≡ true) xs → list_all p xs ≡ true
+each-all p [] h = refl
+each-all p (x ∷ xs) h = both_true h.0 (each-all p xs h.1)
+
+-- a test that none passes
+pub none-any : {X : Type 0} (p : X → Bool) (xs : List X) → list_any p xs ≡ false → AllByRecursion (λ x. p x ≡ false) xs
+none-any p [] e = tt
+none-any p (x ∷ xs) e = let parts = neither (p x) (list_any p xs) e in (parts.0, none-any p xs parts.1)
+
+-- a test that some passes finds it
+pub any-found : {X : Type 0} (p : X → Bool) (xs : List X) → list_any p xs ≡ true → (x : X) × (find p xs ≡ Some x)
+any-found p [] t = absurd (cc)
+any-found {X} p (x ∷ xs) t = go (p x) t (any-found p xs)
+  where
+    go : (b : Bool) → (b || list_any p xs) ≡ true → (list_any p xs ≡ true → (y : X) × (find p xs ≡ Some y))
+        → (y : X) × (cond b (Some x) (find p xs) ≡ Some y)
+    go true k rec = (x, refl)
+    go false k rec = rec k
+
+-- the images under functions that agree on the members
+pub map-same : {X Y : Type 0} (f g : X → Y) (xs : List X) → AllByRecursion (λ x. f x ≡ g x) xs → map f xs ≡ map g xs
+map-same f g [] each = refl
+map-same f g (x ∷ xs) each = λ i. each.0 i ∷ map-same f g xs each.1 i
 
 -- what is found among images is the image of what is found
-pub find-map : {X Y : Type 0} (f : X → Y) (p : Y → Bool) (xs : List X) → find p (map f xs) ≡ option_map f (find (λ x. p (f x)) xs)
+pub find-map : {X Y : Type 0} (f : X → Y) (p : Y → Bool) (xs : List X)
+    → find p (map f xs) ≡ option_map f (find (λ x. p (f x)) xs)
 find-map f p [] = refl
-find-map f p (x ∷ xs) = by-test (p (f x)) _ _ (find-map f p xs)
-  where
-    by-test : (b : Bool) (y : Option _) (found : Option _) → y ≡ option_map f found → cond b (Some (f x)) y ≡ option_map f (cond b (Some x) found)
-    by-test true y found e = refl
-    by-test false y found e = e
+find-map {X} {Y} f p (x ∷ xs) = grind (arith, find-map f p xs)
 
 -- the images of those that pass
-pub filter-map : {X Y : Type 0} (f : X → Y) (p : Y → Bool) (xs : List X) → map f (filter (λ x. p (f x)) xs) ≡ filter p (map f xs)
+pub filter-map : {X Y : Type 0} (f : X → Y) (p : Y → Bool) (xs : List X)
+    → map f (filter (λ x. p (f x)) xs) ≡ filter p (map f xs)
 filter-map f p [] = refl
-filter-map f p (x ∷ xs) = by-test (p (f x)) _ _ (filter-map f p xs)
-  where
-    by-test : (b : Bool) (kept : List _) (ys : List _) → map f kept ≡ ys → map f (cond b (x ∷ kept) kept) ≡ cond b (f x ∷ ys) ys
-    by-test true kept ys e = ap (λ zs. f x ∷ zs) e
-    by-test false kept ys e = e
+filter-map {X} {Y} f p (x ∷ xs) = grind (arith, filter-map f p xs)
 
 -- the images of a list with some members changed, where a change of a member is a change of its image
-pub change-map : {X Y : Type 0} (f : X → Y) (p : Y → Bool) (g : X → X) (h : Y → Y) (xs : List X) → AllByRecursion (λ x. p (f x) ≡ true → f (g x) ≡ h (f x)) xs
+pub change-map : {X Y : Type 0} (f : X → Y) (p : Y → Bool) (g : X → X) (h : Y → Y) (xs : List X)
+    → AllByRecursion (λ x. p (f x) ≡ true → f (g x) ≡ h (f x)) xs
     → map f (map (λ x. if p (f x) then g x else x) xs) ≡ map (λ y. if p y then h y else y) (map f xs)
 change-map f p g h [] each = refl
-change-map f p g h (x ∷ xs) each = by-test (p (f x)) each.0 _ _ (change-map f p g h xs each.1)
-  where
-    by-test : (b : Bool) → (b ≡ true → f (g x) ≡ h (f x)) → (zs : List _) (ys : List _) → map f zs ≡ ys → f (if b then g x else x) ∷ map f zs ≡ (if b then h (f x) else f x) ∷ ys
-    by-test true same zs ys e = ap (λ y. y ∷ map f zs) (same refl) ∙ ap (λ zs. h (f x) ∷ zs) e
-    by-test false same zs ys e = ap (λ zs. f x ∷ zs) e
+change-map {X} {Y} f p g h (x ∷ xs) each = grind (arith, change-map f p g h xs each.1)
 
 -- a fact of each member, where the changed ones keep it
-pub change-each : {X : Type 0} (P : X → Type 0) (p : X → Bool) (g : X → X) (xs : List X) → AllByRecursion (λ x. p x ≡ true → P (g x)) xs → AllByRecursion P xs → AllByRecursion P (map (λ x. if p x then g x else x) xs)
+pub change-each : {X : Type 0} (P : X → Type 0) (p : X → Bool) (g : X → X) (xs : List X)
+    → AllByRecursion (λ x. p x ≡ true → P (g x)) xs → AllByRecursion P xs
+    → AllByRecursion P (map (λ x. if p x then g x else x) xs)
 change-each P p g [] changed each = tt
-change-each P p g (x ∷ xs) changed each = (by-test (p x) changed.0, change-each P p g xs changed.1 each.1)
-  where
-    by-test : (b : Bool) → (b ≡ true → P (g x)) → P (if b then g x else x)
-    by-test true now = now refl
-    by-test false now = each.0
+change-each {X} P p g (x ∷ xs) changed each = grind (arith, change-each P p g xs changed.1 each.1)

@@ -1,38 +1,15 @@
 -- What is said of names, versions and needs is the same of where contents lie as of the contents.
-use Rattle.std.proofs.Common.{◌≡◌, refl, sym, ap, ◌∙◌, ℕ, Bool, List, [], ◌∷◌, ◌++◌, length, map, filter}
-use Rattle.std.specs.Prelude.{◌&&◌, ◌||◌, not, nat_le, option_map, Option, Some, None}
-use Rattle.std.specs.List.{list_any}
-use Rattle.std.specs.Option.{option_or}
-use Rattle.std.specs.Str.{bytes_eq}
-use Rattle.std.proofs.lemmas.List.{map-append}
-use Rattle.ucm_base.specs.declared.parts.Action.{Action}
-use Rattle.ucm_base.specs.declared.parts.Action.TheVariants.{Install, Update, Remove}
-use Rattle.ucm_base.specs.Limits.{cluster_limit}
-use Rattle.ucm_base.specs.Names.{different_names, name_lt}
-use Rattle.ucm_base.specs.Needs.{missing}
-use Rattle.ucm_base.specs.Parts.{Bytes}
-use Rattle.ucm_base.specs.Versions.{is_newer}
-use Rattle.pm_types.specs.declared.clusters.Change.{Change}
-use Rattle.pm_types.specs.declared.clusters.Cluster.{Cluster}
-use Rattle.pm_types.specs.declared.clusters.Extent.{Extent}
-use Rattle.pm_types.specs.declared.clusters.Part.{Part}
-use Rattle.pm_types.specs.declared.replies.Refusal.{Refusal}
-use Rattle.pm_types.specs.declared.replies.Refusal.TheVariants.{OldVersion, ActionNotApplicable, TooManyClusters, ClusterAlreadyChanged}
-use Rattle.pm_types.specs.NodeState.{some_passes}
-use Rattle.pm_types.specs.Clusters.{brought, changed_as, changed_by, cluster_at, cluster_of, has_cluster, planned, unmet_among, with_cluster}
-use Rattle.pm_types.specs.Refusals.{first_refusal}
-use Rattle.pm_types.specs.Sessions.{is_install, is_old, is_update, part_refusals, parts_refusal, suits}
-use Rattle.pm_types.specs.Stored.{Areas, change_meaning, cluster_meaning, on_side}
-use Rattle.node_core.specs.Prepared.{with_length}
+use Rattle.node_core.proofs.Names.{Action, ActionNotApplicable, Areas, Bool, Bytes, Change, Cluster}
+use Rattle.node_core.proofs.Names.{ClusterAlreadyChanged, Extent, Install, List, None, OldVersion, Option, Part}
+use Rattle.node_core.proofs.Names.{Refusal, Remove, Some, TooManyClusters, Update, ap, brought, bytes_eq}
+use Rattle.node_core.proofs.Names.{change_meaning, changed_as, changed_by, cluster_at, cluster_limit, cluster_meaning}
+use Rattle.node_core.proofs.Names.{cluster_of, different_names, filter, first_refusal, has_cluster, is_install}
+use Rattle.node_core.proofs.Names.{is_newer, is_old, is_update, length, list_any, map, map-append, map-map, missing}
+use Rattle.node_core.proofs.Names.{name_lt, nat_le, not, on_side, option_map, option_or, part_refusals, parts_refusal}
+use Rattle.node_core.proofs.Names.{planned, refl, some_passes, suits, sym, unmet_among, with_cluster, with_length, []}
+use Rattle.node_core.proofs.Names.{ℕ, ◌&&◌, ◌++◌, ◌∙◌, ◌∷◌, ◌≡◌}
+use Rattle.dependency_check.proofs.Mapped.{list_any-map}
 use Rattle.node_core.proofs.Lists.{filter-map, find-map}
-
-any-map : {X Y : Type 0} (p : Y → Bool) (f : X → Y) (xs : List X) → list_any p (map f xs) ≡ list_any (λ x. p (f x)) xs
-any-map p f [] = refl
-any-map p f (x ∷ xs) = ap (λ b. p (f x) || b) (any-map p f xs)
-
-map-map : {X Y Z : Type 0} (g : Y → Z) (f : X → Y) (xs : List X) → map g (map f xs) ≡ map (λ x. g (f x)) xs
-map-map g f [] = refl
-map-map g f (x ∷ xs) = ap (λ l. g (f x) ∷ l) (map-map g f xs)
 
 passes-map : {X Y : Type 0} (p : Y → Bool) (f : X → Y) (o : Option X) → some_passes p (option_map f o) ≡ some_passes (λ x. p (f x)) o
 passes-map p f None = refl
@@ -64,7 +41,7 @@ module _ (areas : Areas) where
   plans changes = map (change_meaning areas) changes
 
   pub has-means : (cs : List (Cluster Extent)) (name : List ℕ) → has_cluster (means cs) name ≡ has_cluster cs name
-  has-means cs name = any-map (λ (c : Cluster Bytes). bytes_eq c.name name) (cluster_meaning areas) cs
+  has-means cs name = list_any-map (λ (c : Cluster Bytes). bytes_eq c.name name) (cluster_meaning areas) cs
 
   pub at-means : (cs : List (Cluster Extent)) (name : List ℕ) → cluster_at (means cs) name ≡ option_map (cluster_meaning areas) (cluster_at cs name)
   at-means cs name = find-map (cluster_meaning areas) (λ (c : Cluster Bytes). bytes_eq c.name name) cs
@@ -72,7 +49,7 @@ module _ (areas : Areas) where
   -- parts are refused as what stands stored says
   pub refused-means : {E : Type 0} (running : List (Cluster Extent)) (changes : List (Change Extent)) (before : List (Part E)) (part : Part E) → part_refusals (means running) (plans changes) before part ≡ part_refusals running changes before part
   refused-means running changes before part = λ i.
-      (any-map (λ (c : Change Bytes). bytes_eq (cluster_of c.part) (cluster_of part)) (change_meaning areas) changes i, ClusterAlreadyChanged)
+      (list_any-map (λ (c : Change Bytes). bytes_eq (cluster_of c.part) (cluster_of part)) (change_meaning areas) changes i, ClusterAlreadyChanged)
       ∷ (not (suits part.manifest.action (has-means running (cluster_of part) i)), ActionNotApplicable)
       ∷ (is_update part.manifest.action && older i, OldVersion)
       ∷ (is_install part.manifest.action && nat_le cluster_limit (length (different_names (names i))), TooManyClusters)

@@ -1,52 +1,29 @@
 -- Clusters in order of name: each is inserted behind those that stand before it.
-use Rattle.std.proofs.Common.{◌≡◌, refl, sym, subst, ap, ap₂, ◌∙◌, arith, ℕ, ◌≤◌, Bool, true, false, List, [], ◌∷◌, ◌++◌, cond, length, filter, take, drop, fold}
-use Rattle.std.specs.Prelude.{◌||◌, not}
-use Rattle.std.specs.List.{AllByRecursion, insert}
-use Rattle.std.specs.Str.{bytes_eq}
-use Rattle.std.specs.Ordering.{nat_cmp, is_lt, is_eq, ordering_reverse}
-use Rattle.std.specs.Cmp.Lexicographic.{slice_cmp, texts_ties}
-use Rattle.std.specs.declared.cmp.Ordering.{Ordering}
-use Rattle.std.specs.declared.cmp.Ordering.TheVariants.{Less, Equal, Greater}
-use Rattle.std.proofs.lemmas.Bool.{and_parts}
-use Rattle.std.proofs.lemmas.Cmp.{nat_list_cmp_total}
-use Rattle.std.proofs.lemmas.List.{length-append}
-use Rattle.std.proofs.lemmas.List.Edits.{length-insert}
-use Rattle.std.proofs.lemmas.List.Sums.{fold-append}
-use Rattle.ucm_base.specs.declared.parts.Action.TheVariants.{Install}
-use Rattle.ucm_base.specs.Names.{all_differ, has_name, name_lt, names_rise}
-use Rattle.ucm_base.specs.Parts.{Bytes}
-use Rattle.pm_types.specs.declared.clusters.Cluster.{Cluster}
-use Rattle.pm_types.specs.Clusters.{with_cluster}
+use Rattle.node_core.proofs.Names.{AllByRecursion, Bool, Bytes, Cluster, Install, List, all_differ, ap, ap₂, arith}
+use Rattle.node_core.proofs.Names.{bytes_eq, cond, drop, false, filter, fold, fold-append, in_order, insert, length}
+use Rattle.node_core.proofs.Names.{length-append, length-insert, map-append, name_lt, named_before, names_rise}
+use Rattle.node_core.proofs.Names.{nat_list_cmp_total, refl, subst, sym, take, texts_ties, true, with_cluster, [], ℕ}
+use Rattle.node_core.proofs.Names.{◌++◌, ◌∙◌, ◌∷◌, ◌≡◌, ◌≤◌}
+use Rattle.node_laws.proofs.NameLists.{name-swap, lt-trans, name-eq, names-behind, names-tail, names_of, planned-rise}
 use Rattle.node_laws.proofs.Lists.{each-append, each-filter, each-imp, each-unmap, length-filter}
-use Rattle.node_laws.proofs.NameLists.{lt-trans, name-eq, names-behind, names-tail}
-use Rattle.node_laws.proofs.NameLists.{names_of, planned-rise}
-use Rattle.node_core.specs.Format.{in_order, named_before}
+use Rattle.node_core.proofs.Named.{differ-before, none-named}
 
 -- the order of names is strict and total
-less-is : (o : Ordering) → is_lt o ≡ true → o ≡ Less
-less-is Less e = refl
-less-is Equal e = absurd (cc)
-less-is Greater e = absurd (cc)
-
 lt-not : (a b : List ℕ) → name_lt a b ≡ true → name_lt b a ≡ false
-lt-not a b h = ap is_lt (nat_list_cmp_total.antisymm b a ∙ ap ordering_reverse (less-is (slice_cmp nat_cmp a b) h))
+lt-not a b h = grind (arith, nat_list_cmp_total.antisymm b a)
+
+pub lt-self : (a : List ℕ) → name_lt a a ≡ true → ⊥
+lt-self a h = let z = sym h ∙ lt-not a a h in let f : ⊥ = cc in f
 
 pub lt-differ : (a b : List ℕ) → name_lt a b ≡ true → bytes_eq a b ≡ false
 lt-differ a b h = go (bytes_eq a b) refl
   where
     go : (x : Bool) → bytes_eq a b ≡ x → bytes_eq a b ≡ false
     go false e = e
-    go true e =
-        let same = name-eq a b e in
-        absurd (let z = lt-not a b h in let w : name_lt b a ≡ true = ap₂ name_lt (sym same) same ∙ h in let f : ⊥ = cc in f)
+    go true e = absurd (lt-self a (ap (name_lt a) (name-eq a b e) ∙ h))
 
 lt-other : (a b : List ℕ) → name_lt a b ≡ false → bytes_eq a b ≡ false → name_lt b a ≡ true
-lt-other a b h differ = go (slice_cmp nat_cmp a b) refl
-  where
-    go : (o : Ordering) → slice_cmp nat_cmp a b ≡ o → name_lt b a ≡ true
-    go Less e = absurd (let z = sym (ap is_lt e) ∙ h in let f : ⊥ = cc in f)
-    go Equal e = absurd (let z : bytes_eq a b ≡ true = texts_ties a b ∙ ap is_eq e in let f : ⊥ = cc in f)
-    go Greater e = ap is_lt (nat_list_cmp_total.antisymm b a ∙ ap ordering_reverse e)
+lt-other a b h differ = grind (arith, nat_list_cmp_total.antisymm b a, texts_ties a b)
 
 module _ (n : List ℕ) where
   abbrev behind : List (Cluster Bytes) → List (Cluster Bytes)
@@ -101,23 +78,11 @@ pub order-each : (P : Cluster Bytes → Type 0) (cs : List (Cluster Bytes)) → 
 order-each P cs h = each-from P cs [] tt h
 
 -- a name that none of these has
-apart : (ys : List (Cluster Bytes)) (c : Cluster Bytes) (rest : List (Cluster Bytes)) → all_differ (names_of (ys ++ c ∷ rest)) ≡ true → AllByRecursion (λ d. bytes_eq d.name c.name ≡ false) ys
-apart [] c rest h = tt
-apart (y ∷ ys) c rest h =
-    let parts = and_parts (not (has_name (names_of (ys ++ c ∷ rest)) y.name)) (all_differ (names_of (ys ++ c ∷ rest))) h in
-    (not-there ys (refused _ parts.0), apart ys c rest parts.1)
-  where
-    refused : (b : Bool) → not b ≡ true → b ≡ false
-    refused false e = refl
-    refused true e = absurd (cc)
-
-    left : (a b : Bool) → (a || b) ≡ false → (a ≡ false) × (b ≡ false)
-    left false b e = (refl, e)
-    left true b e = absurd (cc)
-
-    not-there : (zs : List (Cluster Bytes)) → has_name (names_of (zs ++ c ∷ rest)) y.name ≡ false → bytes_eq y.name c.name ≡ false
-    not-there [] e = (left (bytes_eq y.name c.name) (has_name (names_of rest) y.name) e).0
-    not-there (z ∷ zs) e = not-there zs (left (bytes_eq y.name z.name) (has_name (names_of (zs ++ c ∷ rest)) y.name) e).1
+apart : (ys : List (Cluster Bytes)) (c : Cluster Bytes) (rest : List (Cluster Bytes))
+    → all_differ (names_of (ys ++ c ∷ rest)) ≡ true → AllByRecursion (λ d. bytes_eq d.name c.name ≡ false) ys
+apart ys c rest h =
+    each-imp _ _ (λ d k. name-swap d.name c.name ∙ k) ys (none-named (λ (d : Cluster Bytes). d.name) ys c.name
+    (differ-before (names_of ys) c.name (names_of rest) (ap all_differ (sym (map-append (λ (d : Cluster Bytes). d.name) ys (c ∷ rest))) ∙ h)))
 
 -- one cluster more is inserted where it belongs
 pub one-inserted : (ys : List (Cluster Bytes)) (c : Cluster Bytes) (rest : List (Cluster Bytes)) → all_differ (names_of (ys ++ c ∷ rest)) ≡ true

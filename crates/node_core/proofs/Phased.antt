@@ -1,37 +1,19 @@
 -- A transfer that goes to another phase, and the session with it.
-use Rattle.std.proofs.Common.{◌≡◌, refl, sym, subst, ap, ◌∙◌, ℕ, Bool, true, false, [], ◌∷◌, List, map, take}
-use Rattle.std.specs.Prelude.{◌==◌, if◌then◌else◌, not, option_map, slice_index_or, Option, Some, None}
-use Rattle.std.specs.List.{AllByRecursion}
-use Rattle.std.specs.Option.{option_or}
-use Rattle.ucm_base.specs.declared.parts.Action.{Action}
-use Rattle.ucm_base.specs.declared.parts.Action.TheVariants.{Install, Update, Remove}
-use Rattle.ucm_base.specs.declared.parts.Manifest.{Manifest}
-use Rattle.pm_types.specs.declared.calls.Call.TheVariants.{Cancel}
-use Rattle.pm_types.specs.declared.clusters.Extent.{Extent}
-use Rattle.pm_types.specs.declared.replies.Refusal.{Refusal}
-use Rattle.pm_types.specs.declared.replies.Reply.{Reply}
-use Rattle.pm_types.specs.declared.replies.Reply.TheVariants.{Done}
-use Rattle.pm_types.specs.declared.state.StoredTransfer.{StoredTransfer}
-use Rattle.pm_types.specs.declared.status.Phase.{Phase}
-use Rattle.pm_types.specs.declared.status.Phase.TheVariants.{Transferred, Processing as BeingProcessed}
-use Rattle.pm_types.specs.NodeState.{Session, SessionOf, Transfer, is_in, phase_code, some_passes}
-use Rattle.pm_types.specs.Refusals.{first_refusal}
-use Rattle.pm_types.specs.Sessions.{Goal, cancel_refusals, session_refusals, status_table, stop_processing}
-use Rattle.pm_types.specs.Stored.{State, IsInOrder, IsPlaced, meaning, session_meaning, slots_differ, transfer_meaning}
-use Rattle.pm_types.specs.Transfers.{header_of, in_phase, parts_read, transfer_of, with_phase}
-use Rattle.transfer_blocks.specs.declared.found.Found.{Found}
-use Rattle.transfer_blocks.specs.Table.{found_of, moved, stored_header, stored_of}
-use Rattle.node_laws.proofs.Lists.{each-imp, found-has}
-use Rattle.node_laws.proofs.Lists.{both-none, is-processing, not-false, rows-clear}
-use Rattle.node_core.specs.Core.{Holding, IsJudged, IsSound, node_of, refusal_by}
-use Rattle.node_core.specs.Packages.{package_reading}
-use Rattle.node_core.specs.Places.{IsCopied, IsCopiedIn, goes_to, units_done}
-use Rattle.node_core.specs.Prepared.{with_length}
-use Rattle.node_core.specs.Sessions.{arrived, paused, phased, stopped}
-use Rattle.node_core.proofs.Arrived.{copied-in, done-judged}
-use Rattle.node_core.proofs.Judged.{rise}
-use Rattle.node_core.proofs.Lists.{change-each}
-use Rattle.node_core.proofs.Stored.{changed-means, header-means, only-has, some-stored}
+use Rattle.node_core.proofs.Names.{AllByRecursion, BeingProcessed, Bool, Cancel, Done, Extent, Found, Goal, Holding}
+use Rattle.node_core.proofs.Names.{IsCopied, IsCopiedIn, IsInOrder, IsJudged, IsPlaced, IsSound, List, None, Option}
+use Rattle.node_core.proofs.Names.{Phase, Refusal, Reply, Session, SessionOf, Some, State, StoredTransfer, Transfer}
+use Rattle.node_core.proofs.Names.{Transferred, ap, arrived, cancel_refusals, false, first_refusal, found_of}
+use Rattle.node_core.proofs.Names.{header_of, if◌then◌else◌, in_phase, is_in, is_of, map, meaning, moved, node_of}
+use Rattle.node_core.proofs.Names.{not, option_map, option_or, package_reading, parts_read, paused, phase_code}
+use Rattle.node_core.proofs.Names.{phased, places_in, refl, refusal_by, session_meaning, session_refusals}
+use Rattle.node_core.proofs.Names.{slice_index_or, slots_differ, some_passes, status_table, stop_processing, stopped}
+use Rattle.node_core.proofs.Names.{stored_header, stored_of, subst, sym, take, transfer_meaning, transfer_of, true}
+use Rattle.node_core.proofs.Names.{units_done, with_length, with_phase, [], ℕ, ◌==◌, ◌∙◌, ◌∷◌, ◌≡◌}
+use Rattle.transfer_blocks.proofs.Meanings.{header-means}
+use Rattle.node_laws.proofs.Lists.{found-has, both-none, is-processing, not-false, rows-clear}
+use Rattle.node_core.proofs.Arrived.{copied-by, done-judged}
+use Rattle.node_core.proofs.Lists.{every, change-each}
+use Rattle.node_core.proofs.Stored.{found-header, rise, changed-means, only-has, some-stored}
 
 abbrev slot_of : StoredTransfer → ℕ
 slot_of t = t.slot
@@ -71,12 +53,8 @@ pub cancel-by : {v w : Holding} → v ≡ w → (client id : ℕ) (found : Optio
     → first_refusal (session_refusals (node_of w) client (Cancel id)) ≡ None → refusal_by w client (Cancel id) ≡ o
 cancel-by {v = v} {w = w} same client id found o there judged none =
     ap (λ x. option_or x (first_refusal (cancel_refusals (header_of (transfer_of (node_of w) client id))))) none
-    ∙ ap (λ h. first_refusal (cancel_refusals h)) (header-means package_reading w.areas client id w.state.transfers ∙ ap (λ (x : Holding). stored_header x.state.transfers client id) (sym same) ∙ of (stored_of v.state.transfers client id) ∙ ap (option_map (λ f. f.header)) (sym there))
+    ∙ ap (λ h. first_refusal (cancel_refusals h)) (header-means package_reading w.areas (is_of client id) w.state.transfers ∙ ap (λ (x : Holding). stored_header x.state.transfers client id) (sym same) ∙ found-header v.state.transfers client id ∙ ap (option_map (λ f. f.header)) (sym there))
     ∙ sym judged
-  where
-    of : (s : Option StoredTransfer) → option_map (λ t. t.header) s ≡ option_map (λ (f : Found). f.header) (option_map (λ t. record { header = t.header; slot = t.slot }) s)
-    of None = refl
-    of (Some t) = refl
 
 -- what stopping leaves
 module _ (v : Holding) (sound : IsSound v) (client id : ℕ) (u : StoredTransfer) (e : stored_of v.state.transfers client id ≡ Some u) (phase : u.header.phase ≡ BeingProcessed) where
@@ -95,45 +73,33 @@ module _ (v : Holding) (sound : IsSound v) (client id : ℕ) (u : StoredTransfer
   stopped-order : IsInOrder package_reading v.areas (stopped id v.state)
   stopped-order = go v.state.session sound.order
     where
-      go : (o : Option (SessionOf Extent)) → IsInOrder package_reading v.areas (record v.state { session = o }) → IsInOrder package_reading v.areas (stopped id (record v.state { session = o }))
-      go None i = record {
-        clusters = i.clusters;
-        session = tt;
-        transfers = phased-placed v sound client id u e Transferred was-whole refl;
-        slots = phased-slots v sound client id u e Transferred was-whole refl;
-        places = i.places;
-        running = tt;
-      }
-      go (Some x) i = record {
-        clusters = i.clusters;
-        session = i.session;
-        transfers = phased-placed v sound client id u e Transferred was-whole refl;
-        slots = phased-slots v sound client id u e Transferred was-whole refl;
-        places = i.places;
-        running = i.running;
-      }
+      placed : AllByRecursion (IsPlaced package_reading v.areas) (phased id Transferred v.state.transfers)
+      placed = phased-placed v sound client id u e Transferred was-whole refl
+
+      slots : slots_differ (map (λ t. t.slot) (phased id Transferred v.state.transfers)) ≡ true
+      slots = phased-slots v sound client id u e Transferred was-whole refl
+
+      go : (o : Option (SessionOf Extent)) → IsInOrder package_reading v.areas (record v.state { session = o })
+          → IsInOrder package_reading v.areas (stopped id (record v.state { session = o }))
+      go None i = record { clusters = i.clusters; session = tt; transfers = placed; slots = slots; places = i.places; running = tt }
+      go (Some x) i =
+          record { clusters = i.clusters; session = i.session; transfers = placed; slots = slots; places = i.places; running = i.running }
 
   stopped-copied : IsCopied package_reading v.areas (stopped id v.state)
   stopped-copied = go v.state.session sound.copied
     where
-      goes : (o : Option (SessionOf Extent)) (m : Manifest) (a : Action) → goes_to (stopped id (record v.state { session = o })) m a ≡ goes_to (record v.state { session = o }) m a
-      goes None m Install = refl
-      goes None m Update = refl
-      goes None m Remove = refl
-      goes (Some x) m Install = refl
-      goes (Some x) m Update = refl
-      goes (Some x) m Remove = refl
+      still : (o : Option (SessionOf Extent)) → (units_done (stopped id (record v.state { session = o })) ≡ units_done (record v.state { session = o }))
+          × (places_in (stopped id (record v.state { session = o })) ≡ places_in (record v.state { session = o }))
+      still None = (refl, refl)
+      still (Some x) = (refl, refl)
 
-      done : (o : Option (SessionOf Extent)) → units_done (stopped id (record v.state { session = o })) ≡ units_done (record v.state { session = o })
-      done None = refl
-      done (Some x) = refl
-
-      go : (o : Option (SessionOf Extent)) → IsCopied package_reading v.areas (record v.state { session = o }) → IsCopied package_reading v.areas (stopped id (record v.state { session = o }))
+      go : (o : Option (SessionOf Extent)) → IsCopied package_reading v.areas (record v.state { session = o })
+          → IsCopied package_reading v.areas (stopped id (record v.state { session = o }))
       go o copied =
           let n : State = stopped id (record v.state { session = o }) in
           change-each (λ t. IsCopiedIn package_reading v.areas n t t.header.phase) (λ t. t.header.id == id) (moved Transferred) v.state.transfers
-          (each-imp _ _ (λ t c q. tt) v.state.transfers copied)
-          (each-imp _ _ (λ t c. copied-in v.areas (record v.state { session = o }) n (done o) (goes o) t t.header.phase c) v.state.transfers copied)
+          (every (λ t q. tt) v.state.transfers)
+          (copied-by v.areas (record v.state { session = o }) n (still o).0 refl (still o).1 v.state.transfers copied)
 
 -- Cancel
 pub cancel-judged : (v : Holding) (client id : ℕ) (reply : Reply) (goal : Goal) (w new : Holding) → IsSound v → refusal_by v client (Cancel id) ≡ None → status_table v.state.status (Cancel id) ≡ Some goal
@@ -144,7 +110,7 @@ cancel-judged v client id reply goal w new sound none table stops replies leads 
   where
     clear : AllByRecursion (λ row. row.0 ≡ false) (cancel_refusals (stored_header v.state.transfers client id))
     clear = rows-clear (cancel_refusals (stored_header v.state.transfers client id))
-        (ap (λ h. first_refusal (cancel_refusals h)) (sym (header-means package_reading v.areas client id v.state.transfers)) ∙ (both-none (first_refusal (session_refusals (node_of v) client (Cancel id))) (first_refusal (cancel_refusals (header_of (transfer_of (node_of v) client id)))) none).1)
+        (ap (λ h. first_refusal (cancel_refusals h)) (sym (header-means package_reading v.areas (is_of client id) v.state.transfers)) ∙ (both-none (first_refusal (session_refusals (node_of v) client (Cancel id))) (first_refusal (cancel_refusals (header_of (transfer_of (node_of v) client id)))) none).1)
 
     there : (u : StoredTransfer) × (stored_of v.state.transfers client id ≡ Some u)
     there = some-stored (stored_of v.state.transfers client id) clear.0

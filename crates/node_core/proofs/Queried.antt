@@ -1,24 +1,13 @@
 -- A query is answered over the stored lists as of the node that they stand for.
-use Rattle.std.proofs.Common.{◌≡◌, sym, subst, ap, ap₂, ◌∙◌, ℕ, List, map}
-use Rattle.std.specs.Prelude.{find, filter, ◌==◌, Option, Result}
-use Rattle.pm_types.specs.declared.clusters.Extent.{Extent}
-use Rattle.pm_types.specs.declared.queries.Answer.{Answer}
+use Rattle.node_core.proofs.Names.{Answer, ChangeInfo, ClusterInfo, EachIsUnfinished, Extent, GetSwClusterChangeInfo}
+use Rattle.node_core.proofs.Names.{GetSwClusterInfo, GetSwPackages, GetSwProcessProgress, Holding, IsSound, List}
+use Rattle.node_core.proofs.Names.{Option, PackageInfo, Query, Refusal, Result, SessionOf, StoredTransfer, answer, ap}
+use Rattle.node_core.proofs.Names.{ap₂, changes_planned, filter, find, is_of, map, node_of, package_reading}
+use Rattle.node_core.proofs.Names.{progress_answer, progress_at, shown_change, shown_cluster, shown_transfer, subst}
+use Rattle.node_core.proofs.Names.{sym, ℕ, ◌==◌, ◌∙◌, ◌≡◌}
 use Rattle.pm_types.specs.declared.queries.Answer.TheVariants.{Clusters, Changes, Packages}
-use Rattle.pm_types.specs.declared.queries.ChangeInfo.{ChangeInfo}
-use Rattle.pm_types.specs.declared.queries.ClusterInfo.{ClusterInfo}
-use Rattle.pm_types.specs.declared.queries.PackageInfo.{PackageInfo}
-use Rattle.pm_types.specs.declared.queries.Query.{Query}
-use Rattle.pm_types.specs.declared.queries.Query.TheVariants.{GetSwClusterInfo, GetSwClusterChangeInfo, GetSwPackages, GetSwProcessProgress}
-use Rattle.pm_types.specs.declared.replies.Refusal.{Refusal}
-use Rattle.pm_types.specs.declared.state.StoredTransfer.{StoredTransfer}
-use Rattle.pm_types.specs.NodeState.{SessionOf}
-use Rattle.pm_types.specs.Queries.{answer}
-use Rattle.pm_types.specs.Transfers.{is_of}
-use Rattle.history_query.specs.Shown.{EachIsUnfinished, changes_planned, progress_answer, progress_at, shown_change, shown_cluster, shown_transfer}
 use Rattle.history_query.proofs.Answered.{clusters-answered, changes-answered, packages-answered, progress-answered}
 use Rattle.history_query.proofs.Valid.{each-unfinished}
-use Rattle.node_core.specs.Core.{Holding, IsSound, node_of}
-use Rattle.node_core.specs.Packages.{package_reading}
 
 -- an answer of an equal node to an equal query
 pub answered : {v w : Holding} → v ≡ w → (client : ℕ) {p q : Query} → q ≡ p → {a : Answer} → a ≡ answer (node_of v) client p → a ≡ answer (node_of w) client q

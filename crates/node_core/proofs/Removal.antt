@@ -1,25 +1,17 @@
 -- A package that removes a cluster has no payload.
-use Rattle.std.proofs.Common.{◌≡◌, refl, sym, ap, ◌∙◌, ℕ, ◌+◌, Bool, true, false, List, [], ◌∷◌, ◌++◌, arith}
-use Rattle.std.specs.Prelude.{not, ◌||◌, nat_lt, length, Option, Some, None, Ok}
-use Rattle.std.specs.Str.{bytes_eq}
-use Rattle.std.proofs.lemmas.Bool.{and_parts, ltb-true}
-use Rattle.sha2.specs.Sha256.{sha256}
-use Rattle.ucm_base.specs.declared.parts.Action.TheVariants.{Remove}
-use Rattle.ucm_base.specs.declared.parts.Manifest.{Manifest}
-use Rattle.ucm_base.specs.Parts.{Bytes}
-use Rattle.manifest.specs.Form.{manifest_of}
-use Rattle.package_reader.specs.declared.fault.PackageFault.{PackageFault}
+use Rattle.node_core.proofs.Names.{Bool, Bytes, List, Manifest, None, Ok, Option, Package, PackageFault, Remove, Some}
+use Rattle.node_core.proofs.Names.{and_parts, ap, arith, bytes_eq, content_faults, false, field_faults, first_fault}
+use Rattle.node_core.proofs.Names.{is_payload_of, is_remove, length, ltb-true, manifest_of, nat_lt, not, payload_in}
+use Rattle.node_core.proofs.Names.{payload_place, refl, sha256, sym, text_in, true, unless, [], ℕ, ◌++◌, ◌+◌, ◌||◌}
+use Rattle.node_core.proofs.Names.{◌∙◌, ◌∷◌, ◌≡◌}
 use Rattle.package_reader.specs.declared.fault.PackageFault.TheVariants.{PackageInconsistent, InvalidManifest}
-use Rattle.package_reader.specs.declared.package.Package.{Package}
-use Rattle.package_reader.specs.Fields.{payload_in, payload_place, text_in}
-use Rattle.package_reader.specs.Reading.{content_faults, fault, field_faults, first_fault, is_payload_of, is_remove, reading, unless}
+use Rattle.package_reader.specs.Reading.{fault, reading}
 use Rattle.node_laws.proofs.Lists.{not-false}
 
 -- no row of a second table holds where none of both does
 behind-none : (rows more : List (Bool × PackageFault)) → first_fault (rows ++ more) ≡ None → first_fault more ≡ None
 behind-none [] more e = e
-behind-none ((true, f) ∷ rows) more e = absurd (cc)
-behind-none ((false, f) ∷ rows) more e = behind-none rows more e
+behind-none (row ∷ rows) more e = grind (arith, behind-none rows more)
 
 -- a second row that doesn't hold
 second-clear : (t : Bool) (f g : PackageFault) → first_fault ((false, f) ∷ (t, g) ∷ []) ≡ None → t ≡ false

@@ -1,59 +1,21 @@
 -- What a put on the side that a package goes to leaves of a sound node.
-use Rattle.std.proofs.Common.{◌≡◌, ◌≢◌, refl, sym, subst, ap, ◌∙◌, ℕ, ◌+◌, ◌-◌, ◌*◌, ◌<◌, ◌≤◌, Bool, true, false, List, [], ◌∷◌, ◌++◌, length, map, take, arith}
-use Rattle.std.specs.Prelude.{cond, ◌==◌, ◌||◌, not, option_map, IfSome, Option, Some, None}
-use Rattle.std.specs.List.{AllByRecursion, list_any}
-use Rattle.std.specs.Option.{option_map_or}
-use Rattle.std.specs.Str.{bytes_eq}
-use Rattle.std.specs.Ordering.{ordering_reverse}
-use Rattle.std.specs.Cmp.Lexicographic.{nat_list_cmp_total, slice_cmp}
-use Rattle.std.specs.Ordering.{is_lt, nat_cmp}
-use Rattle.std.specs.declared.cmp.Ordering.{Ordering}
-use Rattle.std.specs.declared.cmp.Ordering.TheVariants.{Less, Equal, Greater}
-use Rattle.std.proofs.lemmas.Bool.{eq-eqb, eqb-true}
-use Rattle.std.proofs.lemmas.Bool.Decides.{nat_tests}
-use Rattle.ucm_base.specs.declared.parts.Action.{Action}
-use Rattle.ucm_base.specs.declared.parts.Action.TheVariants.{Install, Update, Remove}
-use Rattle.ucm_base.specs.Limits.{block_limit}
-use Rattle.ucm_base.specs.Names.{has_name, name_lt, names_rise}
-use Rattle.pm_types.specs.declared.clusters.Change.{Change}
-use Rattle.pm_types.specs.declared.clusters.Cluster.{Cluster}
-use Rattle.pm_types.specs.declared.clusters.Extent.{Extent}
-use Rattle.pm_types.specs.declared.state.StoredTransfer.{StoredTransfer}
-use Rattle.pm_types.specs.NodeState.{SessionOf, Transfer}
-use Rattle.pm_types.specs.Clusters.{cluster_at, cluster_of, has_cluster}
-use Rattle.pm_types.specs.Sessions.{suits}
-use Rattle.pm_types.specs.Stored.{Areas, IsExtent, IsInOrder, change_place, cluster_place, on_side, change_meaning, cluster_meaning, meaning, session_meaning, transfer_meaning}
-use Rattle.transfer_blocks.specs.declared.area.Area.{Area}
-use Rattle.transfer_blocks.specs.declared.area.Area.TheVariants.{Side}
-use Rattle.transfer_blocks.specs.Areas.{AreasFit, IsArea, LeavesOutside, content_of}
+use Rattle.node_core.proofs.Names.{Action, AllByRecursion, Area, Areas, AreasFit, Bool, Change, Cluster, Extent}
+use Rattle.node_core.proofs.Names.{Holding, Install, IsArea, IsExtent, IsInOrder, IsSound, LeavesOutside, List}
+use Rattle.node_core.proofs.Names.{Remove, SessionOf, Side, Some, StoredTransfer, Transfer, Update, ap, arith}
+use Rattle.node_core.proofs.Names.{block_limit, bytes_eq, change_meaning, change_place, cluster_at, cluster_meaning}
+use Rattle.node_core.proofs.Names.{cluster_of, cluster_place, cond, eq-eqb, false, goes_to, has_cluster, length}
+use Rattle.node_core.proofs.Names.{lowest_free, map, meaning, name_lt, names_rise, node_of, on_side, option_map_or}
+use Rattle.node_core.proofs.Names.{package_reading, refl, session_meaning, subst, suits, sym, take, transfer_meaning}
+use Rattle.node_core.proofs.Names.{true, with_length, [], ℕ, ◌*◌, ◌++◌, ◌+◌, ◌-◌, ◌==◌, ◌∙◌, ◌∷◌, ◌≡◌, ◌≢◌}
 use Rattle.transfer_blocks.proofs.Areas.{elsewhere-stands}
-use Rattle.node_laws.proofs.Lists.{each-both, each-first, each-imp, each-unmap, found-has}
-use Rattle.node_laws.proofs.NameLists.{eq-name, name-eq, name-swap, names-behind, names-tail}
-use Rattle.node_laws.proofs.Lists.{neither, not-true}
-use Rattle.node_core.specs.Core.{Holding, IsSound, node_of}
-use Rattle.node_core.specs.Packages.{package_reading}
-use Rattle.node_core.specs.Prepared.{with_length}
-use Rattle.node_core.specs.Places.{goes_to, lowest_free, running_at}
-use Rattle.node_core.proofs.Free.{FitsAll, Pair, each-fits, is_taken}
+use Rattle.node_laws.proofs.Lists.{each-both, each-first, each-imp, each-unmap, found-has, not-true}
+use Rattle.node_laws.proofs.NameLists.{name-eq, name-swap, names-behind, names-tail}
+use Rattle.node_core.proofs.Lists.{each-second, every, map-same, none-any}
+use Rattle.node_core.proofs.Ordered.{lt-self}
+use Rattle.node_core.proofs.Named.{none-named}
+use Rattle.node_core.proofs.Free.{FitsAll, Pair, each-fits}
 use Rattle.node_core.proofs.Handled.{InHand, at_process, busy}
 use Rattle.node_core.proofs.Lastly.{free, names-mean, new-change, pairs, ran-there, runs, state}
-
-behind : {X : Type 0} (P : X → Type 0) (xs ys : List X) → AllByRecursion P (xs ++ ys) → AllByRecursion P ys
-behind P [] ys h = h
-behind P (x ∷ xs) ys h = behind P xs ys h.1
-
-none-any : {X : Type 0} (p : X → Bool) (xs : List X) → list_any p xs ≡ false → AllByRecursion (λ x. p x ≡ false) xs
-none-any p [] e = tt
-none-any p (x ∷ xs) e = let parts = neither (p x) (list_any p xs) e in (parts.0, none-any p xs parts.1)
-
--- no name stands before itself
-not-before : (a : List ℕ) → name_lt a a ≡ true → ⊥
-not-before a e = go (slice_cmp nat_cmp a a) (nat_list_cmp_total.antisymm a a) e
-  where
-    go : (o : Ordering) → o ≡ ordering_reverse o → is_lt o ≡ true → ⊥
-    go Less q e = let f : ⊥ = cc in f
-    go Equal q e = let f : ⊥ = cc in f
-    go Greater q e = let f : ⊥ = cc in f
 
 -- of clusters in order one has the name
 only-named : (cs : List (Cluster Extent)) (name : List ℕ) (c : Cluster Extent) → names_rise (map (λ (d : Cluster Extent). d.name) cs) ≡ true → cluster_at cs name ≡ Some c → AllByRecursion (λ d. bytes_eq d.name name ≡ true → d ≡ c) cs
@@ -66,22 +28,13 @@ only-named (d ∷ cs) name c r e = go (bytes_eq d.name name) refl e (only-named 
     go : (b : Bool) → bytes_eq d.name name ≡ b → cond b (Some d) (cluster_at cs name) ≡ Some c → (cluster_at cs name ≡ Some c → AllByRecursion (λ k. bytes_eq k.name name ≡ true → k ≡ c) cs) → AllByRecursion (λ k. bytes_eq k.name name ≡ true → k ≡ c) (d ∷ cs)
     go true q k rec = (
       λ _. let same : d ≡ c = cc k in same,
-      each-imp _ _ (λ b lt same. absurd (not-before d.name (subst (λ n. name_lt d.name n ≡ true) (name-eq b.name name same ∙ sym (name-eq d.name name q)) lt))) cs later,
+      each-imp _ _ (λ b lt same. absurd (lt-self d.name (subst (λ n. name_lt d.name n ≡ true) (name-eq b.name name same ∙ sym (name-eq d.name name q)) lt))) cs later,
     )
     go false q k rec = (λ same. absurd (let z = sym q ∙ same in let f : ⊥ = cc in f), rec k)
 
 -- an extent that isn't on the area
 abbrev pub Apart : Area → Extent → Type 0
 Apart area e = Side e.place e.side ≢ area
-
--- the images of a list under functions that agree on its members
-maps : {X Y : Type 0} (f g : X → Y) (xs : List X) → AllByRecursion (λ x. f x ≡ g x) xs → map f xs ≡ map g xs
-maps f g [] each = refl
-maps f g (x ∷ xs) each = λ i. each.0 i ∷ maps f g xs each.1 i
-
-every : {X : Type 0} {P : X → Type 0} → ((x : X) → P x) → (xs : List X) → AllByRecursion P xs
-every f [] = tt
-every f (x ∷ xs) = (f x, every f xs)
 
 -- extents that a state names, none on the area
 pub record AreApart (area : Area) (v : Holding) (x : SessionOf Extent) : Type 0 where
@@ -106,11 +59,11 @@ module _ (v : Holding) (x : SessionOf Extent) (id : ℕ) (sound : IsSound (at_pr
   install-apart : has_cluster x.saved name ≡ false → AreApart fresh v x
   install-apart other =
       let each = by-place (lowest_free (state v x id sound h)) 0 (pairs v x id sound h) (none-any (λ (a : Pair). a.1 == lowest_free (state v x id sound h)) (pairs v x id sound h) (free v x id sound h other).0) in
-      let rest = behind (λ (a : Pair). (n : ℕ) → Side a.1 n ≢ fresh) (map cluster_place v.state.running) (map cluster_place x.saved ++ map change_place x.changes) each in
+      let rest = each-second (λ (a : Pair). (n : ℕ) → Side a.1 n ≢ fresh) (map cluster_place v.state.running) (map cluster_place x.saved ++ map change_place x.changes) each in
       record {
         running = each-imp _ _ (λ c k. k c.content.side) v.state.running (each-unmap (λ (a : Pair). (n : ℕ) → Side a.1 n ≢ fresh) cluster_place v.state.running (each-first _ (map cluster_place v.state.running) (map cluster_place x.saved ++ map change_place x.changes) each));
         saved = each-imp _ _ (λ c k. k c.content.side) x.saved (each-unmap (λ (a : Pair). (n : ℕ) → Side a.1 n ≢ fresh) cluster_place x.saved (each-first _ (map cluster_place x.saved) (map change_place x.changes) rest));
-        changes = each-imp _ _ (λ c k. k c.part.payload.side) x.changes (each-unmap (λ (a : Pair). (n : ℕ) → Side a.1 n ≢ fresh) change_place x.changes (behind _ (map cluster_place x.saved) (map change_place x.changes) rest));
+        changes = each-imp _ _ (λ c k. k c.part.payload.side) x.changes (each-unmap (λ (a : Pair). (n : ℕ) → Side a.1 n ≢ fresh) change_place x.changes (each-second _ (map cluster_place x.saved) (map change_place x.changes) rest));
       }
 
   -- the other side of a running cluster
@@ -122,15 +75,15 @@ module _ (v : Holding) (x : SessionOf Extent) (id : ℕ) (sound : IsSound (at_pr
       let found = found-has (λ (d : Cluster Extent). bytes_eq d.name name) (λ d. FitsAll all (cluster_place d)) v.state.running c
       (each-unmap (FitsAll all) cluster_place v.state.running (each-first (FitsAll all) (map cluster_place v.state.running) (map cluster_place x.saved ++ map change_place x.changes) each)) e in
       let named = name-eq c.name name found.0 in
-      let rest = behind (λ (b : Pair). bytes_eq c.name b.0 ≡ (c.content.place == b.1)) (map cluster_place v.state.running) (map cluster_place x.saved ++ map change_place x.changes) found.1 in
+      let rest = each-second (λ (b : Pair). bytes_eq c.name b.0 ≡ (c.content.place == b.1)) (map cluster_place v.state.running) (map cluster_place x.saved ++ map change_place x.changes) found.1 in
       let ran = each-unmap (λ (b : Pair). bytes_eq c.name b.0 ≡ (c.content.place == b.1)) cluster_place v.state.running (each-first _ (map cluster_place v.state.running) (map cluster_place x.saved ++ map change_place x.changes) found.1) in
-      let plan = each-unmap (λ (b : Pair). bytes_eq c.name b.0 ≡ (c.content.place == b.1)) change_place x.changes (behind _ (map cluster_place x.saved) (map change_place x.changes) rest) in
+      let plan = each-unmap (λ (b : Pair). bytes_eq c.name b.0 ≡ (c.content.place == b.1)) change_place x.changes (each-second _ (map cluster_place x.saved) (map change_place x.changes) rest) in
       let only = only-named v.state.running name c rise e in
       let running = each-both _ _ (λ (d : Cluster Extent). Apart area d.content) (λ d same one. cluster-apart named d same one) v.state.running ran only in
       record {
         running = running;
         saved = subst (AllByRecursion (λ d. Apart area d.content)) (runs v x id sound h) running;
-        changes = each-both _ _ (λ (d : Change Extent). Apart area d.part.payload) (λ d same other. change-apart named d same other) x.changes plan (others x.changes (new-change v x id sound h));
+        changes = each-both _ _ (λ (d : Change Extent). Apart area d.part.payload) (λ d same other. change-apart named d same other) x.changes plan (none-named (λ (d : Change Extent). cluster_of d.part) x.changes name (new-change v x id sound h));
       }
     where
       rise : names_rise (map (λ (d : Cluster Extent). d.name) v.state.running) ≡ true
@@ -151,10 +104,6 @@ module _ (v : Holding) (x : SessionOf Extent) (id : ℕ) (sound : IsSound (at_pr
           let places : d.part.payload.place ≡ c.content.place = cc in
           let z = sym other ∙ ap (λ n. bytes_eq n (cluster_of d.part)) (sym named) ∙ same ∙ eq-eqb c.content.place d.part.payload.place (sym places) in
           let f : ⊥ = cc in f
-
-      others : (cs : List (Change Extent)) → has_name (map (λ (d : Change Extent). cluster_of d.part) cs) name ≡ false → AllByRecursion (λ d. bytes_eq name (cluster_of d.part) ≡ false) cs
-      others [] k = tt
-      others (d ∷ cs) k = let parts = neither (bytes_eq name (cluster_of d.part)) (has_name (map (λ (b : Change Extent). cluster_of b.part) cs) name) k in (parts.0, others cs parts.1)
 
   -- what goes to a side goes to no extent that the state names
   pub goes-apart : (a : Action) → suits a (has_cluster x.saved name) ≡ true → a ≢ Remove → AreApart (goes_to (state v x id sound h) h.pack.manifest a) v x
@@ -180,11 +129,11 @@ module _ (v : Holding) (x : SessionOf Extent) (id : ℕ) (sound : IsSound (at_pr
 
     pub side-means : AreApart (Side place side) v x → meaning package_reading areas (at_process v x id).state ≡ node_of (at_process v x id)
     side-means apart = λ i. record (node_of (at_process v x id)) {
-      running = maps (cluster_meaning areas) (cluster_meaning v.areas) v.state.running (each-both _ _ _ same-cluster v.state.running sound.order.clusters apart.running) i;
-      transfers = maps (transfer_meaning package_reading areas) (transfer_meaning package_reading v.areas) v.state.transfers (every same-transfer v.state.transfers) i;
+      running = map-same (cluster_meaning areas) (cluster_meaning v.areas) v.state.running (each-both _ _ _ same-cluster v.state.running sound.order.clusters apart.running) i;
+      transfers = map-same (transfer_meaning package_reading areas) (transfer_meaning package_reading v.areas) v.state.transfers (every same-transfer v.state.transfers) i;
       session = Some (record (session_meaning v.areas (busy x id)) {
-        saved = maps (cluster_meaning areas) (cluster_meaning v.areas) x.saved (each-both _ _ _ same-cluster x.saved sound.order.session.0 apart.saved) i;
-        changes = maps (change_meaning areas) (change_meaning v.areas) x.changes (each-both _ _ _ same-change x.changes sound.order.session.1 apart.changes) i;
+        saved = map-same (cluster_meaning areas) (cluster_meaning v.areas) x.saved (each-both _ _ _ same-cluster x.saved sound.order.session.0 apart.saved) i;
+        changes = map-same (change_meaning areas) (change_meaning v.areas) x.changes (each-both _ _ _ same-change x.changes sound.order.session.1 apart.changes) i;
       });
     }
 

@@ -1,39 +1,21 @@
 -- A sound node has a table, and each step leaves it sound.
-use Rattle.std.proofs.Common.{◌≡◌, refl, sym, subst, ap, ◌∙◌, ℕ, ◌<◌, ◌≤◌, Bool, true, List, [], ◌∷◌, length, map, filter, arith}
-use Rattle.std.specs.Prelude.{◌==◌, ◌&&◌, not, option_map, slice_index_or, Option, Some, None, Result, Ok, Err, IsTrue}
-use Rattle.std.specs.List.{AllByRecursion, list_all}
-use Rattle.std.specs.declared.cmp.Ordering.{Ordering}
-use Rattle.std.specs.declared.cmp.Ordering.TheVariants.{Less, Equal, Greater}
-use Rattle.std.proofs.lemmas.Bool.Decides.{nat_tests}
-use Rattle.std.proofs.lemmas.List.{length-map}
-use Rattle.ucm_base.specs.declared.ids.CallNo.{CallNo}
-use Rattle.ucm_base.specs.Limits.{client_limit, package_limit, transfer_limit}
-use Rattle.ucm_base.specs.Names.{all_differ}
-use Rattle.ucm_base.specs.Parts.{Bytes}
-use Rattle.pm_types.specs.declared.calls.Call.{Call}
-use Rattle.pm_types.specs.declared.clusters.Part.{Part}
-use Rattle.pm_types.specs.declared.replies.Reached.{Reached}
-use Rattle.pm_types.specs.declared.replies.Reached.TheVariants.{Done as Answered}
-use Rattle.pm_types.specs.declared.replies.Reply.{Reply}
-use Rattle.pm_types.specs.declared.replies.SessionMark.{SessionMark}
-use Rattle.pm_types.specs.declared.state.Kept.{Kept}
-use Rattle.pm_types.specs.NodeState.{NodeState, SessionOf, Transfer, of_client}
-use Rattle.pm_types.specs.declared.clusters.Extent.{Extent}
-use Rattle.pm_types.specs.Clusters.{cluster_of}
-use Rattle.pm_types.specs.Steps.{synced, after_call, by_last, by_order, executed, call_no_cmp, repeat_by, repeat_of, reply_to, step}
-use Rattle.pm_types.specs.Stored.{session_meaning, slots_differ, transfer_meaning}
-use Rattle.pm_types.specs.Transfers.{Verdict, ids_of}
-use Rattle.pm_types.specs.Validity.{IsSound as IsSoundTransfer, numbers_rise}
-use Rattle.package_reader.specs.declared.fault.PackageFault.{PackageFault}
-use Rattle.package_reader.specs.declared.package.Package.{Package}
+use Rattle.node_core.proofs.Names.{AllByRecursion, Bool, Bytes, Call, CallNo, Equal, Err, Extent, Greater, Holding}
+use Rattle.node_core.proofs.Names.{IsBounded, IsFit, IsReading, IsSound, IsTable, IsTrue, Kept, Less, List, NodeState}
+use Rattle.node_core.proofs.Names.{None, Ok, Option, Ordering, Package, PackageFault, Part, Reached, Reply, Result}
+use Rattle.node_core.proofs.Names.{SessionMark, SessionOf, Some, Transfer, Verdict, after_call, all_differ, ap, arith}
+use Rattle.node_core.proofs.Names.{by_last, by_order, call_no_cmp, client_limit, cluster_of, executed, ids_of, length}
+use Rattle.node_core.proofs.Names.{length-map, list_all, map, mark_of, nat_tests, node_of, not, numbers_rise}
+use Rattle.node_core.proofs.Names.{of_client, option_map, package_limit, package_reading, refl, repeat_by, repeat_of}
+use Rattle.node_core.proofs.Names.{reply_by, reply_to, session_meaning, slice_index_or, slots_differ, step, step_by}
+use Rattle.node_core.proofs.Names.{stored_ids, subst, sym, synced, table_of, transfer_limit, transfer_meaning, true}
+use Rattle.node_core.proofs.Names.{verdict_of, verdict_on, [], ℕ, ◌&&◌, ◌<◌, ◌==◌, ◌∙◌, ◌∷◌, ◌≡◌, ◌≤◌}
 use Rattle.package_reader.specs.Reading.{reading}
-use Rattle.transfer_blocks.specs.Table.{IsBounded, IsTable, stored_ids}
-use Rattle.node_laws.specs.Fit.{IsFit, IsReading}
+use Rattle.pm_types.specs.declared.replies.Reached.TheVariants.{Done as Answered}
+use Rattle.pm_types.specs.Validity.{IsSound as IsSoundTransfer}
+use Rattle.transfer_blocks.proofs.Meanings.{ids-mean}
 use Rattle.node_laws.proofs.Kept.{keeps-fit}
 use Rattle.node_laws.proofs.Lists.{each-both, each-unmap, rise-above, rise-tail}
-use Rattle.node_core.specs.Core.{Holding, IsSound, mark_of, node_of, reply_by, step_by, table_of, verdict_on}
-use Rattle.node_core.specs.Packages.{package_reading, verdict_of}
-use Rattle.node_core.proofs.Stored.{ids, ids-mean, filtered-means}
+use Rattle.node_core.proofs.Stored.{rise, ids}
 
 -- a package has one part
 pub reading-is : IsReading package_reading
@@ -73,7 +55,7 @@ table-is v sound =
       few = subst (λ n. n ≤ transfer_limit) (length-map v.state.transfers means) limits.transfers;
       each = each-both _ _ _ (λ t k rest. rest k) v.state.transfers each
           (each-both _ _ (λ t. IsSoundTransfer v.state.next_id (means t) → IsBounded v.state.next_id t) (λ t placed size k. record { id = k.id.1; received = k.size; size = size.0; counter = k.counter.1; slot = placed.slot }) v.state.transfers sound.order.transfers sizes);
-      ids = rising-differ (ids v.state.transfers) (ap numbers_rise (sym (ids-mean package_reading v.areas v.state.transfers)) ∙ ts.rise);
+      ids = rising-differ (ids v.state.transfers) (rise v sound);
       slots = sound.order.slots;
     }
 
@@ -118,9 +100,7 @@ executed-fit v new client at call reply low sound none answers node =
 
 -- the ids of a client's transfers are those of what they mean
 pub ids-shown : (v : Holding) (client : ℕ) → stored_ids v.state.transfers client ≡ ids_of (node_of v) client
-ids-shown v client =
-    let means = transfer_meaning package_reading v.areas in
-    sym (ids-mean package_reading v.areas (filter (λ t. t.header.client == client) v.state.transfers)) ∙ ap (map (λ (t : Transfer). t.header.id)) (filtered-means package_reading v.areas (λ h. h.client == client) v.state.transfers)
+ids-shown v client = sym (ids-mean package_reading v.areas client v.state.transfers)
 
 -- what Sync shows of a node
 pub synced-shown : {v w : Holding} → v ≡ w → (client place : ℕ) (session : Option SessionMark) (ids : List ℕ) → session ≡ option_map (mark_of w.state.status) w.state.session → place ≡ client → ids ≡ stored_ids v.state.transfers client

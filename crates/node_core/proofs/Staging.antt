@@ -1,43 +1,26 @@
 -- What a put behind a transfer's bytes leaves of a node.
-use Rattle.std.proofs.Common.{◌≡◌, ◌≢◌, ◌⊎◌, inl, inr, refl, sym, subst, ap, ◌∙◌, ℕ, ◌<◌, ◌≤◌, ◌+◌, ◌*◌, Bool, true, false, List, [], ◌∷◌, length, map, take, cond, arith, zero-add}
-use Rattle.std.specs.Prelude.{◌==◌, not, Option, Some, None, find, option_map, slice_range}
-use Rattle.std.specs.Option.{option_map_or}
-use Rattle.std.proofs.lemmas.Bool.Decides.{nat_tests}
-use Rattle.std.specs.List.{AllByRecursion, list_all}
-use Rattle.std.proofs.lemmas.Bool.{and_parts, eqb-false}
-use Rattle.std.proofs.lemmas.List.{length-take}
-use Rattle.ucm_base.specs.declared.parts.Action.{Action}
-use Rattle.ucm_base.specs.declared.parts.Action.TheVariants.{Install, Update, Remove}
-use Rattle.ucm_base.specs.declared.parts.Manifest.{Manifest}
-use Rattle.ucm_base.specs.Limits.{block_limit, package_limit, transfer_limit}
-use Rattle.ucm_base.specs.Parts.{Bytes}
-use Rattle.pm_types.specs.declared.status.Phase.{Phase}
-use Rattle.pm_types.specs.declared.status.Phase.TheVariants.{Transferring, Transferred, Processing, Processed}
-use Rattle.pm_types.specs.NodeState.{Transfer as NodeTransfer}
+use Rattle.node_core.proofs.Names.{Action, AllByRecursion, Areas, AreasFit, BeingProcessed as Processing, Bool, Bytes}
+use Rattle.node_core.proofs.Names.{ExitVerdict, Found, Holding, Install, IsBehind, IsCopied, IsCopiedIn, IsInOrder}
+use Rattle.node_core.proofs.Names.{IsKept, IsPartCopied, IsReady, IsSound, IsVerdict, LeavesOutside, List, Manifest}
+use Rattle.node_core.proofs.Names.{None, Option, Phase, Prepared, Processed, Remove, Some, StoredTransfer}
+use Rattle.node_core.proofs.Names.{Transfer as NodeTransfer, TransferData, TransferExit, Transferred, Transferring}
+use Rattle.node_core.proofs.Names.{Update, and_parts, ap, arith, block_limit, cond, content_of, data_refusals}
+use Rattle.node_core.proofs.Names.{eqb-false, exit_refusals, false, find, first_refusal, found_of, goes_to, inl, inr}
+use Rattle.node_core.proofs.Names.{is_of, length, length-take, list_all, map, meaning, nat_tests, node_of, not}
+use Rattle.node_core.proofs.Names.{option_map, option_map_or, overwritten, package_limit, package_reading, refl}
+use Rattle.node_core.proofs.Names.{slice_range, slots_differ, slots_of, stored_header, stored_of, subst, sym, take}
+use Rattle.node_core.proofs.Names.{transfer_limit, transfer_meaning, true, units_done, with_content, zero-add, [], ℕ}
+use Rattle.node_core.proofs.Names.{◌*◌, ◌+◌, ◌<◌, ◌==◌, ◌∙◌, ◌∷◌, ◌≡◌, ◌≢◌, ◌≤◌, ◌⊎◌}
 use Rattle.pm_types.specs.Validity.{IsSound as IsSoundTransfer}
-use Rattle.pm_types.specs.declared.state.StoredTransfer.{StoredTransfer}
-use Rattle.pm_types.specs.Stored.{Areas, IsInOrder, meaning, slots_differ, transfer_meaning}
-use Rattle.pm_types.specs.Transfers.{data_refusals, exit_refusals, is_of}
 use Rattle.transfer_blocks.specs.declared.area.Area.TheVariants.{Transfer}
-use Rattle.pm_types.specs.declared.calls.Call.TheVariants.{TransferData, TransferExit}
-use Rattle.pm_types.specs.declared.transfers.ExitVerdict.{ExitVerdict}
-use Rattle.pm_types.specs.Refusals.{first_refusal}
-use Rattle.transfer_blocks.specs.declared.found.Found.{Found}
-use Rattle.transfer_blocks.specs.Areas.{AreasFit, LeavesOutside, content_of, overwritten, with_content}
-use Rattle.transfer_blocks.specs.Table.{found_of, slots_of, stored_header, stored_of}
+use Rattle.node_core.specs.declared.prepared.Prepared.TheVariants.{Verdict as Judged}
+use Rattle.transfer_blocks.proofs.Meanings.{header-means, transfer-stands}
 use Rattle.transfer_blocks.proofs.Areas.{content-here}
 use Rattle.transfer_blocks.proofs.Bytes.{front_slice, slice-overwritten}
-use Rattle.transfer_blocks.proofs.Meanings.{transfer-stands}
-use Rattle.node_laws.proofs.Lists.{each-both, each-imp, each-unmap, found-has}
-use Rattle.node_laws.proofs.Lists.{not-true}
-use Rattle.node_core.specs.Core.{Holding, IsBehind, IsKept, IsReady, IsSound, node_of}
-use Rattle.node_core.specs.declared.prepared.Prepared.{Prepared}
-use Rattle.node_core.specs.declared.prepared.Prepared.TheVariants.{Verdict as Judged}
-use Rattle.node_core.specs.Prepared.{IsVerdict}
-use Rattle.node_core.specs.Packages.{package_reading}
-use Rattle.node_core.specs.Places.{IsCopied, IsCopiedIn, IsPartCopied, goes_to, units_done}
-use Rattle.node_core.proofs.Stored.{found-means, header-means, only-has}
-use Rattle.node_core.proofs.Judged.{data-same, rise}
+use Rattle.node_laws.proofs.Lists.{each-both, each-imp, each-unmap, found-has, not-true}
+use Rattle.node_core.proofs.Lists.{map-same}
+use Rattle.node_core.proofs.Stored.{found-means, only-has, rise}
+use Rattle.node_core.proofs.Judged.{data-same}
 use Rattle.node_core.proofs.Sound.{table-is}
 
 -- a transfer is the one that was found, or lies in another slot
@@ -81,7 +64,8 @@ pub record IsLeft (v : Holding) (areas : Areas) : Type 0 where
 -- where every transfer means the same
 same-left : (v : Holding) (slots : List Bytes) → IsSound v → AllByRecursion (λ t. transfer_meaning package_reading (record v.areas { slots = slots }) t ≡ transfer_meaning package_reading v.areas t) v.state.transfers → IsLeft v (record v.areas { slots = slots })
 same-left v slots sound each = record {
-  node = ap (λ ts. record (node_of v) { transfers = ts }) (maps v.state.transfers each);
+  node = ap (λ ts. record (node_of v) { transfers = ts })
+      (map-same (transfer_meaning package_reading (record v.areas { slots = slots })) (transfer_meaning package_reading v.areas) v.state.transfers each);
   order = record {
     clusters = sound.order.clusters;
     session = sound.order.session;
@@ -92,10 +76,6 @@ same-left v slots sound each = record {
   };
   copied = each-both _ _ _ (λ t same copied. copied-stands v slots t t.header.phase same copied) v.state.transfers each sound.copied;
 }
-  where
-    maps : (ts : List StoredTransfer) → AllByRecursion (λ t. transfer_meaning package_reading (record v.areas { slots = slots }) t ≡ transfer_meaning package_reading v.areas t) ts → map (transfer_meaning package_reading (record v.areas { slots = slots })) ts ≡ map (transfer_meaning package_reading v.areas) ts
-    maps [] each = refl
-    maps (t ∷ ts) each = ap (λ m. m ∷ map (transfer_meaning package_reading (record v.areas { slots = slots })) ts) each.0 ∙ ap (λ ms. transfer_meaning package_reading v.areas t ∷ ms) (maps ts each.1)
 
 module _ (v : Holding) (sound : IsSound v) (client id : ℕ) (u : StoredTransfer) (e : stored_of v.state.transfers client id ≡ Some u) where
   -- its slot is one
@@ -135,7 +115,7 @@ refused-block {w = w} e client id counter block refused none =
 
 pub refused-exit : {v w : Holding} → v ≡ w → (client id : ℕ) → first_refusal (exit_refusals (stored_header v.state.transfers client id)) ≢ None → IsReady w client (TransferExit id)
 refused-exit {w = w} e client id refused none =
-    absurd (refused (ap (λ (x : Holding). first_refusal (exit_refusals (stored_header x.state.transfers client id))) e ∙ ap (λ h. first_refusal (exit_refusals h)) (sym (header-means package_reading w.areas client id w.state.transfers)) ∙ none))
+    absurd (refused (ap (λ (x : Holding). first_refusal (exit_refusals (stored_header x.state.transfers client id))) e ∙ ap (λ h. first_refusal (exit_refusals h)) (sym (header-means package_reading w.areas (is_of client id) w.state.transfers)) ∙ none))
 
 module _ (v : Holding) (sound : IsSound v) (client id : ℕ) (f : Found) (e : found_of v.state.transfers client id ≡ Some f) where
   there : (u : StoredTransfer) × (stored_of v.state.transfers client id ≡ Some u) × (f ≡ record { header = u.header; slot = u.slot })

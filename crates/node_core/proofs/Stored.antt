@@ -1,19 +1,12 @@
 -- What stored transfers mean, and what a change of one of them changes of that.
-use Rattle.std.proofs.Common.{◌≡◌, refl, sym, subst, ap, ◌∙◌, ℕ, ◌<◌, ◌+◌, Bool, true, false, List, [], ◌∷◌, ◌++◌, cond, arith, map, filter, take, drop, ◌-◌}
-use Rattle.std.specs.Prelude.{◌==◌, if◌then◌else◌, option_map, Option, Some, None, is_none, find, slice_range}
-use Rattle.std.specs.List.{AllByRecursion}
-use Rattle.std.proofs.lemmas.Bool.{and_parts, eqb-true}
-use Rattle.std.proofs.lemmas.List.{map-append}
-use Rattle.std.proofs.Math.Seq.{take-add}
-use Rattle.pm_types.specs.declared.state.StoredTransfer.{StoredTransfer}
-use Rattle.pm_types.specs.declared.transfers.Header.{Header}
-use Rattle.pm_types.specs.NodeState.{Transfer}
-use Rattle.pm_types.specs.Histories.{Reading}
-use Rattle.pm_types.specs.Stored.{Areas, transfer_meaning}
-use Rattle.pm_types.specs.Transfers.{is_of, header_of, fresh}
-use Rattle.pm_types.specs.Validity.{numbers_rise}
+use Rattle.node_core.proofs.Names.{AllByRecursion, Areas, Bool, Found, Holding, IsSound, List, None, Option, Reading}
+use Rattle.node_core.proofs.Names.{Some, StoredTransfer, Transfer, and_parts, ap, arith, cond, drop, eqb-true, false}
+use Rattle.node_core.proofs.Names.{find, found_of, if◌then◌else◌, is_none, is_of, map, map-map, numbers_rise}
+use Rattle.node_core.proofs.Names.{option_map, package_reading, refl, slice_range, stored_header, stored_of, subst}
+use Rattle.node_core.proofs.Names.{sym, take, take-add, transfer_meaning, true, [], ℕ, ◌++◌, ◌+◌, ◌-◌, ◌<◌, ◌==◌, ◌∙◌}
+use Rattle.node_core.proofs.Names.{◌∷◌, ◌≡◌}
 use Rattle.node_laws.proofs.Lists.{each-imp, each-unmap, found-has, rise-above, rise-tail}
-use Rattle.node_core.proofs.Lists.{find-map, filter-map, change-map}
+use Rattle.node_core.proofs.Lists.{every, find-map, change-map}
 
 abbrev pub ids : List StoredTransfer → List ℕ
 ids ts = map (λ t. t.header.id) ts
@@ -24,12 +17,8 @@ found client id ts = find (λ t. is_of client id t.header) ts
 -- a transfer that is found has the id and the client
 pub found-is : (client id : ℕ) (ts : List StoredTransfer) (u : StoredTransfer) → found client id ts ≡ Some u → (u.header.id ≡ id) × (u.header.client ≡ client)
 found-is client id ts u e =
-    let own = and_parts (u.header.id == id) (u.header.client == client) (found-has (λ t. is_of client id t.header) (λ _. Unit {0}) ts u (every ts) e).0 in
+    let own = and_parts (u.header.id == id) (u.header.client == client) (found-has (λ t. is_of client id t.header) (λ _. Unit {0}) ts u (every (λ _. tt) ts) e).0 in
     (eqb-true _ _ own.0, eqb-true _ _ own.1)
-  where
-    every : (us : List StoredTransfer) → AllByRecursion (λ _. Unit {0}) us
-    every [] = tt
-    every (_ ∷ us) = (tt, every us)
 
 -- and is the only one of its id
 pub only : (client id : ℕ) (ts : List StoredTransfer) (u : StoredTransfer) → numbers_rise (ids ts) ≡ true → found client id ts ≡ Some u → AllByRecursion (λ t. (t.header.id == id) ≡ true → t ≡ u) ts
@@ -54,8 +43,16 @@ only-has P client id ts u r e own = each-imp _ _ (λ t same q. subst P (sym (sam
 
 -- a transfer that some header is found of
 pub some-stored : (o : Option StoredTransfer) → is_none (option_map (λ t. t.header) o) ≡ false → (u : StoredTransfer) × (o ≡ Some u)
-some-stored (Some u) e = (u, refl)
-some-stored None e = absurd (cc)
+some-stored o e = grind arith
+
+-- the header of a look-up
+pub found-header : (ts : List StoredTransfer) (client id : ℕ) → stored_header ts client id ≡ option_map (λ (f : Found). f.header) (found_of ts client id)
+found-header ts client id = of (stored_of ts client id)
+  where
+    of : (o : Option StoredTransfer) → option_map (λ t. t.header) o
+        ≡ option_map (λ (f : Found). f.header) (option_map (λ t. record { header = t.header; slot = t.slot }) o)
+    of None = refl
+    of (Some t) = refl
 
 -- a part with its payload's length, of the bytes behind those that came
 pub staged-bytes : (came n : ℕ) (content block : List ℕ) → slice_range content came (came + n) ≡ block → take (came + n) content ≡ take came content ++ block
@@ -64,34 +61,20 @@ staged-bytes came n content block staged =
     take-add came n content ∙ ap (λ l. take came content ++ l) (sym (ap (λ k. take k (drop came content)) width) ∙ staged)
 
 module _ (read : Reading) (areas : Areas) where
-  -- the ids of what transfers mean
-  pub ids-mean : (ts : List StoredTransfer) → map (λ t. t.header.id) (map (transfer_meaning read areas) ts) ≡ ids ts
-  ids-mean [] = refl
-  ids-mean (t ∷ ts) = ap (λ l. t.header.id ∷ l) (ids-mean ts)
-
-  -- the header that is found is that of what the transfers mean
-  pub header-means : (client id : ℕ) (ts : List StoredTransfer) → header_of (find (λ t. is_of client id t.header) (map (transfer_meaning read areas) ts)) ≡ option_map (λ t. t.header) (found client id ts)
-  header-means client id ts = ap header_of (find-map (transfer_meaning read areas) (λ t. is_of client id t.header) ts) ∙ of (found client id ts)
-    where
-      of : (o : Option StoredTransfer) → header_of (option_map (transfer_meaning read areas) o) ≡ option_map (λ t. t.header) o
-      of None = refl
-      of (Some u) = refl
-
   -- what is found in what transfers mean is what the one that is found means
   pub found-means : (client id : ℕ) (ts : List StoredTransfer) → find (λ t. is_of client id t.header) (map (transfer_meaning read areas) ts) ≡ option_map (transfer_meaning read areas) (found client id ts)
   found-means client id ts = find-map (transfer_meaning read areas) (λ t. is_of client id t.header) ts
 
-  -- a transfer that begins
-  pub started-means : (id client size slot : ℕ) (ts : List StoredTransfer) → map (transfer_meaning read areas) (ts ++ record { header = fresh id client size; slot = slot; contents = [] } ∷ []) ≡ map (transfer_meaning read areas) ts ++ record { header = fresh id client size; bytes = []; parts = [] } ∷ []
-  started-means id client size slot ts = map-append (transfer_meaning read areas) ts _
-
-  -- transfers that are taken away
-  pub filtered-means : (p : Header → Bool) (ts : List StoredTransfer) → map (transfer_meaning read areas) (filter (λ t. p t.header) ts) ≡ filter (λ t. p t.header) (map (transfer_meaning read areas) ts)
-  filtered-means p ts = filter-map (transfer_meaning read areas) (λ t. p t.header) ts
-
   -- a change of the one that is found
-  pub changed-means : (client id : ℕ) (g : StoredTransfer → StoredTransfer) (h : Transfer → Transfer) (ts : List StoredTransfer) (u : StoredTransfer) → numbers_rise (ids ts) ≡ true → found client id ts ≡ Some u → transfer_meaning read areas (g u) ≡ h (transfer_meaning read areas u)
+  pub changed-means : (client id : ℕ) (g : StoredTransfer → StoredTransfer) (h : Transfer → Transfer) (ts : List StoredTransfer) (u : StoredTransfer)
+      → numbers_rise (ids ts) ≡ true → found client id ts ≡ Some u → transfer_meaning read areas (g u) ≡ h (transfer_meaning read areas u)
       → map (transfer_meaning read areas) (map (λ t. if t.header.id == id then g t else t) ts) ≡ map (λ t. if t.header.id == id then h t else t) (map (transfer_meaning read areas) ts)
   changed-means client id g h ts u r e same =
       change-map (transfer_meaning read areas) (λ t. t.header.id == id) g h ts
       (only-has (λ t. transfer_meaning read areas (g t) ≡ h (transfer_meaning read areas t)) client id ts u r e same)
+
+-- the ids of a sound node's transfers rise
+pub rise : (v : Holding) → IsSound v → numbers_rise (ids v.state.transfers) ≡ true
+rise v sound =
+    ap numbers_rise (sym (map-map (λ (t : Transfer). t.header.id) (transfer_meaning package_reading v.areas) v.state.transfers))
+    ∙ sound.fit.consistent.transfers.rise

@@ -1,39 +1,24 @@
 -- What a unit of work leaves of a sound node.
-use Rattle.std.proofs.Common.{◌≡◌, refl, sym, subst, ap, ◌∙◌, ℕ, ◌+◌, ◌<◌, Bool, true, false, List, [], ◌∷◌, ◌++◌, length, map}
-use Rattle.std.specs.Prelude.{nat_lt, not, ◌==◌, is_some, ◌||◌, if◌then◌else◌, option_and_then, option_map, slice_set, Option, Some, None}
-use Rattle.std.specs.List.{AllByRecursion}
-use Rattle.std.proofs.lemmas.List.{length-map}
-use Rattle.pm_types.specs.declared.clusters.Cluster.{Cluster}
-use Rattle.pm_types.specs.declared.clusters.Extent.{Extent}
-use Rattle.pm_types.specs.declared.replies.EndMark.{EndMark}
-use Rattle.pm_types.specs.declared.state.StoredTransfer.{StoredTransfer}
-use Rattle.pm_types.specs.declared.status.Outcome.{Outcome}
-use Rattle.pm_types.specs.declared.status.Phase.{Phase}
-use Rattle.pm_types.specs.declared.status.Phase.TheVariants.{Transferring, Transferred, Processing as BeingProcessed, Processed}
-use Rattle.pm_types.specs.declared.status.Status.{Status}
-use Rattle.pm_types.specs.declared.status.Status.TheVariants.{Idle, Ready, Processing, Activating, Verifying, Activated, RollingBack, RolledBack, CleaningUp}
-use Rattle.pm_types.specs.Clusters.{planned}
-use Rattle.pm_types.specs.NodeState.{SessionOf, Transfer, has_status, is_in, is_working, some_passes}
-use Rattle.pm_types.specs.Stored.{Areas, State, IsExtent, IsPlaced, change_meaning, change_place, cluster_place, names_fit_places, session_meaning, transfer_meaning}
-use Rattle.pm_types.specs.Validity.{SessionIsDue, id_in_processing, should_run}
-use Rattle.pm_types.specs.Work.{end_mark, unit, unit_of}
+use Rattle.node_core.proofs.Names.{Activated, Activating, AllByRecursion, Areas, BeingProcessed, Bool, CleaningUp}
+use Rattle.node_core.proofs.Names.{Cluster, EndMark, Extent, Holding, Idle, IsCopied, IsCopiedIn, IsExtent, IsFit}
+use Rattle.node_core.proofs.Names.{IsPlaced, IsReservedWork, IsSound, IsTable, IsUnit, IsUnitReady, List, None}
+use Rattle.node_core.proofs.Names.{Option, Outcome, Phase, Prepared, Processed, Processing, Ready, RolledBack}
+use Rattle.node_core.proofs.Names.{RollingBack, SessionIsDue, SessionOf, Some, State, Status, StoredTransfer, Table}
+use Rattle.node_core.proofs.Names.{Transfer, Transferred, Transferring, Verifying, after_work, ap, change_meaning}
+use Rattle.node_core.proofs.Names.{change_place, cleaned, cluster_place, clusters_kept, end_mark, false, has_status}
+use Rattle.node_core.proofs.Names.{id_in_processing, if◌then◌else◌, is_in, is_some, is_working, length, length-map}
+use Rattle.node_core.proofs.Names.{map, names_fit_places, nat_lt, node_of, not, option_and_then, option_map}
+use Rattle.node_core.proofs.Names.{package_reading, planned, refl, session_meaning, should_run, slice_set}
+use Rattle.node_core.proofs.Names.{some_passes, subst, sym, table_of, transfer_meaning, true, unit, unit_of}
+use Rattle.node_core.proofs.Names.{unit_passes, with_table, [], ℕ, ◌++◌, ◌+◌, ◌<◌, ◌==◌, ◌||◌, ◌∙◌, ◌≡◌}
+use Rattle.transfer_blocks.proofs.Meanings.{filter-means}
 use Rattle.node_laws.proofs.Lists.{each-append, each-filter, each-first, each-imp, each-unmap}
-use Rattle.transfer_blocks.specs.Table.{IsTable, Table, cleaned}
-use Rattle.node_core.specs.Core.{Holding, IsSound, node_of, table_of, with_table}
-use Rattle.node_core.specs.declared.prepared.Prepared.{Prepared}
-use Rattle.node_core.specs.Packages.{package_reading}
-use Rattle.node_core.specs.Places.{IsCopied, IsCopiedIn}
-use Rattle.node_core.specs.Units.{after_work, IsReservedWork, IsUnit, IsUnitReady, clusters_kept}
-use Rattle.node_core.proofs.Planned.{IsAmong, among-fit, planned-each, planned-means, planned-places}
-use Rattle.node_core.proofs.Stored.{filtered-means}
-use Rattle.node_core.proofs.Sound.{reading-is}
 use Rattle.node_laws.proofs.Kept.{keeps-fit}
-use Rattle.node_laws.specs.Fit.{IsFit}
-use Rattle.pm_types.specs.Histories.{unit_passes}
-
-behind : {X : Type 0} (P : X → Type 0) (xs ys : List X) → AllByRecursion P (xs ++ ys) → AllByRecursion P ys
-behind P [] ys h = h
-behind P (x ∷ xs) ys h = behind P xs ys h.1
+use Rattle.node_core.proofs.Lists.{each-second}
+use Rattle.node_core.proofs.Arrived.{marked-order}
+use Rattle.node_core.proofs.Natural.{planned-means}
+use Rattle.node_core.proofs.Sound.{reading-is}
+use Rattle.node_core.proofs.Planned.{IsAmong, among-fit, planned-each, planned-places}
 
 -- a node in this status, with this session
 abbrev pub at_work : Holding → Status → SessionOf Extent → Holding
@@ -106,7 +91,7 @@ module _ (v : Holding) (x : SessionOf Extent) (p : Prepared) where
   -- other running clusters, of the places of those that were saved and of the changes
   run-places : (running : List (Cluster Extent)) → IsAmong (map cluster_place running) places → names_fit_places (map cluster_place v.state.running ++ places) ≡ true → names_fit_places (map cluster_place running ++ places) ≡ true
   run-places running among fit = among-fit (map cluster_place running ++ places) (map cluster_place v.state.running ++ places)
-      (λ P each. let rest = behind P (map cluster_place v.state.running) places each in each-append P (map cluster_place running) places (among P rest) rest) fit
+      (λ P each. let rest = each-second P (map cluster_place v.state.running) places each in each-append P (map cluster_place running) places (among P rest) rest) fit
 
   -- one change may be verified more
   one-left : IsSound (at_work v Verifying x) → x.verified < length x.changes
@@ -118,14 +103,8 @@ module _ (v : Holding) (x : SessionOf Extent) (p : Prepared) where
   verified-unit sound more e = record {
     node = ap (λ n. Some (node_of (moved (if nat_lt (x.verified + 1) n then Verifying else Activated) (record x { verified = x.verified + 1 }) v.state.running))) (length-map x.changes (change_meaning v.areas))
         ∙ ap (λ b. Some (node_of (moved (if b then Verifying else Activated) (record x { verified = x.verified + 1 }) v.state.running))) e;
-    order = record {
-      clusters = sound.order.clusters;
-      session = sound.order.session;
-      transfers = sound.order.transfers;
-      slots = sound.order.slots;
-      places = sound.order.places;
-      running = runs more;
-    };
+    order = marked-order v.areas (at_work v Verifying x).state (if more then Verifying else Activated) x x.processing x.units_done (x.verified + 1)
+        x.outcome sound.order (runs more);
     copied = none-copied v.areas (moved (if more then Verifying else Activated) (record x { verified = x.verified + 1 }) v.state.running).state (none-processed (at_work v Verifying x) sound refl);
     entries = refl;
   }
@@ -140,7 +119,7 @@ module _ (v : Holding) (x : SessionOf Extent) (p : Prepared) where
   activated-unit passed running kept sound ready =
       let same : planned x.changes x.saved ≡ running = cc in
       subst (λ cs. IsUnit (at_work v Activating x) passed (moved Verifying (record x { verified = 0 }) cs)) same (record {
-        node = ap (λ cs. Some (record (node_of (moved Verifying (record x { verified = 0 }) v.state.running)) { running = cs })) (sym (planned-means v.areas x.changes x.saved));
+        node = ap (λ cs. Some (record (node_of (moved Verifying (record x { verified = 0 }) v.state.running)) { running = cs })) (planned-means v.areas x.changes x.saved);
         order = record {
           clusters = planned-each (λ c. IsExtent c.content) x.changes x.saved sound.order.session.1 sound.order.session.0;
           session = sound.order.session;
@@ -182,7 +161,7 @@ module _ (v : Holding) (x : SessionOf Extent) (p : Prepared) where
   cleaned-unit passed table left place mark sound is form none here marks =
       let marked : end_mark (session_meaning v.areas x) ≡ mark = sym (marks ∙ of x.outcome) in
       subst (IsUnit (at_work v CleaningUp x) passed) (λ i. ended (sym is i) (sym none i) (slice_set v.state.ended (sym here i) (marked i))) (record {
-        node = ap (λ us. Some (record (node_of (ended (table_of v.state) None (slice_set v.state.ended x.owner (end_mark (session_meaning v.areas x))))) { transfers = us })) (sym (filtered-means package_reading v.areas (λ h. not (is_in BeingProcessed h || is_in Processed h)) v.state.transfers));
+        node = ap (λ us. Some (record (node_of (ended (table_of v.state) None (slice_set v.state.ended x.owner (end_mark (session_meaning v.areas x))))) { transfers = us })) (filter-means package_reading v.areas (λ h. not (is_in BeingProcessed h || is_in Processed h)) v.state.transfers);
         order = record {
           clusters = sound.order.clusters;
           session = tt;

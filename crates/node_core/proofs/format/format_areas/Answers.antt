@@ -1,7 +1,4 @@
-use Rattle.std.proofs.Common.{◌≤◌, length, subst, sym}
-use Rattle.std.specs.List.{AllByRecursion}
-use Rattle.ucm_base.specs.Limits.{package_limit}
-use Rattle.node_core.specs.Core.{IsSound, holding}
+use Rattle.node_core.proofs.Names.{AllByRecursion, IsSound, holding, length, package_limit, subst, sym, ◌≤◌}
 use Rattle.node_core.proofs.Ordered.{order-each}
 use Rattle.node_core.proofs.Formatted.{formatted-sound}
 use Rattle.node_core.proofs.format.format_areas.Goals as goal

@@ -1,8 +1,6 @@
-use Rattle.std.proofs.Common.{◌≡◌, ◌++◌, ◌∷◌, [], length, ap, sym, ◌∙◌, append_assoc, arith}
-use Rattle.std.specs.Vec.Iter.{into_iter_items}
-use Rattle.ucm_base.specs.Names.{name_lt}
+use Rattle.node_core.proofs.Names.{ap, append_assoc, arith, into_iter_items, length, name_lt, named_before, sym, []}
+use Rattle.node_core.proofs.Names.{◌++◌, ◌∙◌, ◌∷◌, ◌≡◌}
 use Rattle.node_laws.proofs.Lists.{length-filter}
-use Rattle.node_core.specs.Format.{named_before}
 use Rattle.node_core.proofs.Ordered.{next-ordered, next-length}
 use Rattle.node_core.proofs.format.in_order.Goals as goal
 

@@ -1,6 +1,4 @@
-use Rattle.std.proofs.Common.{◌≡◌, ◌++◌, length}
-use Rattle.std.specs.Vec.Iter.{into_iter_items, into_iter_len}
-use Rattle.node_core.specs.Format.{in_order}
+use Rattle.node_core.proofs.Names.{in_order, into_iter_items, into_iter_len, length, ◌++◌, ◌≡◌}
 use Rattle.node_core.proofs.format.in_order.Given as goal
 
 abbrev pub invariant-loop-cluster : goal.invariant-loop-cluster

@@ -1,5 +1,4 @@
-use Rattle.std.proofs.Common.{◌≡◌, ◌++◌, ◌∷◌, [], length, ap, sym, ◌∙◌, append_assoc, arith}
-use Rattle.std.specs.Vec.Iter.{into_iter_items}
+use Rattle.node_core.proofs.Names.{ap, append_assoc, arith, into_iter_items, length, sym, [], ◌++◌, ◌∙◌, ◌∷◌, ◌≡◌}
 use Rattle.node_core.proofs.Formatted.{next-installed}
 use Rattle.node_core.proofs.format.install.Goals as goal
 

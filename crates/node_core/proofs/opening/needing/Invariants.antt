@@ -1,6 +1,4 @@
-use Rattle.std.proofs.Common.{◌≡◌, map, take}
-use Rattle.dependency_check.specs.Clusters.{needing}
-use Rattle.node_core.specs.Sessions.{needing_of}
+use Rattle.node_core.proofs.Names.{map, needing, needing_of, take, ◌≡◌}
 use Rattle.node_core.proofs.opening.needing.Given as goal
 
 abbrev pub invariant-loop-cluster : goal.invariant-loop-cluster

@@ -1,5 +1,4 @@
-use Rattle.std.proofs.Common.{◌≡◌, filter, take}
-use Rattle.node_core.specs.Units.{picks}
+use Rattle.node_core.proofs.Names.{filter, picks, take, ◌≡◌}
 use Rattle.node_core.proofs.plan.picked.Given as goal
 
 abbrev pub invariant-loop-cluster : goal.invariant-loop-cluster

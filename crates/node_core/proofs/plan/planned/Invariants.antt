@@ -1,5 +1,4 @@
-use Rattle.std.proofs.Common.{◌≡◌, drop}
-use Rattle.pm_types.specs.Clusters.{planned}
+use Rattle.node_core.proofs.Names.{drop, planned, ◌≡◌}
 use Rattle.node_core.proofs.plan.planned.Given as goal
 
 abbrev pub invariant-loop-change : goal.invariant-loop-change

@@ -1,8 +1,4 @@
-use Rattle.std.proofs.Common.{◌+◌, [], ap, ◌∙◌, arith}
-use Rattle.pm_types.specs.Clusters.{cluster_of}
-use Rattle.pm_types.specs.declared.clusters.Change.{Change}
-use Rattle.pm_types.specs.declared.clusters.Extent.{Extent}
-use Rattle.node_core.specs.Sessions.{added, count_of}
+use Rattle.node_core.proofs.Names.{Change, Extent, added, ap, arith, cluster_of, count_of, [], ◌+◌, ◌∙◌}
 use Rattle.node_core.proofs.Counted.{change-more, counted-on, fewer-on, one-at-most, rest_of}
 use Rattle.node_core.proofs.session_rules.count_changed.Goals as goal
 

@@ -1,7 +1,4 @@
-use Rattle.std.proofs.Common.{◌+◌, ap, ◌∙◌, arith}
-use Rattle.pm_types.specs.declared.clusters.Cluster.{Cluster}
-use Rattle.pm_types.specs.declared.clusters.Extent.{Extent}
-use Rattle.node_core.specs.Sessions.{added, count_of}
+use Rattle.node_core.proofs.Names.{Cluster, Extent, added, ap, arith, count_of, ◌+◌, ◌∙◌}
 use Rattle.node_core.proofs.Counted.{cluster-more, counted-on, fewer-on, one-at-most, rest_of}
 use Rattle.node_core.proofs.session_rules.is_full.Goals as goal
 

@@ -1,5 +1,4 @@
-use Rattle.std.proofs.Common.{◌≡◌, ◌≤◌, ◌+◌, length}
-use Rattle.node_core.specs.Sessions.{count_of}
+use Rattle.node_core.proofs.Names.{count_of, length, ◌+◌, ◌≡◌, ◌≤◌}
 use Rattle.node_core.proofs.session_rules.is_full.Given as goal
 
 abbrev pub invariant-loop-rest : goal.invariant-loop-rest

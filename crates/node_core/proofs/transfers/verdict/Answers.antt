@@ -1,8 +1,5 @@
-use Rattle.std.proofs.Common.{⊎_elim, refl, sym, ap, subst, ◌∙◌, length, Err}
-use Rattle.pm_types.specs.declared.replies.Refusal.TheVariants.{PackageInconsistent, InvalidManifest}
-use Rattle.pm_types.specs.declared.transfers.ExitVerdict.TheVariants.{Good, Bad}
-use Rattle.node_core.specs.Packages.{verdict_of}
-use Rattle.node_core.specs.Prepared.{IsVerdict}
+use Rattle.node_core.proofs.Names.{Bad, Err, Good, InvalidManifest, IsVerdict, PackageInconsistent, ap, length, refl}
+use Rattle.node_core.proofs.Names.{subst, sym, verdict_of, ⊎_elim, ◌∙◌}
 use Rattle.node_core.proofs.transfers.verdict.Goals as goal
 
 pub returns-in-Ok : goal.returns-in-Ok

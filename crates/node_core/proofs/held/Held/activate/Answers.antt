@@ -1,7 +1,4 @@
-use Rattle.std.proofs.Common.{None, ap, ◌∙◌}
-use Rattle.std.specs.Prelude.{unwrap_or}
-use Rattle.node_core.specs.Core.{Holding}
-use Rattle.node_core.specs.Prepared.{unmet_kept}
+use Rattle.node_core.proofs.Names.{Holding, None, ap, unmet_kept, unwrap_or, ◌∙◌}
 use Rattle.node_core.proofs.Begun.{activate-judged, activate-refused}
 use Rattle.node_core.proofs.held.Held.activate.Goals as goal
 

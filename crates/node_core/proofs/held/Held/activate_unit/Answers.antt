@@ -1,4 +1,4 @@
-use Rattle.std.proofs.Common.{sym, ap, ◌∙◌, Some}
+use Rattle.node_core.proofs.Names.{Some, ap, sym, ◌∙◌}
 use Rattle.node_core.proofs.Worked.{activated}
 use Rattle.node_core.proofs.held.Held.activate_unit.Goals as goal
 

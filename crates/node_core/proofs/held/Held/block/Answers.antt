@@ -1,6 +1,4 @@
-use Rattle.std.proofs.Common.{sym, subst}
-use Rattle.pm_types.specs.declared.calls.Call.TheVariants.{TransferData}
-use Rattle.node_core.specs.Core.{IsReady, IsSound}
+use Rattle.node_core.proofs.Names.{IsReady, IsSound, TransferData, subst, sym}
 use Rattle.node_core.proofs.Judged.{block-judged, judged-of}
 use Rattle.node_core.proofs.held.Held.block.Goals as goal
 

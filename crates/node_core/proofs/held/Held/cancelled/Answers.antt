@@ -1,4 +1,4 @@
-use Rattle.std.proofs.Common.{◌∙◌}
+use Rattle.node_core.proofs.Names.{◌∙◌}
 use Rattle.node_core.proofs.Phased.{cancel-by}
 use Rattle.node_core.proofs.held.Held.cancelled.Goals as goal
 

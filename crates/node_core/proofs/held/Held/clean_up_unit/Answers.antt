@@ -1,4 +1,4 @@
-use Rattle.std.proofs.Common.{sym, ap, ◌∙◌, Some}
+use Rattle.node_core.proofs.Names.{Some, ap, sym, ◌∙◌}
 use Rattle.node_core.proofs.Worked.{cleaned_up}
 use Rattle.node_core.proofs.held.Held.clean_up_unit.Goals as goal
 

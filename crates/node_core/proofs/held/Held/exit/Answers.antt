@@ -1,12 +1,6 @@
-use Rattle.std.proofs.Common.{sym, subst, ap, ◌∙◌}
-use Rattle.std.specs.Option.{option_or}
-use Rattle.pm_types.specs.declared.calls.Call.TheVariants.{TransferExit}
-use Rattle.pm_types.specs.declared.replies.Reply.TheVariants.{Done}
-use Rattle.pm_types.specs.Refusals.{first_refusal}
-use Rattle.pm_types.specs.Steps.{refused_or}
-use Rattle.pm_types.specs.Transfers.{exit_refusals}
-use Rattle.transfer_blocks.specs.Table.{bad_refusal, good_parts, stored_header, unless_refused, whole, with_stored}
-use Rattle.node_core.specs.Core.{IsReady, IsSound}
+use Rattle.node_core.proofs.Names.{Done, IsReady, IsSound, TransferExit, ap, bad_refusal, exit_refusals}
+use Rattle.node_core.proofs.Names.{first_refusal, good_parts, option_or, refused_or, stored_header, subst, sym}
+use Rattle.node_core.proofs.Names.{unless_refused, whole, with_stored, ◌∙◌}
 use Rattle.node_core.proofs.Judged.{exit-judged, judged-of}
 use Rattle.node_core.proofs.held.Held.exit.Goals as goal
 

@@ -1,6 +1,4 @@
-use Rattle.std.proofs.Common.{refl, sym, ap, ◌∙◌, true, false}
-use Rattle.node_core.specs.Core.{Holding}
-use Rattle.node_core.specs.Units.{session_takes}
+use Rattle.node_core.proofs.Names.{Holding, ap, false, refl, session_takes, sym, true, ◌∙◌}
 use Rattle.node_core.proofs.Taken.{taken-of}
 use Rattle.node_core.proofs.held.Held.is_taken.Goals as goal
 

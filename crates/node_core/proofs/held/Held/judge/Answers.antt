@@ -1,6 +1,4 @@
-use Rattle.std.proofs.Common.{sym, subst, ap, ◌∙◌}
-use Rattle.pm_types.specs.declared.calls.Call.TheVariants.{TransferData}
-use Rattle.node_core.specs.Core.{IsJudged}
+use Rattle.node_core.proofs.Names.{IsJudged, TransferData, ap, subst, sym, ◌∙◌}
 use Rattle.node_core.proofs.held.Held.judge.Goals as goal
 
 pub returns-in-TransferData-clause-judged : goal.returns-in-TransferData-clause-judged

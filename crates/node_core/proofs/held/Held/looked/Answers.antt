@@ -1,9 +1,4 @@
-use Rattle.std.proofs.Common.{◌≡◌, ◌∙◌, sym, subst, ap}
-use Rattle.std.specs.Prelude.{IfOk}
-use Rattle.std.specs.Option.{option_map_or}
-use Rattle.pm_types.specs.declared.clusters.Extent.{Extent}
-use Rattle.pm_types.specs.NodeState.{SessionOf}
-use Rattle.pm_types.specs.Clusters.{planned}
+use Rattle.node_core.proofs.Names.{Extent, IfOk, SessionOf, ap, option_map_or, planned, subst, sym, ◌∙◌, ◌≡◌}
 use Rattle.node_core.proofs.Begun.{missing-is}
 use Rattle.node_core.proofs.held.Held.looked.Goals as goal
 

@@ -1,8 +1,6 @@
-use Rattle.std.proofs.Common.{◌≡◌, ◌∙◌, ℕ, Bool, sym, ap, arith, true, false, not}
-use Rattle.std.specs.Prelude.{unwrap_or}
-use Rattle.ucm_base.specs.Limits.{cluster_limit}
-use Rattle.transfer_blocks.proofs.Slots.{scan-next, scan-here}
+use Rattle.node_core.proofs.Names.{Bool, ap, arith, cluster_limit, false, not, sym, true, unwrap_or, ℕ, ◌∙◌, ◌≡◌}
 use Rattle.node_core.specs.Units.{is_taken}
+use Rattle.transfer_blocks.proofs.Slots.{scan-next, scan-here}
 use Rattle.node_core.proofs.held.Held.lowest_free.Goals as goal
 
 pub returns-then-not-is_taken : goal.returns-then-not-is_taken

@@ -1,7 +1,4 @@
-use Rattle.std.proofs.Common.{◌≡◌, ◌-◌}
-use Rattle.std.specs.Prelude.{find, not}
-use Rattle.std.specs.List.{range_with_len}
-use Rattle.ucm_base.specs.Limits.{cluster_limit}
+use Rattle.node_core.proofs.Names.{cluster_limit, find, not, range_with_len, ◌-◌, ◌≡◌}
 use Rattle.node_core.specs.Units.{is_taken}
 use Rattle.node_core.proofs.held.Held.lowest_free.Given as goal
 

@@ -1,5 +1,4 @@
-use Rattle.std.proofs.Common.{refl, sym, ap, ◌∙◌, Some}
-use Rattle.std.specs.Prelude.{option_map}
+use Rattle.node_core.proofs.Names.{Some, ap, option_map, refl, sym, ◌∙◌}
 use Rattle.node_core.proofs.Lastly.{not-lost}
 use Rattle.node_core.proofs.Copied.{some-part}
 use Rattle.node_core.proofs.held.Held.next_unit.Goals as goal

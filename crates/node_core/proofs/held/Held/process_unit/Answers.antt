@@ -1,6 +1,4 @@
-use Rattle.std.proofs.Common.{sym, ap, ◌∙◌, Some, arith}
-use Rattle.std.specs.Prelude.{option_map}
-use Rattle.node_core.specs.Core.{Holding}
+use Rattle.node_core.proofs.Names.{Holding, Some, ap, arith, option_map, sym, ◌∙◌}
 use Rattle.node_core.proofs.Lastly.{has-room, last-done, more-done, next-fits, not-lost, some-change}
 use Rattle.node_core.proofs.held.Held.process_unit.Goals as goal
 

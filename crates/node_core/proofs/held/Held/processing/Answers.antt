@@ -1,5 +1,4 @@
-use Rattle.std.proofs.Common.{◌∙◌, ap}
-use Rattle.std.specs.Option.{option_or}
+use Rattle.node_core.proofs.Names.{ap, option_or, ◌∙◌}
 use Rattle.node_core.proofs.Begun.{package-refused, process-by}
 use Rattle.node_core.proofs.held.Held.processing.Goals as goal
 

@@ -1,5 +1,4 @@
-use Rattle.std.proofs.Common.{refl, sym, subst, ◌∙◌, zero-add}
-use Rattle.node_core.specs.Core.{IsSound}
+use Rattle.node_core.proofs.Names.{IsSound, refl, subst, sym, zero-add, ◌∙◌}
 use Rattle.node_core.proofs.Staging.{found-lies, found-slot, got-ready, refused-exit}
 use Rattle.node_core.proofs.held.Held.read.Goals as goal
 

@@ -1,5 +1,4 @@
-use Rattle.std.proofs.Common.{◌≡◌, refl, sym, subst, ap, ◌∙◌, ℕ, ◌<◌, arith}
-use Rattle.node_core.specs.Units.{IsNextUnit, change_kept}
+use Rattle.node_core.proofs.Names.{IsNextUnit, ap, arith, change_kept, refl, subst, ℕ, ◌<◌, ◌∙◌, ◌≡◌}
 use Rattle.node_core.proofs.Copied.{needs, on-ok}
 use Rattle.node_core.proofs.Staging.{kept-from}
 use Rattle.node_core.proofs.held.Held.reserve_unit.Goals as goal

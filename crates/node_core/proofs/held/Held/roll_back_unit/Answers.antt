@@ -1,4 +1,4 @@
-use Rattle.std.proofs.Common.{sym, ◌∙◌}
+use Rattle.node_core.proofs.Names.{sym, ◌∙◌}
 use Rattle.node_core.proofs.Worked.{rolled_back}
 use Rattle.node_core.proofs.held.Held.roll_back_unit.Goals as goal
 

@@ -1,5 +1,4 @@
-use Rattle.std.proofs.Common.{sym, subst}
-use Rattle.node_core.specs.Core.{IsSound}
+use Rattle.node_core.proofs.Names.{IsSound, subst, sym}
 use Rattle.node_core.proofs.Judged.{start-judged, judged-of}
 use Rattle.node_core.proofs.held.Held.start.Goals as goal
 

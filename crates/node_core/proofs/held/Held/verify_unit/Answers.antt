@@ -1,8 +1,5 @@
-use Rattle.std.proofs.Common.{◌≡◌, refl, sym, ap, ◌∙◌, ◌+◌, Some, arith, true, false, length}
-use Rattle.std.specs.Prelude.{nat_lt}
-use Rattle.std.proofs.lemmas.Bool.Decides.{nat_tests}
-use Rattle.pm_types.specs.declared.status.Status.TheVariants.{Activated}
-use Rattle.node_core.specs.Core.{Holding}
+use Rattle.node_core.proofs.Names.{Activated, Holding, Some, ap, arith, false, length, nat_lt, nat_tests, refl, sym}
+use Rattle.node_core.proofs.Names.{true, ◌+◌, ◌∙◌, ◌≡◌}
 use Rattle.node_core.proofs.Worked.{left-to-verify, verified}
 use Rattle.node_core.proofs.held.Held.verify_unit.Goals as goal
 

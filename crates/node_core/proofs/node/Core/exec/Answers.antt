@@ -1,4 +1,4 @@
-use Rattle.std.proofs.Common.{sym}
+use Rattle.node_core.proofs.Names.{sym}
 use Rattle.node_core.proofs.Sound.{executed-fit}
 use Rattle.node_core.proofs.node.Core.exec.Goals as goal
 

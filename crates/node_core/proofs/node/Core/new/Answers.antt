@@ -1,5 +1,4 @@
-use Rattle.std.proofs.Common.{subst, sym}
-use Rattle.node_core.specs.Core.{IsSound, holding}
+use Rattle.node_core.proofs.Names.{IsSound, holding, subst, sym}
 use Rattle.node_core.proofs.Sound.{table-is}
 use Rattle.node_core.proofs.node.Core.new.Goals as goal
 

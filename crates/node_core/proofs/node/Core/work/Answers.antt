@@ -1,6 +1,4 @@
-use Rattle.std.proofs.Common.{ap, ◌∙◌}
-use Rattle.node_core.specs.Core.{Holding, node_of}
-use Rattle.node_core.specs.Units.{after_work, answer_to}
+use Rattle.node_core.proofs.Names.{Holding, after_work, answer_to, ap, node_of, ◌∙◌}
 use Rattle.node_core.proofs.Worked.{worked-fit}
 use Rattle.node_core.proofs.node.Core.work.Goals as goal
 
