@@ -2,11 +2,10 @@
 use Rattle.node_core.proofs.Names.{AllByRecursion, AreInstalled, Area, Areas, AreasFit, Bytes, Cluster, Extent}
 use Rattle.node_core.proofs.Names.{IsExtent, IsFit, IsSound, List, Side, ap, append-nil, ap₂, arith, bytes_eq}
 use Rattle.node_core.proofs.Names.{cluster_limit, cluster_meaning, cluster_place, content_of, different_names, false}
-use Rattle.node_core.proofs.Names.{formatted, fresh_state, get_or-replicate, holding, in_order, length, length-append}
-use Rattle.node_core.proofs.Names.{length-map, map, map-append, name_lt, names_fit_places, names_rise, nat_tests}
-use Rattle.node_core.proofs.Names.{no_contents, package_limit, package_reading, placed, placed_from, refl, subst, sym}
-use Rattle.node_core.proofs.Names.{take, take_all, true, with_content, [], ℕ, ◌++◌, ◌+◌, ◌<◌, ◌==◌, ◌∙◌, ◌∷◌, ◌≡◌}
-use Rattle.node_core.proofs.Names.{◌≢◌, ◌≤◌}
+use Rattle.node_core.proofs.Names.{formatted, fresh_state, holding, in_order, length, length-append, length-map, map}
+use Rattle.node_core.proofs.Names.{map-append, name_lt, names_fit_places, names_rise, nat_tests, package_limit}
+use Rattle.node_core.proofs.Names.{package_reading, placed, placed_from, refl, subst, sym, take, take_all, true}
+use Rattle.node_core.proofs.Names.{with_content, [], ℕ, ◌++◌, ◌+◌, ◌<◌, ◌==◌, ◌∙◌, ◌∷◌, ◌≡◌, ◌≢◌, ◌≤◌}
 use Rattle.transfer_blocks.proofs.Areas.{content-here, content-elsewhere}
 use Rattle.node_laws.proofs.Kept.{keeps-fit}
 use Rattle.node_laws.proofs.Lists.{each-unmap}
@@ -72,13 +71,6 @@ stand old new limit k (c ∷ cs) same few =
 placed-append : (k : ℕ) (cs : List (Cluster Bytes)) (c : Cluster Bytes) → placed_from k (cs ++ c ∷ []) ≡ placed_from k cs ++ placed (k + length cs) c ∷ []
 placed-append k [] c = ap (λ n. placed n c ∷ []) (omega arith)
 placed-append k (d ∷ cs) c = ap (λ l. placed k d ∷ l) (placed-append (k + 1) cs c ∙ ap (λ n. placed_from (k + 1) cs ++ placed n c ∷ []) (omega arith))
-
--- where nothing is installed
-pub none-installed : (areas : Areas) → areas ≡ no_contents → AreInstalled areas [] []
-none-installed areas e = record { places = refl; contents = refl; others = λ place _ low. ap (content_of (Side place 0)) e ∙ nothing place low }
-  where
-    nothing : (place : ℕ) → place < cluster_limit → content_of (Side place 0) no_contents ≡ []
-    nothing place low = ap (λ (pair : Bytes × Bytes). pair.0) (get_or-replicate cluster_limit place ([], []) ([], []) low)
 
 -- one cluster more
 module _ (areas : Areas) (fit : AreasFit areas) (stored : List (Cluster Extent)) (cs : List (Cluster Bytes)) (c : Cluster Bytes) (is : AreInstalled areas stored cs) (few : length cs < cluster_limit) where

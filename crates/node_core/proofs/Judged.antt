@@ -16,6 +16,7 @@ use Rattle.node_core.proofs.Names.{◌==◌, ◌∙◌, ◌≡◌}
 use Rattle.transfer_blocks.proofs.Meanings.{filter-means, header-means}
 use Rattle.node_laws.proofs.Lists.{each-append, each-both, found-has, each-filter, each-imp, rows-clear, both-none}
 use Rattle.node_laws.proofs.Lists.{not-false, is-transferring}
+use Rattle.node_core.proofs.Arrived.{refused-judged}
 use Rattle.node_core.proofs.Stored.{rise, found-is, only-has, changed-means, found-means, some-stored, staged-bytes}
 use Rattle.node_core.proofs.Lists.{change-each}
 
@@ -35,13 +36,7 @@ judged-by : (v : Holding) (client : ℕ) (call : Call) (done : Reply) (o : Optio
     → reply ≡ refused_or done o → table ≡ unless_refused reply (table_of v.state) next → (o ≡ None → IsTable next → IsAccepted v client call (tabled next p v)) → IsJudged v client call reply (tabled table p v)
 judged-by v client call done (Some r) reply table next p sound form same gives kept leads answers tables accepts =
     let t : table ≡ table_of v.state = tables ∙ ap (λ z. unless_refused z (table_of v.state) next) answers in
-    subst (λ z. IsJudged v client call reply (tabled z p v)) (sym t) (record {
-      answer = answers ∙ ap (λ o. refused_or done o) (sym same) ∙ ap (λ d. refused_or d (refusal_by v client call)) (sym gives);
-      node = ap (λ z. after_reply (node_of v) client call (verdict_on v client call) z) (sym answers);
-      order = record { clusters = sound.order.clusters; session = sound.order.session; transfers = sound.order.transfers; slots = sound.order.slots; places = sound.order.places; running = sound.order.running };
-      copied = sound.copied;
-      entries = refl;
-    })
+    subst (λ (z : Table × Reply). IsJudged v client call z.1 (tabled z.0 p v)) (λ i. (sym t i, sym answers i)) (refused-judged v client call r p sound same)
 judged-by v client call done None reply table next p sound form same gives kept leads answers tables accepts =
     let t : table ≡ next = tables ∙ ap (λ z. unless_refused z (table_of v.state) next) answers ∙ kept in
     let a = accepts refl (subst IsTable t form) in

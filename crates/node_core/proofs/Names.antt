@@ -28,8 +28,8 @@ pub use Rattle.package_reader.specs.declared.package.Package.{Package}
 pub use Rattle.pm_types.specs.Clusters.{all_units, brought, changed_as, changed_by, cluster_at, cluster_of, has_cluster}
 pub use Rattle.pm_types.specs.Clusters.{planned, units_of, unmet_among, with_cluster}
 pub use Rattle.pm_types.specs.Histories.{Reading, formatted, unit_passes}
-pub use Rattle.pm_types.specs.NodeState.{NodeState, Session, SessionOf, Transfer, has_status, is_in, is_working}
-pub use Rattle.pm_types.specs.NodeState.{of_client, phase_code, some_passes}
+pub use Rattle.pm_types.specs.NodeState.{NodeState, Session, SessionOf, Transfer, has_status, is_in, of_client}
+pub use Rattle.pm_types.specs.NodeState.{phase_code, some_passes}
 pub use Rattle.pm_types.specs.Queries.{answer}
 pub use Rattle.pm_types.specs.Refusals.{first_refusal}
 pub use Rattle.pm_types.specs.Sessions.{CleanUp, Goal, Resume, To, activate_refusal, applies, arrive, begin_processing}
@@ -46,7 +46,7 @@ pub use Rattle.pm_types.specs.Transfers.{in_phase, is_of, parts_of, parts_read, 
 pub use Rattle.pm_types.specs.Transfers.{verdict_refusal, with_phase, with_transfer}
 pub use Rattle.pm_types.specs.Validity.{IsWholeFromTransferred, RunsWhatItShould, SessionIsDue, id_in_processing}
 pub use Rattle.pm_types.specs.Validity.{numbers_rise, parts_in, should_run}
-pub use Rattle.pm_types.specs.Work.{end_mark, processed, unit, unit_of}
+pub use Rattle.pm_types.specs.Work.{end_mark, processed, unit}
 pub use Rattle.pm_types.specs.declared.calls.Call.{Call}
 pub use Rattle.pm_types.specs.declared.calls.Call.TheVariants.{Activate, Cancel, DeleteTransfer, ProcessSwPackage}
 pub use Rattle.pm_types.specs.declared.calls.Call.TheVariants.{TransferData, TransferExit, TransferStart}
@@ -87,15 +87,15 @@ pub use Rattle.sha2.specs.Sha256.{sha256}
 pub use Rattle.std.proofs.Common.{Bool, Err, IfOk, IfSome, IsSomeAnd, IsTrue, List, None, Ok, OnOk, Option, Result, Some}
 pub use Rattle.std.proofs.Common.{ap, append-nil, append_assoc, ap₂, arith, cond, drop, drop-drop, false, filter, find}
 pub use Rattle.std.proofs.Common.{fold, get_or, if◌then◌else◌, inl, inr, is_none, is_some, length, length-append}
-pub use Rattle.std.proofs.Common.{length-drop, length-take, map, min, nat_le, nat_lt, not, option_and_then, option_map}
-pub use Rattle.std.proofs.Common.{refl, slice_index_or, slice_range, slice_set, subst, sym, take, take-take, take_all}
-pub use Rattle.std.proofs.Common.{true, unwrap_or, zero-add, [], ℕ, ⊎_elim, ◌&&◌, ◌*◌, ◌++◌, ◌+◌, ◌-◌, ◌<◌, ◌==◌, ◌^◌}
-pub use Rattle.std.proofs.Common.{◌||◌, ◌∙◌, ◌∷◌, ◌≡◌, ◌≢◌, ◌≤◌, ◌⊎◌}
+pub use Rattle.std.proofs.Common.{length-drop, length-take, map, min, nat_le, nat_lt, not, option_map, refl}
+pub use Rattle.std.proofs.Common.{slice_index_or, slice_range, slice_set, subst, sym, take, take-take, take_all, true}
+pub use Rattle.std.proofs.Common.{unwrap_or, zero-add, [], ℕ, ⊎_elim, ◌&&◌, ◌*◌, ◌++◌, ◌+◌, ◌-◌, ◌<◌, ◌==◌, ◌^◌, ◌||◌}
+pub use Rattle.std.proofs.Common.{◌∙◌, ◌∷◌, ◌≡◌, ◌≢◌, ◌≤◌, ◌⊎◌}
 pub use Rattle.std.proofs.Math.Seq.{take-add}
 pub use Rattle.std.proofs.lemmas.Bool.{and_parts, eq-eqb, eqb-false, eqb-true, le-ltb, lt-ltb, ltb-false, ltb-true}
 pub use Rattle.std.proofs.lemmas.Bool.Decides.{nat_tests}
 pub use Rattle.std.proofs.lemmas.Cmp.{nat_list_cmp_total}
-pub use Rattle.std.proofs.lemmas.List.{drop-take, get_or-replicate, length-map, map-append, take_min, take_rest}
+pub use Rattle.std.proofs.lemmas.List.{drop-take, length-map, map-append, take_min, take_rest}
 pub use Rattle.std.proofs.lemmas.List.Edits.{length-insert}
 pub use Rattle.std.proofs.lemmas.List.Folds.{list_any-append}
 pub use Rattle.std.proofs.lemmas.List.Sums.{fold-append, sum_by-cons}
@@ -111,8 +111,7 @@ pub use Rattle.std.specs.Str.{bytes_eq}
 pub use Rattle.std.specs.Vec.Iter.{into_iter_items, into_iter_len}
 pub use Rattle.std.specs.declared.cmp.Ordering.{Ordering}
 pub use Rattle.std.specs.declared.cmp.Ordering.TheVariants.{Equal, Greater, Less}
-pub use Rattle.transfer_blocks.specs.Areas.{AreasFit, IsArea, LeavesOutside, content_of, no_contents, overwritten}
-pub use Rattle.transfer_blocks.specs.Areas.{with_content}
+pub use Rattle.transfer_blocks.specs.Areas.{AreasFit, IsArea, LeavesOutside, content_of, overwritten, with_content}
 pub use Rattle.transfer_blocks.specs.Table.{IsBounded, IsTable, Table, bad_refusal, cleaned, found_of, good_parts, moved}
 pub use Rattle.transfer_blocks.specs.Table.{received, slots_of, stored_header, stored_ids, stored_of, unless_refused}
 pub use Rattle.transfer_blocks.specs.Table.{whole, with_fresh, with_stored, without}

@@ -5,9 +5,9 @@ use Rattle.node_core.proofs.Names.{Refusal, Remove, Some, TooManyClusters, Updat
 use Rattle.node_core.proofs.Names.{change_meaning, changed_as, changed_by, cluster_at, cluster_limit, cluster_meaning}
 use Rattle.node_core.proofs.Names.{cluster_of, different_names, filter, first_refusal, has_cluster, is_install}
 use Rattle.node_core.proofs.Names.{is_newer, is_old, is_update, length, list_any, map, map-append, map-map, missing}
-use Rattle.node_core.proofs.Names.{name_lt, nat_le, not, on_side, option_map, option_or, part_refusals, parts_refusal}
-use Rattle.node_core.proofs.Names.{planned, refl, some_passes, suits, sym, unmet_among, with_cluster, with_length, []}
-use Rattle.node_core.proofs.Names.{ℕ, ◌&&◌, ◌++◌, ◌∙◌, ◌∷◌, ◌≡◌}
+use Rattle.node_core.proofs.Names.{name_lt, nat_le, not, option_map, option_or, part_refusals, parts_refusal, planned}
+use Rattle.node_core.proofs.Names.{refl, some_passes, suits, sym, unmet_among, with_cluster, with_length, [], ℕ, ◌&&◌}
+use Rattle.node_core.proofs.Names.{◌++◌, ◌∙◌, ◌∷◌, ◌≡◌}
 use Rattle.dependency_check.proofs.Mapped.{list_any-map}
 use Rattle.node_core.proofs.Lists.{filter-map, find-map}
 
@@ -66,9 +66,6 @@ module _ (areas : Areas) where
   parts-mean running changes before (part ∷ parts) = λ i. option_or (first_refusal (refused-means running changes before part i)) (parts-mean running changes (before ++ part ∷ []) parts i)
 
   -- planned changes
-  brought-means : (part : Part Extent) → Part Bytes
-  brought-means part = record { manifest = part.manifest; payload = on_side areas part.payload }
-
   with-means : (c : Cluster Extent) (cs : List (Cluster Extent)) → with_cluster (cluster_meaning areas c) (means cs) ≡ means (with_cluster c cs)
   with-means c cs =
       (λ i. sym (filter-map (cluster_meaning areas) (λ (d : Cluster Bytes). name_lt d.name c.name) cs) i ++ cluster_meaning areas c ∷ sym (filter-map (cluster_meaning areas) (λ (d : Cluster Bytes). name_lt c.name d.name) cs) i)

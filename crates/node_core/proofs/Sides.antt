@@ -2,11 +2,11 @@
 use Rattle.node_core.proofs.Names.{Action, AllByRecursion, Area, Areas, AreasFit, Bool, Change, Cluster, Extent}
 use Rattle.node_core.proofs.Names.{Holding, Install, IsArea, IsExtent, IsInOrder, IsSound, LeavesOutside, List}
 use Rattle.node_core.proofs.Names.{Remove, SessionOf, Side, Some, StoredTransfer, Transfer, Update, ap, arith}
-use Rattle.node_core.proofs.Names.{block_limit, bytes_eq, change_meaning, change_place, cluster_at, cluster_meaning}
-use Rattle.node_core.proofs.Names.{cluster_of, cluster_place, cond, eq-eqb, false, goes_to, has_cluster, length}
-use Rattle.node_core.proofs.Names.{lowest_free, map, meaning, name_lt, names_rise, node_of, on_side, option_map_or}
-use Rattle.node_core.proofs.Names.{package_reading, refl, session_meaning, subst, suits, sym, take, transfer_meaning}
-use Rattle.node_core.proofs.Names.{true, with_length, [], ℕ, ◌*◌, ◌++◌, ◌+◌, ◌-◌, ◌==◌, ◌∙◌, ◌∷◌, ◌≡◌, ◌≢◌}
+use Rattle.node_core.proofs.Names.{bytes_eq, change_meaning, change_place, cluster_at, cluster_meaning, cluster_of}
+use Rattle.node_core.proofs.Names.{cluster_place, cond, eq-eqb, false, goes_to, has_cluster, length, lowest_free, map}
+use Rattle.node_core.proofs.Names.{meaning, name_lt, names_rise, node_of, on_side, option_map_or, package_reading}
+use Rattle.node_core.proofs.Names.{refl, session_meaning, subst, suits, sym, take, transfer_meaning, true}
+use Rattle.node_core.proofs.Names.{with_length, [], ℕ, ◌++◌, ◌+◌, ◌-◌, ◌==◌, ◌∙◌, ◌∷◌, ◌≡◌, ◌≢◌}
 use Rattle.transfer_blocks.proofs.Areas.{elsewhere-stands}
 use Rattle.node_laws.proofs.Lists.{each-both, each-first, each-imp, each-unmap, found-has, not-true}
 use Rattle.node_laws.proofs.NameLists.{name-eq, name-swap, names-behind, names-tail}
@@ -114,23 +114,21 @@ module _ (v : Holding) (x : SessionOf Extent) (id : ℕ) (sound : IsSound (at_pr
   goes-apart Remove s other = absurd (other refl)
 
   -- what a put there leaves
-  module _ (place side n : ℕ) (areas : Areas) (is : IsArea (Side place side)) (fit : AreasFit v.areas) (left : LeavesOutside (Side place side) (x.units_done * block_limit) n v.areas areas) where
-    same-extent : (e : Extent) → IsExtent e → Apart (Side place side) e → on_side areas e ≡ on_side v.areas e
-    same-extent e extent apart = ap (take e.length) (elsewhere-stands (Side place side) v.areas is fit (Side e.place e.side) (x.units_done * block_limit) n areas (extent.0, extent.1) apart left)
+  module _ (area : Area) (at n : ℕ) (areas : Areas) (is : IsArea area) (fit : AreasFit v.areas) (left : LeavesOutside area at n v.areas areas)
+      (reads : (t : StoredTransfer) → transfer_meaning package_reading areas t ≡ transfer_meaning package_reading v.areas t) where
+    same-extent : (e : Extent) → IsExtent e → Apart area e → on_side areas e ≡ on_side v.areas e
+    same-extent e extent apart = ap (take e.length) (elsewhere-stands area v.areas is fit (Side e.place e.side) at n areas (extent.0, extent.1) apart left)
 
-    same-cluster : (c : Cluster Extent) → IsExtent c.content → Apart (Side place side) c.content → cluster_meaning areas c ≡ cluster_meaning v.areas c
+    same-cluster : (c : Cluster Extent) → IsExtent c.content → Apart area c.content → cluster_meaning areas c ≡ cluster_meaning v.areas c
     same-cluster c extent apart = ap (λ b. record { name = c.name; version = c.version; needs = c.needs; content = b }) (same-extent c.content extent apart)
 
-    same-change : (c : Change Extent) → IsExtent c.part.payload → Apart (Side place side) c.part.payload → change_meaning areas c ≡ change_meaning v.areas c
+    same-change : (c : Change Extent) → IsExtent c.part.payload → Apart area c.part.payload → change_meaning areas c ≡ change_meaning v.areas c
     same-change c extent apart = ap (λ b. record { transfer = c.transfer; part = record { manifest = c.part.manifest; payload = b } }) (same-extent c.part.payload extent apart)
 
-    same-transfer : (t : StoredTransfer) → transfer_meaning package_reading areas t ≡ transfer_meaning package_reading v.areas t
-    same-transfer t = ap (λ (k : Areas). transfer_meaning package_reading k t) left.elsewhere
-
-    pub side-means : AreApart (Side place side) v x → meaning package_reading areas (at_process v x id).state ≡ node_of (at_process v x id)
+    pub side-means : AreApart area v x → meaning package_reading areas (at_process v x id).state ≡ node_of (at_process v x id)
     side-means apart = λ i. record (node_of (at_process v x id)) {
       running = map-same (cluster_meaning areas) (cluster_meaning v.areas) v.state.running (each-both _ _ _ same-cluster v.state.running sound.order.clusters apart.running) i;
-      transfers = map-same (transfer_meaning package_reading areas) (transfer_meaning package_reading v.areas) v.state.transfers (every same-transfer v.state.transfers) i;
+      transfers = map-same (transfer_meaning package_reading areas) (transfer_meaning package_reading v.areas) v.state.transfers (every reads v.state.transfers) i;
       session = Some (record (session_meaning v.areas (busy x id)) {
         saved = map-same (cluster_meaning areas) (cluster_meaning v.areas) x.saved (each-both _ _ _ same-cluster x.saved sound.order.session.0 apart.saved) i;
         changes = map-same (change_meaning areas) (change_meaning v.areas) x.changes (each-both _ _ _ same-change x.changes sound.order.session.1 apart.changes) i;
@@ -141,7 +139,7 @@ module _ (v : Holding) (x : SessionOf Extent) (id : ℕ) (sound : IsSound (at_pr
     side-order = record {
       clusters = sound.order.clusters;
       session = sound.order.session;
-      transfers = each-imp _ _ (λ t placed. record { slot = placed.slot; contents = placed.contents ∙ ap (λ (m : Transfer). map with_length m.parts) (sym (same-transfer t)) }) v.state.transfers sound.order.transfers;
+      transfers = each-imp _ _ (λ t placed. record { slot = placed.slot; contents = placed.contents ∙ ap (λ (m : Transfer). map with_length m.parts) (sym (reads t)) }) v.state.transfers sound.order.transfers;
       slots = sound.order.slots;
       places = sound.order.places;
       running = sound.order.running;

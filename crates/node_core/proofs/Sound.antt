@@ -73,19 +73,6 @@ step-is s client at call w none = of (of_client s.last client) none
     of None e = refl
     of (Some kept) e = by kept (call_no_cmp at kept.no) (executed s client at call w) e
 
--- a repeat changes nothing
-pub repeat-is : (s : NodeState) (client : ℕ) (at : CallNo) (call : Call) (w : Verdict) (reached : Reached) → repeat_of at (of_client s.last client) ≡ Some reached → step s client at call w ≡ (s, reached)
-repeat-is s client at call w reached some = of (of_client s.last client) some
-  where
-    by : (kept : Kept) (o : Ordering) (done : NodeState × Reached) → repeat_by kept o ≡ Some reached → by_order s done kept o ≡ (s, reached)
-    by kept Less done e = ap (λ r. (s, r)) (cc)
-    by kept Equal done e = ap (λ r. (s, r)) (cc)
-    by kept Greater done e = absurd (cc)
-
-    of : (o : Option Kept) → repeat_of at o ≡ Some reached → by_last s (executed s client at call w) at o ≡ (s, reached)
-    of None e = absurd (cc)
-    of (Some kept) e = by kept (call_no_cmp at kept.no) (executed s client at call w) e
-
 -- a step leaves the node fit
 pub step-fit : (v : Holding) (client : ℕ) (at : CallNo) (call : Call) → client < client_limit → IsSound v → IsFit package_reading (step_by v client at call).0
 step-fit v client at call low sound = (keeps-fit package_reading reading-is).step (node_of v) client at call low sound.fit

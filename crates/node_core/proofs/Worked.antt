@@ -2,15 +2,15 @@
 use Rattle.node_core.proofs.Names.{Activated, Activating, AllByRecursion, Areas, BeingProcessed, Bool, CleaningUp}
 use Rattle.node_core.proofs.Names.{Cluster, EndMark, Extent, Holding, Idle, IsCopied, IsCopiedIn, IsExtent, IsFit}
 use Rattle.node_core.proofs.Names.{IsPlaced, IsReservedWork, IsSound, IsTable, IsUnit, IsUnitReady, List, None}
-use Rattle.node_core.proofs.Names.{Option, Outcome, Phase, Prepared, Processed, Processing, Ready, RolledBack}
-use Rattle.node_core.proofs.Names.{RollingBack, SessionIsDue, SessionOf, Some, State, Status, StoredTransfer, Table}
-use Rattle.node_core.proofs.Names.{Transfer, Transferred, Transferring, Verifying, after_work, ap, change_meaning}
-use Rattle.node_core.proofs.Names.{change_place, cleaned, cluster_place, clusters_kept, end_mark, false, has_status}
-use Rattle.node_core.proofs.Names.{id_in_processing, if◌then◌else◌, is_in, is_some, is_working, length, length-map}
-use Rattle.node_core.proofs.Names.{map, names_fit_places, nat_lt, node_of, not, option_and_then, option_map}
-use Rattle.node_core.proofs.Names.{package_reading, planned, refl, session_meaning, should_run, slice_set}
-use Rattle.node_core.proofs.Names.{some_passes, subst, sym, table_of, transfer_meaning, true, unit, unit_of}
-use Rattle.node_core.proofs.Names.{unit_passes, with_table, [], ℕ, ◌++◌, ◌+◌, ◌<◌, ◌==◌, ◌||◌, ◌∙◌, ◌≡◌}
+use Rattle.node_core.proofs.Names.{Option, Outcome, Phase, Prepared, Processed, Processing, RolledBack, RollingBack}
+use Rattle.node_core.proofs.Names.{SessionIsDue, SessionOf, Some, State, Status, StoredTransfer, Table, Transfer}
+use Rattle.node_core.proofs.Names.{Transferred, Transferring, Verifying, after_work, ap, change_meaning, change_place}
+use Rattle.node_core.proofs.Names.{cleaned, cluster_place, clusters_kept, end_mark, false, has_status}
+use Rattle.node_core.proofs.Names.{id_in_processing, if◌then◌else◌, is_in, is_some, length, length-map, map}
+use Rattle.node_core.proofs.Names.{names_fit_places, nat_lt, node_of, not, option_map, package_reading, planned, refl}
+use Rattle.node_core.proofs.Names.{session_meaning, should_run, slice_set, some_passes, subst, sym, table_of}
+use Rattle.node_core.proofs.Names.{transfer_meaning, true, unit, unit_passes, with_table, [], ℕ, ◌++◌, ◌+◌, ◌<◌, ◌==◌}
+use Rattle.node_core.proofs.Names.{◌||◌, ◌∙◌, ◌≡◌}
 use Rattle.transfer_blocks.proofs.Meanings.{filter-means}
 use Rattle.node_laws.proofs.Lists.{each-append, each-filter, each-first, each-imp, each-unmap}
 use Rattle.node_laws.proofs.Kept.{keeps-fit}
@@ -26,25 +26,6 @@ at_work v status x = record v { state = record v.state { status = status; sessio
 
 pub at-work : (v : Holding) (status : Status) (x : SessionOf Extent) → v.state.status ≡ status → v.state.session ≡ Some x → v ≡ at_work v status x
 at-work v status x q e = λ i. record v { state = record v.state { status = q i; session = e i } }
-
--- in other statuses there is none
-pub no-unit : (v : Holding) (passed : Bool) (status : Status) → v.state.status ≡ status → is_working status ≡ false → unit (node_of v) passed ≡ None
-no-unit v passed status q idle = of v.state.session
-  where
-    one : (y : SessionOf (List ℕ)) (st : Status) → is_working st ≡ false → unit_of (node_of v) y passed st ≡ None
-    one y Idle i = refl
-    one y Ready i = refl
-    one y Processing i = absurd (cc)
-    one y Activating i = absurd (cc)
-    one y Verifying i = absurd (cc)
-    one y Activated i = refl
-    one y RollingBack i = absurd (cc)
-    one y RolledBack i = refl
-    one y CleaningUp i = absurd (cc)
-
-    of : (o : Option (SessionOf Extent)) → option_and_then (λ y. unit_of (node_of v) y passed v.state.status) (option_map (session_meaning v.areas) o) ≡ None
-    of None = refl
-    of (Some x) = one (session_meaning v.areas x) v.state.status (ap is_working q ∙ idle)
 
 -- where no transfer is in processing, nothing need be copied
 pub none-copied : (areas : Areas) (s : State) → AllByRecursion (λ t. is_in BeingProcessed t.header ≡ false) s.transfers → IsCopied package_reading areas s

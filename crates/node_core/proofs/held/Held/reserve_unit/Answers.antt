@@ -1,4 +1,4 @@
-use Rattle.node_core.proofs.Names.{IsNextUnit, ap, arith, change_kept, refl, subst, ℕ, ◌<◌, ◌∙◌, ◌≡◌}
+use Rattle.node_core.proofs.Names.{ap, arith, change_kept, refl, ℕ, ◌<◌, ◌∙◌, ◌≡◌}
 use Rattle.node_core.proofs.Copied.{needs, on-ok}
 use Rattle.node_core.proofs.Staging.{kept-from}
 use Rattle.node_core.proofs.held.Held.reserve_unit.Goals as goal
@@ -8,34 +8,37 @@ some-left n some = omega (arith, some)
 
 pub returns-then-len-eq0-clause-ready : goal.returns-then-len-eq0-clause-ready
 returns-then-len-eq0-clause-ready g c =
-    (needs c.self.view_is c.requires.sound c.requires.status c.in-Some.next (subst (IsNextUnit c.args.self.now) c.in-Some.is c.in_ok-next.ensures)).none c.if-len-eq0.true _ refl refl c.planning.ensures
+    (needs c.self.view_is c.requires.sound c.requires.status c.in_ok-next.ensures c.in-Some.is).none c.if-len-eq0.true _ refl refl c.planning.ensures
 
 pub copy-requires-clause-slot : goal.copy-requires-clause-slot
-copy-requires-clause-slot g c = (needs c.self.view_is c.requires.sound c.requires.status c.in-Some.next (subst (IsNextUnit c.args.self.now) c.in-Some.is c.in_ok-next.ensures)).slot
+copy-requires-clause-slot g c = (needs c.self.view_is c.requires.sound c.requires.status c.in_ok-next.ensures c.in-Some.is).slot
 
 pub copy-requires-clause-area : goal.copy-requires-clause-area
-copy-requires-clause-area g c = (needs c.self.view_is c.requires.sound c.requires.status c.in-Some.next (subst (IsNextUnit c.args.self.now) c.in-Some.is c.in_ok-next.ensures)).area
+copy-requires-clause-area g c = (needs c.self.view_is c.requires.sound c.requires.status c.in_ok-next.ensures c.in-Some.is).area
 
 pub copy-requires-clause-head : goal.copy-requires-clause-head
-copy-requires-clause-head g c = (needs c.self.view_is c.requires.sound c.requires.status c.in-Some.next (subst (IsNextUnit c.args.self.now) c.in-Some.is c.in_ok-next.ensures)).head (some-left c.in-Some.next.len c.if-len-eq0.false)
+copy-requires-clause-head g c =
+    (needs c.self.view_is c.requires.sound c.requires.status c.in_ok-next.ensures c.in-Some.is).head (some-left c.in-Some.next.len c.if-len-eq0.false)
 
 pub copy-requires-clause-range : goal.copy-requires-clause-range
-copy-requires-clause-range g c = (needs c.self.view_is c.requires.sound c.requires.status c.in-Some.next (subst (IsNextUnit c.args.self.now) c.in-Some.is c.in_ok-next.ensures)).range (some-left c.in-Some.next.len c.if-len-eq0.false)
+copy-requires-clause-range g c =
+    (needs c.self.view_is c.requires.sound c.requires.status c.in_ok-next.ensures c.in-Some.is).range (some-left c.in-Some.next.len c.if-len-eq0.false)
 
 pub copy-requires-clause-done : goal.copy-requires-clause-done
-copy-requires-clause-done g c = (needs c.self.view_is c.requires.sound c.requires.status c.in-Some.next (subst (IsNextUnit c.args.self.now) c.in-Some.is c.in_ok-next.ensures)).done
+copy-requires-clause-done g c = (needs c.self.view_is c.requires.sound c.requires.status c.in_ok-next.ensures c.in-Some.is).done
 
 pub copy-requires-clause-fits : goal.copy-requires-clause-fits
-copy-requires-clause-fits g c = (needs c.self.view_is c.requires.sound c.requires.status c.in-Some.next (subst (IsNextUnit c.args.self.now) c.in-Some.is c.in_ok-next.ensures)).fits
+copy-requires-clause-fits g c = (needs c.self.view_is c.requires.sound c.requires.status c.in_ok-next.ensures c.in-Some.is).fits
 
 pub returns-clause-kept : goal.returns-clause-kept
-returns-clause-kept g c = kept-from c.self.view_is
-    ((needs c.self.view_is c.requires.sound c.requires.status c.in-Some.next (subst (IsNextUnit c.args.self.now) c.in-Some.is c.in_ok-next.ensures)).kept (g.met.S.Staging.areas_fit c.self.inside.staging)
-    (some-left c.in-Some.next.len c.if-len-eq0.false) c.copy.new.self c.copy.ensures.state c.copy.ensures.faults c.copy.ensures.left)
+returns-clause-kept g c =
+    kept-from c.self.view_is ((needs c.self.view_is c.requires.sound c.requires.status c.in_ok-next.ensures c.in-Some.is).kept
+    (g.met.S.Staging.areas_fit c.self.inside.staging) (some-left c.in-Some.next.len c.if-len-eq0.false)
+    c.copy.new.self c.copy.ensures.state c.copy.ensures.faults c.copy.ensures.left)
 
 pub returns-clause-ready : goal.returns-clause-ready
 returns-clause-ready g c =
-    on-ok c.copy.result
-    (λ put. (needs c.self.view_is c.requires.sound c.requires.status c.in-Some.next (subst (IsNextUnit c.args.self.now) c.in-Some.is c.in_ok-next.ensures)).ready (g.met.S.Staging.areas_fit c.self.inside.staging)
-    (some-left c.in-Some.next.len c.if-len-eq0.false) c.copy.new.self c.copy.ensures.state (ap change_kept c.copy.ensures.prepared ∙ c.planning.ensures) c.copy.ensures.left put)
+    on-ok c.copy.result ((needs c.self.view_is c.requires.sound c.requires.status c.in_ok-next.ensures c.in-Some.is).ready
+    (g.met.S.Staging.areas_fit c.self.inside.staging) (some-left c.in-Some.next.len c.if-len-eq0.false)
+    c.copy.new.self c.copy.ensures.state (ap change_kept c.copy.ensures.prepared ∙ c.planning.ensures) c.copy.ensures.left)
     c.copy.ensures.put
