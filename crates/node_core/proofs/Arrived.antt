@@ -6,11 +6,11 @@ use Rattle.node_core.proofs.Names.{NodeState, None, Old, OnlyLeads, Option, Outc
 use Rattle.node_core.proofs.Names.{Processing, Ready, Refusal, Refused, Remove, Reply, Resume, RolledBack}
 use Rattle.node_core.proofs.Names.{RunsWhatItShould, SessionOf, Side, Some, State, Status, StoredTransfer, To}
 use Rattle.node_core.proofs.Names.{Transferred, Transferring, Update, Verifying, acceptance, accepted, all_places, ap}
-use Rattle.node_core.proofs.Names.{arrive, arrived, block_limit, changes_kept, cleaning_up, cluster_at, content_of}
-use Rattle.node_core.proofs.Names.{find, first_refusal, goes_to, led_by, list_any, meaning, node_of, not}
-use Rattle.node_core.proofs.Names.{option_map_or, package_reading, places_in, refl, refusal_by, refused_or}
-use Rattle.node_core.proofs.Names.{running_at, session_refusals, should_run, status_table, subst, sym, take}
-use Rattle.node_core.proofs.Names.{units_done, unwrap_or, verdict_on, [], ℕ, ◌*◌, ◌-◌, ◌==◌, ◌∙◌, ◌∷◌, ◌≡◌}
+use Rattle.node_core.proofs.Names.{arrive, arrived, block_limit, cleaning_up, cluster_at, content_of, find}
+use Rattle.node_core.proofs.Names.{first_refusal, goes_to, led_by, list_any, meaning, node_of, not, option_map_or}
+use Rattle.node_core.proofs.Names.{package_reading, places_in, refl, refusal_by, refused_or, running_at}
+use Rattle.node_core.proofs.Names.{session_refusals, should_run, status_table, subst, sym, take, units_done}
+use Rattle.node_core.proofs.Names.{unwrap_or, verdict_on, [], ℕ, ◌*◌, ◌-◌, ◌==◌, ◌∙◌, ◌∷◌, ◌≡◌}
 use Rattle.pm_types.specs.declared.calls.Call.TheVariants as call
 use Rattle.node_laws.proofs.Lists.{each-imp}
 
@@ -69,11 +69,6 @@ module _ (areas : Areas) (s : State) where
   marked-order status x processing done verified outcome i runs =
       record { clusters = i.clusters; session = i.session; transfers = i.transfers; slots = i.slots; places = i.places; running = runs }
 
--- the state after a processing that was cancelled
-abbrev resumed : State → List (Change Extent) → State
-resumed s [] = cleaning_up Old s
-resumed s (change ∷ changes) = record s { status = Ready }
-
 -- what should run where a call leads
 abbrev runs-at : SessionOf Extent → Goal → List (Cluster Extent)
 runs-at x (To status) = should_run x status x.outcome
@@ -93,104 +88,87 @@ same-runs x Activated call.Rollback = refl
 same-runs x RolledBack call.Finish = refl
 same-runs x _ _ = tt
 
-module _ (areas : Areas) where
-  -- the node that a state stands for
+-- going somewhere leaves the node there, in order, with what is copied and as many entries
+record IsThere (areas : Areas) (s n : State) (there : NodeState) : Type 0 where
+  pub node : meaning package_reading areas n ≡ there
+  pub order : IsInOrder package_reading areas n
+  pub copied : IsCopied package_reading areas n
+  pub entries : n.entries ≡ s.entries
+
+module _ (areas : Areas) (s : State) where
   abbrev means : State → NodeState
-  means s = meaning package_reading areas s
+  means n = meaning package_reading areas n
 
-  cleaning-means : (outcome : Outcome) (s : State) → means (cleaning_up outcome s) ≡ arrive (means s) (CleanUp outcome)
-  cleaning-means outcome s = go s.session
+  -- to a status
+  to-there : (status : Status) (o : Option (SessionOf Extent)) → IfSome o (λ x. s.running ≡ should_run x status x.outcome)
+      → IsInOrder package_reading areas (record s { session = o }) → IsCopied package_reading areas (record s { session = o })
+      → IsThere areas s (record s { status = status; session = o }) (record (means (record s { session = o })) { status = status })
+  to-there status o runs i copied = record {
+    node = refl;
+    order = record { clusters = i.clusters; session = i.session; transfers = i.transfers; slots = i.slots; places = i.places; running = runs };
+    copied = copied-by areas (record s { session = o }) (record s { status = status; session = o }) refl refl refl s.transfers copied;
+    entries = refl;
+  }
+
+  -- to cleaning up
+  cleaning-there : (outcome : Outcome) (o : Option (SessionOf Extent)) → IfSome o (λ x. s.running ≡ runs-at x (CleanUp outcome))
+      → IsInOrder package_reading areas (record s { session = o }) → IsCopied package_reading areas (record s { session = o })
+      → IsThere areas s (cleaning_up outcome (record s { session = o })) (arrive (means (record s { session = o })) (CleanUp outcome))
+  cleaning-there outcome None runs i copied = record {
+    node = refl;
+    order = record { clusters = i.clusters; session = tt; transfers = i.transfers; slots = i.slots; places = i.places; running = tt };
+    copied = copied-by areas (record s { session = None }) (cleaning_up outcome (record s { session = None })) refl refl refl s.transfers copied;
+    entries = refl;
+  }
+  cleaning-there outcome (Some x) runs i copied = record {
+    node = refl;
+    order = marked-order areas s CleaningUp x x.processing x.units_done x.verified (Some outcome) i runs;
+    copied = copied-by areas (record s { session = Some x }) (cleaning_up outcome (record s { session = Some x })) refl refl refl s.transfers copied;
+    entries = refl;
+  }
+
+  -- where a call leads
+  arrived-there : (goal : Goal) (o : Option (SessionOf Extent)) → IfSome o (λ x. s.running ≡ runs-at x goal)
+      → IsInOrder package_reading areas (record s { session = o }) → IsCopied package_reading areas (record s { session = o })
+      → IsThere areas s (arrived goal (record s { session = o })) (arrive (means (record s { session = o })) goal)
+  arrived-there (To status) o = to-there status o
+  arrived-there (CleanUp outcome) o = cleaning-there outcome o
+  arrived-there Resume None = cleaning-there Old None
+  arrived-there Resume (Some x) = by x.changes
     where
-      go : (o : Option (SessionOf Extent)) → means (cleaning_up outcome (record s { session = o })) ≡ arrive (means (record s { session = o })) (CleanUp outcome)
-      go None = refl
-      go (Some x) = refl
+      with : List (Change Extent) → State
+      with changes = record s { session = Some (record x { changes = changes }) }
 
-  arrived-means : (goal : Goal) (s : State) → means (arrived goal s) ≡ arrive (means s) goal
-  arrived-means (To status) s = refl
-  arrived-means (CleanUp outcome) s = cleaning-means outcome s
-  arrived-means Resume s = go s.session
-    where
-      by : (x : SessionOf Extent) (changes : List (Change Extent)) → means (arrived Resume (record s { session = Some (record x { changes = changes }) })) ≡ arrive (means (record s { session = Some (record x { changes = changes }) })) Resume
-      by x [] = refl
-      by x (change ∷ changes) = refl
-
-      go : (o : Option (SessionOf Extent)) → means (arrived Resume (record s { session = o })) ≡ arrive (means (record s { session = o })) Resume
-      go None = refl
-      go (Some x) = by x x.changes
-
-  -- the state there is in order
-  cleaning-order : (outcome : Outcome) (s : State) → IfSome s.session (λ x. s.running ≡ runs-at x (CleanUp outcome)) → IsInOrder package_reading areas s → IsInOrder package_reading areas (cleaning_up outcome s)
-  cleaning-order outcome s = go s.session
-    where
-      go : (o : Option (SessionOf Extent)) → IfSome o (λ x. s.running ≡ runs-at x (CleanUp outcome)) → IsInOrder package_reading areas (record s { session = o }) → IsInOrder package_reading areas (cleaning_up outcome (record s { session = o }))
-      go None runs i = record { clusters = i.clusters; session = tt; transfers = i.transfers; slots = i.slots; places = i.places; running = tt }
-      go (Some x) runs i = marked-order areas s CleaningUp x x.processing x.units_done x.verified (Some outcome) i runs
-
-  to-order : (status : Status) (s : State) → IfSome s.session (λ x. s.running ≡ should_run x status x.outcome) → IsInOrder package_reading areas s → IsInOrder package_reading areas (record s { status = status })
-  to-order status s runs i = record { clusters = i.clusters; session = i.session; transfers = i.transfers; slots = i.slots; places = i.places; running = runs }
-
-  arrived-order : (goal : Goal) (s : State) → IfSome s.session (λ x. s.running ≡ runs-at x goal) → IsInOrder package_reading areas s → IsInOrder package_reading areas (arrived goal s)
-  arrived-order (To status) s = to-order status s
-  arrived-order (CleanUp outcome) s = cleaning-order outcome s
-  arrived-order Resume s = go (changes_kept s)
-    where
-      go : (changes : List (Change Extent)) → IfSome s.session (λ x. s.running ≡ runs-at x Resume) → IsInOrder package_reading areas s → IsInOrder package_reading areas (resumed s changes)
-      go [] = cleaning-order Old s
-      go (change ∷ changes) = to-order Ready s
-
-  -- and what is copied there stays copied
-  cleaning-copied : (outcome : Outcome) (s : State) → IsCopied package_reading areas s → IsCopied package_reading areas (cleaning_up outcome s)
-  cleaning-copied outcome s = go s.session
-    where
-      go : (o : Option (SessionOf Extent)) → IsCopied package_reading areas (record s { session = o })
-          → IsCopied package_reading areas (cleaning_up outcome (record s { session = o }))
-      go None = copied-by areas (record s { session = None }) (cleaning_up outcome (record s { session = None })) refl refl refl s.transfers
-      go (Some x) =
-          copied-by areas (record s { session = Some x }) (cleaning_up outcome (record s { session = Some x })) refl refl refl s.transfers
-
-  to-copied : (status : Status) (s : State) → IsCopied package_reading areas s → IsCopied package_reading areas (record s { status = status })
-  to-copied status s = copied-by areas s (record s { status = status }) refl refl refl s.transfers
-
-  arrived-copied : (goal : Goal) (s : State) → IsCopied package_reading areas s → IsCopied package_reading areas (arrived goal s)
-  arrived-copied (To status) s = to-copied status s
-  arrived-copied (CleanUp outcome) s = cleaning-copied outcome s
-  arrived-copied Resume s = go (changes_kept s)
-    where
-      go : (changes : List (Change Extent)) → IsCopied package_reading areas s → IsCopied package_reading areas (resumed s changes)
-      go [] = cleaning-copied Old s
-      go (change ∷ changes) = to-copied Ready s
+      by : (changes : List (Change Extent)) → s.running ≡ x.saved → IsInOrder package_reading areas (with changes)
+          → IsCopied package_reading areas (with changes) → IsThere areas s (arrived Resume (with changes)) (arrive (means (with changes)) Resume)
+      by [] = cleaning-there Old (Some (record x { changes = [] }))
+      by (change ∷ changes) = to-there Ready (Some (record x { changes = change ∷ changes }))
 
 -- an accepted call is judged, where what it does before it leads somewhere is what it should be, in order and copied
-pub done-judged : (v : Holding) (client : ℕ) (c : Call) (goal : Goal) (s : State) (p : Prepared) (before : NodeState) → refusal_by v client c ≡ None → acceptance (node_of v) client c ≡ Done
-    → accepted (node_of v) client c (verdict_on v client c) ≡ led_by c before → meaning package_reading v.areas s ≡ before → status_table s.status c ≡ Some goal
-    → IsInOrder package_reading v.areas s → IsCopied package_reading v.areas s → s.entries ≡ v.state.entries
-    → IsJudged v client c Done (record v { state = arrived goal s; prepared = p })
+pub done-judged : (v : Holding) (client : ℕ) (c : Call) (goal : Goal) (s : State) (p : Prepared) (before : NodeState)
+    → refusal_by v client c ≡ None → acceptance (node_of v) client c ≡ Done
+    → accepted (node_of v) client c (verdict_on v client c) ≡ led_by c before → meaning package_reading v.areas s ≡ before
+    → status_table s.status c ≡ Some goal → IsInOrder package_reading v.areas s → IsCopied package_reading v.areas s
+    → s.entries ≡ v.state.entries → IsJudged v client c Done (record v { state = arrived goal s; prepared = p })
 done-judged v client c goal s p before none done leads same table order copied entries = record {
   answer = sym done ∙ ap (refused_or (acceptance (node_of v) client c)) (sym none);
-  node = arrived-means v.areas goal s ∙ led ∙ sym leads;
-  order = arrived-order v.areas goal s runs order;
-  copied = arrived-copied v.areas goal s copied;
-  entries = entries-of goal ∙ entries;
+  node = there.node ∙ led ∙ sym leads;
+  order = there.order;
+  copied = there.copied;
+  entries = there.entries ∙ entries;
 }
   where
     led : arrive (meaning package_reading v.areas s) goal ≡ led_by c before
-    led = ap (λ o. option_map_or (arrive (meaning package_reading v.areas s)) o (meaning package_reading v.areas s)) (sym table) ∙ ap (led_by c) same
+    led =
+        ap (λ o. option_map_or (arrive (meaning package_reading v.areas s)) o (meaning package_reading v.areas s)) (sym table)
+        ∙ ap (led_by c) same
 
-    runs : IfSome s.session (λ x. s.running ≡ runs-at x goal)
-    runs = of s.session order.running
-      where
-        of : (o : Option (SessionOf Extent)) → RunsWhatItShould (record s { session = o }) → IfSome o (λ x. s.running ≡ runs-at x goal)
-        of None r = tt
-        of (Some x) r = r ∙ subst (λ o. IfSome o (λ g. should_run x s.status x.outcome ≡ runs-at x g)) table (same-runs x s.status c)
+    runs : (o : Option (SessionOf Extent)) → RunsWhatItShould (record s { session = o }) → IfSome o (λ x. s.running ≡ runs-at x goal)
+    runs None r = tt
+    runs (Some x) r = r ∙ subst (λ o. IfSome o (λ g. should_run x s.status x.outcome ≡ runs-at x g)) table (same-runs x s.status c)
 
-    entries-of : (g : Goal) → (arrived g s).entries ≡ s.entries
-    entries-of (To status) = refl
-    entries-of (CleanUp outcome) = refl
-    entries-of Resume = by (changes_kept s)
-      where
-        by : (changes : List (Change Extent)) → (resumed s changes).entries ≡ s.entries
-        by [] = refl
-        by (change ∷ changes) = refl
+    there : IsThere v.areas s (arrived goal s) (arrive (meaning package_reading v.areas s) goal)
+    there = arrived-there v.areas s goal s.session (runs s.session order.running) order copied
 
 -- where an accepted call leads that does nothing before
 pub led-judged : (v : Holding) (client : ℕ) (c : Call) (reply : Reply) (new : Holding) (goal : Goal)

@@ -4,7 +4,7 @@ use Rattle.node_core.proofs.Names.{Extent, Holding, Install, IsExtent, IsReserve
 use Rattle.node_core.proofs.Names.{List, Manifest, None, Option, Part, Prepared, Processed, Processing, Ready, Remove}
 use Rattle.node_core.proofs.Names.{SessionOf, Some, State, Status, StoredTransfer, Table, Transfer, Update}
 use Rattle.node_core.proofs.Names.{all_differ, all_places, ap, append-nil, applies, arith, block_limit, bytes_eq}
-use Rattle.node_core.proofs.Names.{change_kept, change_meaning, change_place, cluster_at, cluster_limit}
+use Rattle.node_core.proofs.Names.{change_kept, change_meaning, change_place, change_to, cluster_at, cluster_limit}
 use Rattle.node_core.proofs.Names.{cluster_meaning, cluster_of, cluster_place, content_of, different_names, eq-eqb}
 use Rattle.node_core.proofs.Names.{extent_in, false, goes_to, has_cluster, has_name, if◌then◌else◌, is_in, is_of}
 use Rattle.node_core.proofs.Names.{le-ltb, length, length-append, length-map, length-take, lowest_free, lt-ltb}
@@ -29,7 +29,8 @@ use Rattle.node_core.proofs.Natural.{has-means}
 use Rattle.node_core.proofs.Planned.{among-fit}
 
 -- a payload goes to an area of a place
-pub goes-lies : (areas : Areas) (s : State) (m : Manifest) (a : Action) (n : ℕ) → on_side areas (extent_in (goes_to s m a) n) ≡ take n (content_of (goes_to s m a) areas)
+goes-lies : (areas : Areas) (s : State) (m : Manifest) (a : Action) (n : ℕ)
+    → on_side areas (extent_in (goes_to s m a) n) ≡ take n (content_of (goes_to s m a) areas)
 goes-lies areas s m Install n = refl
 goes-lies areas s m Update n = refl
 goes-lies areas s m Remove n = refl
@@ -58,7 +59,9 @@ module _ (v : Holding) (x : SessionOf Extent) (id : ℕ) (sound : IsSound (at_pr
   parts-are = ap (λ ps. plans ++ ps) (parts-found v x id v.prepared sound h)
 
   differ : all_differ (changed ++ name ∷ []) ≡ true
-  differ = subst (λ ns. all_differ ns ≡ true) (part-names x.changes) (subst (λ ps. all_differ (map cluster_of ps) ≡ true) parts-are sound.fit.consistent.applying.differ)
+  differ =
+      subst (λ ns. all_differ ns ≡ true) (part-names x.changes)
+      (subst (λ ps. all_differ (map cluster_of ps) ≡ true) parts-are sound.fit.consistent.applying.differ)
 
   -- the part applies to what runs
   pub there-is : suits h.pack.manifest.action (has_cluster x.saved name) ≡ true
@@ -74,25 +77,37 @@ module _ (v : Holding) (x : SessionOf Extent) (id : ℕ) (sound : IsSound (at_pr
   pub new-change : has_name changed name ≡ false
   new-change = differ-before changed name [] differ
 
-  abbrev all : List (List ℕ)
-  all = (map (λ (c : Cluster Extent). c.name) v.state.running ++ map (λ (c : Cluster Extent). c.name) x.saved) ++ (changed ++ name ∷ [])
+  abbrev ran : List (List ℕ)
+  ran = map (λ (c : Cluster Extent). c.name) v.state.running
 
-  pub names-mean : (cs : List (Cluster Extent))
-      → map (λ (c : Cluster Bytes). c.name) (map (cluster_meaning v.areas) cs) ≡ map (λ (c : Cluster Extent). c.name) cs
-  names-mean cs = map-map (λ (c : Cluster Bytes). c.name) (cluster_meaning v.areas) cs
+  abbrev kept : List (List ℕ)
+  kept = map (λ (c : Cluster Extent). c.name) x.saved
+
+  abbrev all : List (List ℕ)
+  all = (ran ++ kept) ++ (changed ++ name ∷ [])
 
   few : length (different_names all) ≤ cluster_limit
   few =
-      let meant = map (cluster_meaning v.areas) v.state.running ++ map (cluster_meaning v.areas) x.saved in
+      let name_of : Cluster Bytes → List ℕ = λ c. c.name in
+      let means = cluster_meaning v.areas in
+      let meant = map means v.state.running ++ map means x.saved in
       subst (λ ns. length (different_names ns) ≤ cluster_limit)
-      (λ i. (append-nil (map (λ (c : Cluster Bytes). c.name) meant) ∙ map-append (λ (c : Cluster Bytes). c.name) (map (cluster_meaning v.areas) v.state.running) (map (cluster_meaning v.areas) x.saved) ∙ (λ j. names-mean v.state.running j ++ names-mean x.saved j)) i
+      (λ i. (append-nil (map name_of meant) ∙ map-append name_of (map means v.state.running) (map means x.saved)
+      ∙ (λ j. map-map name_of means v.state.running j ++ map-map name_of means x.saved j)) i
       ++ (ap (map cluster_of) parts-are ∙ part-names x.changes) i)
       sound.fit.consistent.limits.names
+
+  -- all names of a list are among them, where they are among the changed ones and the part's, or among the others
+  among-changed : (ns : List (List ℕ)) → Within ns (changed ++ name ∷ []) → Within ns all
+  among-changed ns = within-right ns (ran ++ kept) (changed ++ name ∷ [])
+
+  among-clusters : (ns : List (List ℕ)) → Within ns (ran ++ kept) → Within ns all
+  among-clusters ns = within-left ns (ran ++ kept) (changed ++ name ∷ [])
 
   -- so a change more has room
   pub room : length x.changes < cluster_limit
   room =
-      let n = differ-few (changed ++ name ∷ []) all differ (within-right (changed ++ name ∷ []) (map (λ (c : Cluster Extent). c.name) v.state.running ++ map (λ (c : Cluster Extent). c.name) x.saved) (changed ++ name ∷ []) (within-self (changed ++ name ∷ []))) in
+      let n = differ-few (changed ++ name ∷ []) all differ (among-changed (changed ++ name ∷ []) (within-self (changed ++ name ∷ []))) in
       omega (arith, n, few, length-append changed (name ∷ []), length-map x.changes (λ (c : Change Extent). cluster_of c.part))
 
   abbrev pub pairs : List Pair
@@ -100,12 +115,6 @@ module _ (v : Holding) (x : SessionOf Extent) (id : ℕ) (sound : IsSound (at_pr
 
   abbrev size : ℕ
   size = length h.pack.payload
-
-  abbrev ran : List (List ℕ)
-  ran = map (λ (c : Cluster Extent). c.name) v.state.running
-
-  abbrev kept : List (List ℕ)
-  kept = map (λ (c : Cluster Extent). c.name) x.saved
 
   pair-names : map (λ (a : Pair). a.0) pairs ≡ ran ++ (kept ++ changed)
   pair-names =
@@ -118,17 +127,21 @@ module _ (v : Holding) (x : SessionOf Extent) (id : ℕ) (sound : IsSound (at_pr
   has-there cs other = has-named (λ (c : Cluster Extent). c.name) cs name ∙ other
 
   -- a place is free where the name is new
-  pub free : has_cluster x.saved name ≡ false → (is_taken pairs (lowest_free state) ≡ false) × (lowest_free state < cluster_limit) × (has_name (map (λ (a : Pair). a.0) pairs) name ≡ false)
+  pub free : has_cluster x.saved name ≡ false
+      → (is_taken pairs (lowest_free state) ≡ false) × (lowest_free state < cluster_limit) × (has_name (map (λ (a : Pair). a.0) pairs) name ≡ false)
   free other =
       let absent : has_name (ran ++ (kept ++ changed)) name ≡ false = has-append ran (kept ++ changed) name
       ∙ (λ i. has-there v.state.running (ap (λ cs. has_cluster cs name) runs ∙ other) i
       || (has-append kept changed name ∙ (λ j. has-there x.saved other j || new-change j)) i) in
       let new : has_name (map (λ (a : Pair). a.0) pairs) name ≡ false = ap (λ ns. has_name ns name) pair-names ∙ absent in
-      let inside : Within (ran ++ (kept ++ changed)) all = each-append _ ran (kept ++ changed) (within-left ran (ran ++ kept) (changed ++ name ∷ []) (within-left ran ran kept (within-self ran)))
-      (each-append _ kept changed (within-left kept (ran ++ kept) (changed ++ name ∷ []) (within-right kept ran kept (within-self kept))) (within-right changed (ran ++ kept) (changed ++ name ∷ []) (within-left changed changed (name ∷ []) (within-self changed)))) in
-      let own : has_name all name ≡ true = (within-right (name ∷ []) (ran ++ kept) (changed ++ name ∷ []) (within-right (name ∷ []) changed (name ∷ []) (within-self (name ∷ [])))).0 in
+      let inside : Within (ran ++ (kept ++ changed)) all =
+      each-append _ ran (kept ++ changed) (among-clusters ran (within-left ran ran kept (within-self ran)))
+      (each-append _ kept changed (among-clusters kept (within-right kept ran kept (within-self kept)))
+      (among-changed changed (within-left changed changed (name ∷ []) (within-self changed)))) in
+      let own : has_name all name ≡ true = (among-changed (name ∷ []) (within-right (name ∷ []) changed (name ∷ []) (within-self (name ∷ [])))).0 in
       let found = free-place pairs (each-fits pairs sound.order.places) name all new own (subst (λ ns. Within ns all) (sym pair-names) inside) few in
-      let here = found-has (λ p. not (is_taken pairs p)) (λ p. p < cluster_limit) all_places found.0 (each-imp _ _ (λ p k. ltb-true p cluster_limit k) all_places (all-each (λ p. nat_lt p cluster_limit) all_places refl)) found.1 in
+      let here = found-has (λ p. not (is_taken pairs p)) (λ p. p < cluster_limit) all_places found.0
+      (each-imp _ _ (λ p k. ltb-true p cluster_limit k) all_places (all-each (λ p. nat_lt p cluster_limit) all_places refl)) found.1 in
       let at : lowest_free state ≡ found.0 = ap (λ o. unwrap_or o 0) found.1 in (
         ap (is_taken pairs) at ∙ not-true _ here.0,
         subst (λ n. n < cluster_limit) (sym at) here.1,
@@ -137,11 +150,12 @@ module _ (v : Holding) (x : SessionOf Extent) (id : ℕ) (sound : IsSound (at_pr
 
   -- the change that is planned, by its action
   abbrev pub change_at : Action → Change Extent
-  change_at a = record { transfer = id; part = record { manifest = h.pack.manifest; payload = extent_in (goes_to state h.pack.manifest a) size } }
+  change_at a = change_to id (with_length (part_of h.pack)) (extent_in (goes_to state h.pack.manifest a) size)
 
   -- what a search for a running cluster finds
   pub ran-there : has_cluster x.saved name ≡ true → (c : Cluster Extent) × (cluster_at v.state.running name ≡ Some c)
-  ran-there there = any-found (λ (c : Cluster Extent). bytes_eq c.name name) v.state.running (ap (λ (cs : List (Cluster Extent)). has_cluster cs name) runs ∙ there)
+  ran-there there =
+      any-found (λ (c : Cluster Extent). bytes_eq c.name name) v.state.running (ap (λ (cs : List (Cluster Extent)). has_cluster cs name) runs ∙ there)
 
   -- the places with the change's
   abbrev later : Action → List Pair
@@ -149,16 +163,19 @@ module _ (v : Holding) (x : SessionOf Extent) (id : ℕ) (sound : IsSound (at_pr
 
   later-among : (a : Action) (P : Pair → Type 0) → P (change_place (change_at a)) → AllByRecursion P pairs → AllByRecursion P (later a)
   later-among a P own each =
-      let rest = each-second P (map cluster_place v.state.running) (map cluster_place x.saved ++ map change_place x.changes) each in
-      each-append P (map cluster_place v.state.running) _ (each-first P (map cluster_place v.state.running) (map cluster_place x.saved ++ map change_place x.changes) each)
-      (each-append P (map cluster_place x.saved) _ (each-first P (map cluster_place x.saved) (map change_place x.changes) rest)
-      (subst (AllByRecursion P) (sym (map-append change_place x.changes (change_at a ∷ []))) (each-append P (map change_place x.changes) _ (each-second P (map cluster_place x.saved) (map change_place x.changes) rest) (own, tt))))
+      let run = map cluster_place v.state.running in
+      let saved = map cluster_place x.saved in
+      let plan = map change_place x.changes in
+      let rest = each-second P run (saved ++ plan) each in
+      each-append P run _ (each-first P run (saved ++ plan) each) (each-append P saved _ (each-first P saved plan rest)
+      (subst (AllByRecursion P) (sym (map-append change_place x.changes (change_at a ∷ []))) (each-append P plan _ (each-second P saved plan rest) (own, tt))))
 
   -- a change of a running cluster has its place
-  own-place : (c : Cluster Extent) → cluster_at v.state.running name ≡ Some c → (P : Pair → Type 0) → AllByRecursion P pairs → P (name, (running_at state name).place)
+  own-place : (c : Cluster Extent) → cluster_at v.state.running name ≡ Some c
+      → (P : Pair → Type 0) → AllByRecursion P pairs → P (name, (running_at state name).place)
   own-place c e P each =
       let own = found-has (λ (d : Cluster Extent). bytes_eq d.name name) (λ d. P (cluster_place d)) v.state.running c
-      (each-unmap P cluster_place v.state.running (each-first P (map cluster_place v.state.running) (map cluster_place x.saved ++ map change_place x.changes) each)) e in
+      (each-unmap P cluster_place v.state.running (each-first P (map cluster_place v.state.running) _ each)) e in
       subst P (λ i. (name-eq c.name name own.0 i, (option_map_or (λ (d : Cluster Extent). d.content) (sym e i) (record { place = 0; side = 0; length = 0 })).place)) own.1
 
   pub later-fits : (a : Action) → suits a (has_cluster x.saved name) ≡ true → names_fit_places (later a) ≡ true

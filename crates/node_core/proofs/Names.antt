@@ -15,7 +15,7 @@ pub use Rattle.node_core.specs.Sessions.{OnlyLeads, added, arrived, begun, chang
 pub use Rattle.node_core.specs.Sessions.{contents_of, count_of, is_planned, missing_dependencies, needing_of, opened}
 pub use Rattle.node_core.specs.Sessions.{package_refusals, paused, phased, stopped, taken_up}
 pub use Rattle.node_core.specs.Units.{IsNextUnit, IsPackageReady, IsPartReady, IsReservedWork, IsUnit, IsUnitOf}
-pub use Rattle.node_core.specs.Units.{IsUnitReady, after_work, answer_to, change_due, change_kept, change_next}
+pub use Rattle.node_core.specs.Units.{IsUnitReady, after_work, answer_to, change_due, change_kept, change_next, change_to}
 pub use Rattle.node_core.specs.Units.{clusters_kept, extent_in, extent_next, payload_start, picks, session_takes}
 pub use Rattle.node_core.specs.Units.{stored_units, unit_end}
 pub use Rattle.node_core.specs.declared.copying.NextUnit.{NextUnit}
@@ -36,8 +36,8 @@ pub use Rattle.pm_types.specs.Sessions.{CleanUp, Goal, Resume, To, activate_refu
 pub use Rattle.pm_types.specs.Sessions.{cancel_refusals, changes_in, is_install, is_old, is_update, is_wrong_tag, led_by}
 pub use Rattle.pm_types.specs.Sessions.{new_session, part_refusals, parts_refusal, process_refusal, session_refusals}
 pub use Rattle.pm_types.specs.Sessions.{status_table, stop_processing, suits}
-pub use Rattle.pm_types.specs.Steps.{acceptance, accepted, after_call, after_reply, by_last, by_order, call_no_cmp}
-pub use Rattle.pm_types.specs.Steps.{executed, refused_or, repeat_by, repeat_of, reply_to, step, synced}
+pub use Rattle.pm_types.specs.Steps.{acceptance, accepted, after_call, after_reply, refused_or, repeat_of, reply_to, step}
+pub use Rattle.pm_types.specs.Steps.{synced}
 pub use Rattle.pm_types.specs.Stored.{Areas, IsExtent, IsInOrder, IsPlaced, State, change_meaning, change_place}
 pub use Rattle.pm_types.specs.Stored.{cluster_meaning, cluster_place, fresh_state, meaning, names_fit_places, on_side}
 pub use Rattle.pm_types.specs.Stored.{places_in, session_meaning, slots_differ, takes_side, transfer_meaning}
@@ -62,7 +62,6 @@ pub use Rattle.pm_types.specs.declared.queries.Query.{Query}
 pub use Rattle.pm_types.specs.declared.queries.Query.TheVariants.{GetSwClusterChangeInfo, GetSwClusterInfo, GetSwPackages}
 pub use Rattle.pm_types.specs.declared.queries.Query.TheVariants.{GetSwProcessProgress}
 pub use Rattle.pm_types.specs.declared.replies.EndMark.{EndMark}
-pub use Rattle.pm_types.specs.declared.replies.Reached.{Reached}
 pub use Rattle.pm_types.specs.declared.replies.Refusal.{Refusal}
 pub use Rattle.pm_types.specs.declared.replies.Refusal.TheVariants.{ActionNotApplicable, ClusterAlreadyChanged}
 pub use Rattle.pm_types.specs.declared.replies.Refusal.TheVariants.{InvalidManifest, InvalidTransferId, OldVersion}
@@ -71,7 +70,6 @@ pub use Rattle.pm_types.specs.declared.replies.Refusal.TheVariants.{TooManyClust
 pub use Rattle.pm_types.specs.declared.replies.Reply.{Reply}
 pub use Rattle.pm_types.specs.declared.replies.Reply.TheVariants.{Done, Refused, Started}
 pub use Rattle.pm_types.specs.declared.replies.SessionMark.{SessionMark}
-pub use Rattle.pm_types.specs.declared.state.Kept.{Kept}
 pub use Rattle.pm_types.specs.declared.state.StoredTransfer.{StoredTransfer}
 pub use Rattle.pm_types.specs.declared.status.Outcome.{Outcome}
 pub use Rattle.pm_types.specs.declared.status.Outcome.TheVariants.{Old}
@@ -109,8 +107,6 @@ pub use Rattle.std.specs.List.{AllByRecursion, insert, list_all, list_any, range
 pub use Rattle.std.specs.Option.{option_map_or, option_or}
 pub use Rattle.std.specs.Str.{bytes_eq}
 pub use Rattle.std.specs.Vec.Iter.{into_iter_items, into_iter_len}
-pub use Rattle.std.specs.declared.cmp.Ordering.{Ordering}
-pub use Rattle.std.specs.declared.cmp.Ordering.TheVariants.{Equal, Greater, Less}
 pub use Rattle.transfer_blocks.specs.Areas.{AreasFit, IsArea, LeavesOutside, content_of, overwritten, with_content}
 pub use Rattle.transfer_blocks.specs.Table.{IsBounded, IsTable, Table, bad_refusal, cleaned, found_of, good_parts, moved}
 pub use Rattle.transfer_blocks.specs.Table.{received, slots_of, stored_header, stored_ids, stored_of, unless_refused}

@@ -1,12 +1,12 @@
 -- What a put on the side that a package goes to leaves of a sound node.
-use Rattle.node_core.proofs.Names.{Action, AllByRecursion, Area, Areas, AreasFit, Bool, Change, Cluster, Extent}
-use Rattle.node_core.proofs.Names.{Holding, Install, IsArea, IsExtent, IsInOrder, IsSound, LeavesOutside, List}
-use Rattle.node_core.proofs.Names.{Remove, SessionOf, Side, Some, StoredTransfer, Transfer, Update, ap, arith}
+use Rattle.node_core.proofs.Names.{Action, AllByRecursion, Area, Areas, AreasFit, Bool, Bytes, Change, Cluster}
+use Rattle.node_core.proofs.Names.{Extent, Holding, Install, IsArea, IsExtent, IsInOrder, IsSound, LeavesOutside}
+use Rattle.node_core.proofs.Names.{List, Remove, SessionOf, Side, Some, StoredTransfer, Transfer, Update, ap, arith}
 use Rattle.node_core.proofs.Names.{bytes_eq, change_meaning, change_place, cluster_at, cluster_meaning, cluster_of}
 use Rattle.node_core.proofs.Names.{cluster_place, cond, eq-eqb, false, goes_to, has_cluster, length, lowest_free, map}
-use Rattle.node_core.proofs.Names.{meaning, name_lt, names_rise, node_of, on_side, option_map_or, package_reading}
-use Rattle.node_core.proofs.Names.{refl, session_meaning, subst, suits, sym, take, transfer_meaning, true}
-use Rattle.node_core.proofs.Names.{with_length, [], ℕ, ◌++◌, ◌+◌, ◌-◌, ◌==◌, ◌∙◌, ◌∷◌, ◌≡◌, ◌≢◌}
+use Rattle.node_core.proofs.Names.{map-map, meaning, name_lt, names_rise, node_of, on_side, option_map_or}
+use Rattle.node_core.proofs.Names.{package_reading, refl, session_meaning, subst, suits, sym, take, transfer_meaning}
+use Rattle.node_core.proofs.Names.{true, with_length, [], ℕ, ◌++◌, ◌+◌, ◌-◌, ◌==◌, ◌∙◌, ◌∷◌, ◌≡◌, ◌≢◌}
 use Rattle.transfer_blocks.proofs.Areas.{elsewhere-stands}
 use Rattle.node_laws.proofs.Lists.{each-both, each-first, each-imp, each-unmap, found-has, not-true}
 use Rattle.node_laws.proofs.NameLists.{name-eq, name-swap, names-behind, names-tail}
@@ -15,7 +15,7 @@ use Rattle.node_core.proofs.Ordered.{lt-self}
 use Rattle.node_core.proofs.Named.{none-named}
 use Rattle.node_core.proofs.Free.{FitsAll, Pair, each-fits}
 use Rattle.node_core.proofs.Handled.{InHand, at_process, busy}
-use Rattle.node_core.proofs.Lastly.{free, names-mean, new-change, pairs, ran-there, runs, state}
+use Rattle.node_core.proofs.Lastly.{free, new-change, pairs, ran-there, runs, state}
 
 -- of clusters in order one has the name
 only-named : (cs : List (Cluster Extent)) (name : List ℕ) (c : Cluster Extent) → names_rise (map (λ (d : Cluster Extent). d.name) cs) ≡ true → cluster_at cs name ≡ Some c → AllByRecursion (λ d. bytes_eq d.name name ≡ true → d ≡ c) cs
@@ -87,7 +87,7 @@ module _ (v : Holding) (x : SessionOf Extent) (id : ℕ) (sound : IsSound (at_pr
       }
     where
       rise : names_rise (map (λ (d : Cluster Extent). d.name) v.state.running) ≡ true
-      rise = ap names_rise (sym (names-mean v x id sound h v.state.running)) ∙ sound.fit.consistent.limits.running
+      rise = ap names_rise (sym (map-map (λ (d : Cluster Bytes). d.name) (cluster_meaning v.areas) v.state.running)) ∙ sound.fit.consistent.limits.running
 
       other-side : (n : ℕ) → n ≡ 1 - n → ⊥
       other-side n e = let f : ⊥ = omega (arith, e) in f

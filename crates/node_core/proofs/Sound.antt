@@ -1,14 +1,13 @@
 -- A sound node has a table, and each step leaves it sound.
-use Rattle.node_core.proofs.Names.{AllByRecursion, Bool, Bytes, Call, CallNo, Equal, Err, Extent, Greater, Holding}
-use Rattle.node_core.proofs.Names.{IsBounded, IsFit, IsReading, IsSound, IsTable, IsTrue, Kept, Less, List, NodeState}
-use Rattle.node_core.proofs.Names.{None, Ok, Option, Ordering, Package, PackageFault, Part, Reached, Reply, Result}
-use Rattle.node_core.proofs.Names.{SessionMark, SessionOf, Some, Transfer, Verdict, after_call, all_differ, ap, arith}
-use Rattle.node_core.proofs.Names.{by_last, by_order, call_no_cmp, client_limit, cluster_of, executed, ids_of, length}
+use Rattle.node_core.proofs.Names.{AllByRecursion, Bool, Bytes, Call, CallNo, Err, Extent, Holding, IsBounded, IsFit}
+use Rattle.node_core.proofs.Names.{IsReading, IsSound, IsTable, IsTrue, List, NodeState, None, Ok, Option, Package}
+use Rattle.node_core.proofs.Names.{PackageFault, Part, Reply, Result, SessionMark, SessionOf, Some, Transfer, Verdict}
+use Rattle.node_core.proofs.Names.{after_call, all_differ, ap, arith, client_limit, cluster_of, ids_of, length}
 use Rattle.node_core.proofs.Names.{length-map, list_all, map, mark_of, nat_tests, node_of, not, numbers_rise}
-use Rattle.node_core.proofs.Names.{of_client, option_map, package_limit, package_reading, refl, repeat_by, repeat_of}
-use Rattle.node_core.proofs.Names.{reply_by, reply_to, session_meaning, slice_index_or, slots_differ, step, step_by}
-use Rattle.node_core.proofs.Names.{stored_ids, subst, sym, synced, table_of, transfer_limit, transfer_meaning, true}
-use Rattle.node_core.proofs.Names.{verdict_of, verdict_on, [], ℕ, ◌&&◌, ◌<◌, ◌==◌, ◌∙◌, ◌∷◌, ◌≡◌, ◌≤◌}
+use Rattle.node_core.proofs.Names.{of_client, option_map, package_limit, package_reading, refl, repeat_of, reply_by}
+use Rattle.node_core.proofs.Names.{reply_to, session_meaning, slice_index_or, slots_differ, step, step_by, stored_ids}
+use Rattle.node_core.proofs.Names.{subst, sym, synced, table_of, transfer_limit, transfer_meaning, true, verdict_of}
+use Rattle.node_core.proofs.Names.{verdict_on, [], ℕ, ◌&&◌, ◌<◌, ◌==◌, ◌∙◌, ◌∷◌, ◌≡◌, ◌≤◌}
 use Rattle.package_reader.specs.Reading.{reading}
 use Rattle.pm_types.specs.declared.replies.Reached.TheVariants.{Done as Answered}
 use Rattle.pm_types.specs.Validity.{IsSound as IsSoundTransfer}
@@ -62,16 +61,7 @@ table-is v sound =
 -- a newer call is executed
 pub step-is : (s : NodeState) (client : ℕ) (at : CallNo) (call : Call) (w : Verdict) → repeat_of at (of_client s.last client) ≡ None
     → step s client at call w ≡ (after_call s client at call w (reply_to s client call w), Answered (reply_to s client call w))
-step-is s client at call w none = of (of_client s.last client) none
-  where
-    by : (kept : Kept) (o : Ordering) (done : NodeState × Reached) → repeat_by kept o ≡ None → by_order s done kept o ≡ done
-    by kept Less done e = absurd (cc)
-    by kept Equal done e = absurd (cc)
-    by kept Greater done e = refl
-
-    of : (o : Option Kept) → repeat_of at o ≡ None → by_last s (executed s client at call w) at o ≡ executed s client at call w
-    of None e = refl
-    of (Some kept) e = by kept (call_no_cmp at kept.no) (executed s client at call w) e
+step-is s client at call w none = grind (arith)
 
 -- a step leaves the node fit
 pub step-fit : (v : Holding) (client : ℕ) (at : CallNo) (call : Call) → client < client_limit → IsSound v → IsFit package_reading (step_by v client at call).0
