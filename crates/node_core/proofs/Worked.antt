@@ -6,11 +6,10 @@ use Rattle.node_core.proofs.Names.{Option, Outcome, Phase, Prepared, Processed, 
 use Rattle.node_core.proofs.Names.{SessionIsDue, SessionOf, Some, State, Status, StoredTransfer, Table, Transfer}
 use Rattle.node_core.proofs.Names.{Transferred, Transferring, Verifying, after_work, ap, change_meaning, change_place}
 use Rattle.node_core.proofs.Names.{cleaned, cluster_place, clusters_kept, end_mark, false, has_status}
-use Rattle.node_core.proofs.Names.{id_in_processing, if◌then◌else◌, is_in, is_some, length, length-map, map}
-use Rattle.node_core.proofs.Names.{names_fit_places, nat_lt, node_of, not, option_map, package_reading, planned, refl}
-use Rattle.node_core.proofs.Names.{session_meaning, should_run, slice_set, some_passes, subst, sym, table_of}
-use Rattle.node_core.proofs.Names.{transfer_meaning, true, unit, unit_passes, with_table, [], ℕ, ◌++◌, ◌+◌, ◌<◌, ◌==◌}
-use Rattle.node_core.proofs.Names.{◌||◌, ◌∙◌, ◌≡◌}
+use Rattle.node_core.proofs.Names.{id_in_processing, if◌then◌else◌, is_in, is_some, length, length-map, map, nat_lt}
+use Rattle.node_core.proofs.Names.{node_of, not, option_map, package_reading, planned, refl, session_meaning}
+use Rattle.node_core.proofs.Names.{should_run, slice_set, some_passes, subst, sym, table_of, transfer_meaning, true}
+use Rattle.node_core.proofs.Names.{unit, unit_passes, with_table, [], ℕ, ◌++◌, ◌+◌, ◌<◌, ◌==◌, ◌||◌, ◌∙◌, ◌≡◌}
 use Rattle.transfer_blocks.proofs.Meanings.{filter-means}
 use Rattle.node_laws.proofs.Lists.{each-append, each-filter, each-first, each-imp, each-unmap}
 use Rattle.node_laws.proofs.Kept.{keeps-fit}
@@ -69,132 +68,144 @@ module _ (v : Holding) (x : SessionOf Extent) (p : Prepared) where
   abbrev places : List (List ℕ × ℕ)
   places = map cluster_place x.saved ++ map change_place x.changes
 
-  -- other running clusters, of the places of those that were saved and of the changes
-  run-places : (running : List (Cluster Extent)) → IsAmong (map cluster_place running) places → names_fit_places (map cluster_place v.state.running ++ places) ≡ true → names_fit_places (map cluster_place running ++ places) ≡ true
-  run-places running among fit = among-fit (map cluster_place running ++ places) (map cluster_place v.state.running ++ places)
-      (λ P each. let rest = each-second P (map cluster_place v.state.running) places each in each-append P (map cluster_place running) places (among P rest) rest) fit
-
-  -- one change may be verified more
-  one-left : IsSound (at_work v Verifying x) → x.verified < length x.changes
-  one-left sound = subst (λ n. x.verified < n) (length-map x.changes (change_meaning v.areas)) sound.fit.consistent.verdicts.0
-
   -- one change more is verified
   verified-unit : IsSound (at_work v Verifying x) → (more : Bool) → nat_lt (x.verified + 1) (length x.changes) ≡ more
       → IsUnit (at_work v Verifying x) true (moved (if more then Verifying else Activated) (record x { verified = x.verified + 1 }) v.state.running)
   verified-unit sound more e = record {
-    node = ap (λ n. Some (node_of (moved (if nat_lt (x.verified + 1) n then Verifying else Activated) (record x { verified = x.verified + 1 }) v.state.running))) (length-map x.changes (change_meaning v.areas))
-        ∙ ap (λ b. Some (node_of (moved (if b then Verifying else Activated) (record x { verified = x.verified + 1 }) v.state.running))) e;
-    order = marked-order v.areas (at_work v Verifying x).state (if more then Verifying else Activated) x x.processing x.units_done (x.verified + 1)
-        x.outcome sound.order (runs more);
-    copied = none-copied v.areas (moved (if more then Verifying else Activated) (record x { verified = x.verified + 1 }) v.state.running).state (none-processed (at_work v Verifying x) sound refl);
+    node = ap (λ n. Some (node_of (after (nat_lt (x.verified + 1) n)))) (length-map x.changes (change_meaning v.areas))
+        ∙ ap (λ b. Some (node_of (after b))) e;
+    order = marked-order v.areas (at_work v Verifying x).state (if more then Verifying else Activated) x x.processing x.units_done
+        (x.verified + 1) x.outcome sound.order (runs more);
+    copied = none-copied v.areas (after more).state (none-processed (at_work v Verifying x) sound refl);
     entries = refl;
   }
     where
+      after : Bool → Holding
+      after b = moved (if b then Verifying else Activated) (record x { verified = x.verified + 1 }) v.state.running
+
       runs : (more : Bool) → v.state.running ≡ should_run (record x { verified = x.verified + 1 }) (if more then Verifying else Activated) x.outcome
       runs true = sound.order.running
       runs false = sound.order.running
 
-  -- the planned clusters run
-  activated-unit : (passed : Bool) (running : List (Cluster Extent)) → clusters_kept v.prepared ≡ Some running → IsSound (at_work v Activating x) → IsUnitReady Activating (at_work v Activating x) x
-      → IsUnit (at_work v Activating x) passed (moved Verifying (record x { verified = 0 }) running)
-  activated-unit passed running kept sound ready =
-      let same : planned x.changes x.saved ≡ running = cc in
-      subst (λ cs. IsUnit (at_work v Activating x) passed (moved Verifying (record x { verified = 0 }) cs)) same (record {
-        node = ap (λ cs. Some (record (node_of (moved Verifying (record x { verified = 0 }) v.state.running)) { running = cs })) (planned-means v.areas x.changes x.saved);
-        order = record {
-          clusters = planned-each (λ c. IsExtent c.content) x.changes x.saved sound.order.session.1 sound.order.session.0;
-          session = sound.order.session;
-          transfers = sound.order.transfers;
-          slots = sound.order.slots;
-          places = run-places (planned x.changes x.saved) (planned-places x.changes x.saved) sound.order.places;
-          running = refl;
-        };
-        copied = none-copied v.areas (moved Verifying (record x { verified = 0 }) (planned x.changes x.saved)).state (none-processed (at_work v Activating x) sound refl);
-        entries = refl;
-      })
-
-  -- the saved clusters run again
-  rolled-unit : (passed : Bool) (running : List (Cluster Extent)) → clusters_kept v.prepared ≡ Some running → IsSound (at_work v RollingBack x) → IsUnitReady RollingBack (at_work v RollingBack x) x
-      → IsUnit (at_work v RollingBack x) passed (moved RolledBack x running)
-  rolled-unit passed running kept sound ready =
-      let same : x.saved ≡ running = cc in
-      subst (λ cs. IsUnit (at_work v RollingBack x) passed (moved RolledBack x cs)) same (record {
-        node = refl;
-        order = record {
-          clusters = sound.order.session.0;
-          session = sound.order.session;
-          transfers = sound.order.transfers;
-          slots = sound.order.slots;
-          places = run-places x.saved (λ P each. each-first P (map cluster_place x.saved) (map change_place x.changes) each) sound.order.places;
-          running = refl;
-        };
-        copied = none-copied v.areas (moved RolledBack x x.saved).state (none-processed (at_work v RollingBack x) sound refl);
-        entries = refl;
-      })
+  -- other clusters run, with the places of those that were saved and of the changes
+  rerun : (passed : Bool) (status next : Status) (verified : ℕ) (running : List (Cluster Extent)) → IsSound (at_work v status x)
+      → has_status Processing (node_of (at_work v status x)) ≡ false
+      → unit (node_of (at_work v status x)) passed ≡ Some (node_of (moved next (record x { verified = verified }) running))
+      → AllByRecursion (λ c. IsExtent c.content) running → IsAmong (map cluster_place running) places
+      → running ≡ should_run (record x { verified = verified }) next x.outcome
+      → IsUnit (at_work v status x) passed (moved next (record x { verified = verified }) running)
+  rerun passed status next verified running sound other node extents among runs = record {
+    node = node;
+    order = record {
+      clusters = extents;
+      session = sound.order.session;
+      transfers = sound.order.transfers;
+      slots = sound.order.slots;
+      places = among-fit (map cluster_place running ++ places) (map cluster_place v.state.running ++ places)
+          (λ P each. let rest = each-second P (map cluster_place v.state.running) places each in
+          each-append P (map cluster_place running) places (among P rest) rest) sound.order.places;
+      running = runs;
+    };
+    copied = none-copied v.areas (moved next (record x { verified = verified }) running).state (none-processed (at_work v status x) sound other);
+    entries = refl;
+  }
 
   -- the node without its session, with this table and these marks
   abbrev pub ended : Table → Option (SessionOf Extent) → List (Option EndMark) → Holding
-  ended table session marks = record v { state = record (with_table table v.state) { status = Idle; session = session; ended = marks }; prepared = p }
+  ended table session marks =
+      record v { state = record (with_table table v.state) { status = Idle; session = session; ended = marks }; prepared = p }
 
   -- the session is over
-  cleaned-unit : (passed : Bool) (table : Table) (left : Option (SessionOf Extent)) (place : ℕ) (mark : Option EndMark) → IsSound (at_work v CleaningUp x) → table ≡ cleaned (table_of v.state) → IsTable table → left ≡ None → place ≡ x.owner
-      → mark ≡ option_map (λ (o : Outcome). record { tag = x.tag; outcome = o }) x.outcome → IsUnit (at_work v CleaningUp x) passed (ended table left (slice_set v.state.ended place mark))
-  cleaned-unit passed table left place mark sound is form none here marks =
-      let marked : end_mark (session_meaning v.areas x) ≡ mark = sym (marks ∙ of x.outcome) in
-      subst (IsUnit (at_work v CleaningUp x) passed) (λ i. ended (sym is i) (sym none i) (slice_set v.state.ended (sym here i) (marked i))) (record {
-        node = ap (λ us. Some (record (node_of (ended (table_of v.state) None (slice_set v.state.ended x.owner (end_mark (session_meaning v.areas x))))) { transfers = us })) (filter-means package_reading v.areas (λ h. not (is_in BeingProcessed h || is_in Processed h)) v.state.transfers);
-        order = record {
-          clusters = sound.order.clusters;
-          session = tt;
-          transfers = each-filter (IsPlaced package_reading v.areas) _ v.state.transfers sound.order.transfers;
-          slots = (subst IsTable is form).slots;
-          places = among-fit (map cluster_place v.state.running ++ []) (map cluster_place v.state.running ++ places)
-              (λ P each. each-append P (map cluster_place v.state.running) [] (each-first P (map cluster_place v.state.running) places each) tt) sound.order.places;
-          running = tt;
-        };
-        copied = none-copied v.areas (ended (cleaned (table_of v.state)) None []).state (each-filter (λ t. is_in BeingProcessed t.header ≡ false) _ v.state.transfers (none-processed (at_work v CleaningUp x) sound refl));
-        entries = refl;
-      })
-    where
-      of : (o : Option Outcome) → option_map (λ (k : Outcome). record { tag = x.tag; outcome = k }) o ≡ end_mark (record (session_meaning v.areas x) { outcome = o })
-      of None = refl
-      of (Some k) = refl
+  cleaned-unit : (passed : Bool) → IsSound (at_work v CleaningUp x) → IsTable (cleaned (table_of v.state))
+      → IsUnit (at_work v CleaningUp x) passed
+      (ended (cleaned (table_of v.state)) None (slice_set v.state.ended x.owner (end_mark (session_meaning v.areas x))))
+  cleaned-unit passed sound form = record {
+    node = ap (λ us. Some (record (node_of (ended (table_of v.state) None (slice_set v.state.ended x.owner (end_mark (session_meaning v.areas x)))))
+        { transfers = us })) (filter-means package_reading v.areas (λ h. not (is_in BeingProcessed h || is_in Processed h)) v.state.transfers);
+    order = record {
+      clusters = sound.order.clusters;
+      session = tt;
+      transfers = each-filter (IsPlaced package_reading v.areas) _ v.state.transfers sound.order.transfers;
+      slots = form.slots;
+      places = among-fit (map cluster_place v.state.running ++ []) (map cluster_place v.state.running ++ places)
+          (λ P each. each-append P (map cluster_place v.state.running) [] (each-first P (map cluster_place v.state.running) places each) tt)
+          sound.order.places;
+      running = tt;
+    };
+    copied = none-copied v.areas (ended (cleaned (table_of v.state)) None []).state
+        (each-filter (λ t. is_in BeingProcessed t.header ≡ false) _ v.state.transfers (none-processed (at_work v CleaningUp x) sound refl));
+    entries = refl;
+  }
 
 -- where a node rolls back it has a session
 session-there : (v : Holding) → IsSound v → v.state.status ≡ RollingBack → (x : SessionOf Extent) × (v.state.session ≡ Some x)
 session-there v sound q = of v.state.session refl
   where
+    due : SessionIsDue RollingBack (option_map (session_meaning v.areas) v.state.session)
+    due = subst (λ st. SessionIsDue st (option_map (session_meaning v.areas) v.state.session)) q sound.fit.consistent.session
+
     of : (o : Option (SessionOf Extent)) → v.state.session ≡ o → (x : SessionOf Extent) × (v.state.session ≡ Some x)
     of (Some x) e = (x, e)
-    of None e = elim (subst (λ o. SessionIsDue RollingBack (option_map (session_meaning v.areas) o)) e (subst (λ st. SessionIsDue st (option_map (session_meaning v.areas) v.state.session)) q sound.fit.consistent.session)) [ ]
+    of None e = elim (subst (λ o. SessionIsDue RollingBack (option_map (session_meaning v.areas) o)) e due) [ ]
 
 -- the same, told of a node by its parts
 module _ {v w : Holding} (e : v ≡ w) (x : SessionOf Extent) (p : Prepared) (there : v.state.session ≡ Some x) (sound : IsSound w) where
+  -- one change may be verified more
   pub left-to-verify : w.state.status ≡ Verifying → x.verified < length x.changes
-  left-to-verify q = one-left v x p (sound-at v w Verifying x e q there sound)
+  left-to-verify q =
+      subst (λ n. x.verified < n) (length-map x.changes (change_meaning v.areas))
+      (sound-at v w Verifying x e q there sound).fit.consistent.verdicts.0
 
-  pub verified : w.state.status ≡ Verifying → (passed : Bool) → passed ≡ true → (more : Bool) → nat_lt (x.verified + 1) (length x.changes) ≡ more → (status : Status) → status ≡ (if more then Verifying else Activated)
+  pub verified : w.state.status ≡ Verifying → (passed : Bool) → passed ≡ true
+      → (more : Bool) → nat_lt (x.verified + 1) (length x.changes) ≡ more
+      → (status : Status) → status ≡ (if more then Verifying else Activated)
       → IsUnit w passed (moved v x p status (record x { verified = x.verified + 1 }) v.state.running)
   verified q passed good more m status leads =
-      let new : Status → Holding = λ st. moved v x p st (record x { verified = x.verified + 1 }) v.state.running in
-      subst (λ b. IsUnit w b (new status)) (sym good) (subst (λ st. IsUnit w true (new st)) (sym leads) (unit-at v w Verifying x e q there true (new (if more then Verifying else Activated)) (verified-unit v x p (sound-at v w Verifying x e q there sound) more m)))
+      subst (λ (k : Bool × Status). IsUnit w k.0 (moved v x p k.1 (record x { verified = x.verified + 1 }) v.state.running))
+      (λ i. (sym good i, sym leads i))
+      (unit-at v w Verifying x e q there true _ (verified-unit v x p (sound-at v w Verifying x e q there sound) more m))
 
-  pub activated : w.state.status ≡ Activating → IsReservedWork w → (passed : Bool) (running : List (Cluster Extent)) → clusters_kept v.prepared ≡ Some running → IsUnit w passed (moved v x p Verifying (record x { verified = 0 }) running)
-  activated q ready passed running kept = unit-at v w Activating x e q there passed _ (activated-unit v x p passed running kept (sound-at v w Activating x e q there sound) (ready-at v w Activating x e q there ready))
+  -- the planned clusters run
+  pub activated : w.state.status ≡ Activating → IsReservedWork w → (passed : Bool) (running : List (Cluster Extent))
+      → clusters_kept v.prepared ≡ Some running → IsUnit w passed (moved v x p Verifying (record x { verified = 0 }) running)
+  activated q ready passed running kept =
+      let s = sound-at v w Activating x e q there sound in
+      let planned_now = ready-at v w Activating x e q there ready in
+      let same : planned x.changes x.saved ≡ running = cc in
+      subst (λ cs. IsUnit w passed (moved v x p Verifying (record x { verified = 0 }) cs)) same
+      (unit-at v w Activating x e q there passed _ (rerun v x p passed Activating Verifying 0 (planned x.changes x.saved) s refl
+      (ap (λ cs. Some (record (node_of (moved v x p Verifying (record x { verified = 0 }) v.state.running)) { running = cs })) (planned-means v.areas x.changes x.saved))
+      (planned-each (λ c. IsExtent c.content) x.changes x.saved s.order.session.1 s.order.session.0) (planned-places x.changes x.saved) refl))
 
-  pub cleaned_up : w.state.status ≡ CleaningUp → (passed : Bool) (table : Table) (left : Option (SessionOf Extent)) (place : ℕ) (mark : Option EndMark) → table ≡ cleaned (table_of v.state) → IsTable table → left ≡ None → place ≡ x.owner
-      → mark ≡ option_map (λ (o : Outcome). record { tag = x.tag; outcome = o }) x.outcome → IsUnit w passed (ended v x p table left (slice_set v.state.ended place mark))
+  pub cleaned_up : w.state.status ≡ CleaningUp → (passed : Bool) (table : Table) (left : Option (SessionOf Extent)) (place : ℕ) (mark : Option EndMark)
+      → table ≡ cleaned (table_of v.state) → IsTable table → left ≡ None → place ≡ x.owner
+      → mark ≡ option_map (λ (o : Outcome). record { tag = x.tag; outcome = o }) x.outcome
+      → IsUnit w passed (ended v x p table left (slice_set v.state.ended place mark))
   cleaned_up q passed table left place mark is form none here marks =
-      unit-at v w CleaningUp x e q there passed _ (cleaned-unit v x p passed table left place mark (sound-at v w CleaningUp x e q there sound) is form none here marks)
+      subst (IsUnit w passed) (λ i. ended v x p (sym is i) (sym none i) (slice_set v.state.ended (sym here i) (sym (marks ∙ of x.outcome) i)))
+      (unit-at v w CleaningUp x e q there passed _ (cleaned-unit v x p passed (sound-at v w CleaningUp x e q there sound) (subst IsTable is form)))
+    where
+      of : (o : Option Outcome) → option_map (λ (k : Outcome). record { tag = x.tag; outcome = k }) o ≡ end_mark (record (session_meaning v.areas x) { outcome = o })
+      of None = refl
+      of (Some k) = refl
 
--- and of one that rolls back
-pub rolled_back : {v w : Holding} → v ≡ w → IsSound w → w.state.status ≡ RollingBack → IsReservedWork w → (p : Prepared) (passed : Bool) (running : List (Cluster Extent)) → clusters_kept v.prepared ≡ Some running
+-- the saved clusters run again
+pub rolled_back : {v w : Holding} → v ≡ w → IsSound w → w.state.status ≡ RollingBack → IsReservedWork w
+    → (p : Prepared) (passed : Bool) (running : List (Cluster Extent)) → clusters_kept v.prepared ≡ Some running
     → IsUnit w passed (record v { state = record v.state { status = RolledBack; running = running }; prepared = p })
 rolled_back {v = v} {w = w} e sound q ready p passed running kept =
-    let there = session-there v (subst IsSound (sym e) sound) (ap (λ (u : Holding). u.state.status) e ∙ q) in
-    subst (λ o. IsUnit w passed (record v { state = record v.state { status = RolledBack; running = running; session = o }; prepared = p })) (sym there.1)
-    (unit-at v w RollingBack there.0 e q there.1 passed _ (rolled-unit v there.0 p passed running kept (sound-at v w RollingBack there.0 e q there.1 sound) (ready-at v w RollingBack there.0 e q there.1 ready)))
+    let found = session-there v (subst IsSound (sym e) sound) (ap (λ (u : Holding). u.state.status) e ∙ q) in
+    let x = found.0 in
+    let s = sound-at v w RollingBack x e q found.1 sound in
+    let saved_now = ready-at v w RollingBack x e q found.1 ready in
+    let same : x.saved ≡ running = cc in
+    subst (λ (k : Option (SessionOf Extent) × List (Cluster Extent)).
+    IsUnit w passed (record v { state = record v.state { status = RolledBack; running = k.1; session = k.0 }; prepared = p }))
+    (λ i. (sym found.1 i, same i))
+    (unit-at v w RollingBack x e q found.1 passed _ (rerun v x p passed RollingBack RolledBack x.verified x.saved s refl refl s.order.session.0
+    (λ P each. each-first P (map cluster_place x.saved) (map change_place x.changes) each) refl))
 
 -- work leaves a node fit
 pub worked-fit : (v new : Holding) (fails : List (List ℕ)) → IsSound v → node_of new ≡ after_work fails (node_of v) → IsFit package_reading (node_of new)
-worked-fit v new fails sound node = subst (IsFit package_reading) (sym node) ((keeps-fit package_reading reading-is).unit (node_of v) (unit_passes fails (node_of v)) sound.fit)
+worked-fit v new fails sound node =
+    subst (IsFit package_reading) (sym node) ((keeps-fit package_reading reading-is).unit (node_of v) (unit_passes fails (node_of v)) sound.fit)
