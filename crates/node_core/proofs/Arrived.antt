@@ -1,18 +1,16 @@
 -- Where a call leads, a stored node stands for the node there, and stays in order.
-use Rattle.node_core.proofs.Names.{Action, Activated, AllByRecursion, Area, Areas, BeingProcessed, Bytes, Call}
-use Rattle.node_core.proofs.Names.{Change, CleanUp, CleaningUp, Cluster, Done, Extent, Goal, Holding, Idle, IfSome}
-use Rattle.node_core.proofs.Names.{Install, IsCopied, IsCopiedIn, IsInOrder, IsJudged, IsSound, List, Manifest}
-use Rattle.node_core.proofs.Names.{NodeState, None, Old, OnlyLeads, Option, Outcome, Part, Phase, Prepared, Processed}
-use Rattle.node_core.proofs.Names.{Processing, Ready, Refusal, Refused, Remove, Reply, Resume, RolledBack}
-use Rattle.node_core.proofs.Names.{RunsWhatItShould, SessionOf, Side, Some, State, Status, StoredTransfer, To}
-use Rattle.node_core.proofs.Names.{Transferred, Transferring, Update, Verifying, acceptance, accepted, all_places, ap}
-use Rattle.node_core.proofs.Names.{arrive, arrived, block_limit, cleaning_up, cluster_at, content_of, find}
-use Rattle.node_core.proofs.Names.{first_refusal, goes_to, led_by, list_any, meaning, node_of, not, option_map_or}
-use Rattle.node_core.proofs.Names.{package_reading, places_in, refl, refusal_by, refused_or, running_at}
-use Rattle.node_core.proofs.Names.{session_refusals, should_run, status_table, subst, sym, take, units_done}
+use Rattle.node_core.proofs.Names.{Action, Activated, AllByRecursion, Area, Areas, Bytes, Call, Change, CleanUp, CleaningUp, Cluster}
+use Rattle.node_core.proofs.Names.{Done, Extent, Goal, Holding, Idle, IfSome, Install, IsCopied, IsCopiedIn, IsInOrder, IsJudged}
+use Rattle.node_core.proofs.Names.{IsSound, List, Manifest, NodeState, None, Old, OnlyLeads, Option, Outcome, Part, Prepared}
+use Rattle.node_core.proofs.Names.{Processing, Ready, Refusal, Refused, Remove, Reply, Resume, RolledBack, RunsWhatItShould, SessionOf}
+use Rattle.node_core.proofs.Names.{Side, Some, State, Status, StoredTransfer, To, Update, Verifying, acceptance, accepted, all_places}
+use Rattle.node_core.proofs.Names.{ap, arrive, arrived, block_limit, cleaning_up, cluster_at, content_of, find, first_refusal, goes_to}
+use Rattle.node_core.proofs.Names.{led_by, list_any, meaning, node_of, not, option_map_or, package_reading, places_in, refl, refusal_by}
+use Rattle.node_core.proofs.Names.{refused_or, running_at, session_refusals, should_run, status_table, subst, sym, take, units_done}
 use Rattle.node_core.proofs.Names.{unwrap_or, verdict_on, [], ℕ, ◌*◌, ◌-◌, ◌==◌, ◌∙◌, ◌∷◌, ◌≡◌}
 use Rattle.pm_types.specs.declared.calls.Call.TheVariants as call
 use Rattle.node_laws.proofs.Lists.{each-imp}
+use Rattle.node_core.proofs.Stored.{copied-when}
 
 -- a call that is refused is judged, whatever was ready for it
 pub refused-judged : (v : Holding) (client : ℕ) (call : Call) (why : Refusal) (p : Prepared) → IsSound v → refusal_by v client call ≡ Some why → IsJudged v client call (Refused why) (record v { prepared = p })
@@ -40,17 +38,12 @@ goes-by s n ran places m Remove = ap (λ (e : Extent). Side e.place e.side) (run
 pub copied-by : (areas : Areas) (s n : State) → units_done n ≡ units_done s → n.running ≡ s.running → places_in n ≡ places_in s
     → (ts : List StoredTransfer) → AllByRecursion (λ t. IsCopiedIn package_reading areas s t t.header.phase) ts
     → AllByRecursion (λ t. IsCopiedIn package_reading areas n t t.header.phase) ts
-copied-by areas s n done ran places ts copied = each-imp _ _ (λ t. in_phase t t.header.phase) ts copied
+copied-by areas s n done ran places ts = each-imp _ _ (λ t copied. copied-when areas n t t.header.phase (λ e.
+    each-imp _ _ (λ part c. subst (λ (x : ℕ × Area). IsAt part x.0 x.1) (sym (λ i. (done i, goes-by s n ran places part.manifest part.manifest.action i))) c)
+    _ (subst (IsCopiedIn package_reading areas s t) e copied))) ts
   where
     IsAt : Part Bytes → ℕ → Area → Type 0
     IsAt part k area = take (k * block_limit) (content_of area areas) ≡ take (k * block_limit) part.payload
-
-    in_phase : (t : StoredTransfer) (phase : Phase) → IsCopiedIn package_reading areas s t phase → IsCopiedIn package_reading areas n t phase
-    in_phase t BeingProcessed each =
-        each-imp _ _ (λ part c. subst (λ (x : ℕ × Area). IsAt part x.0 x.1) (sym (λ i. (done i, goes-by s n ran places part.manifest part.manifest.action i))) c) _ each
-    in_phase t Transferring each = tt
-    in_phase t Transferred each = tt
-    in_phase t Processed each = tt
 
 -- whatever a session has processed, verified and decided, it has the same plan
 abbrev pub marked : Option ℕ → ℕ → ℕ → Option Outcome → SessionOf Extent → SessionOf Extent

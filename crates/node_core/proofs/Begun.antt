@@ -1,25 +1,21 @@
 -- ProcessSwPackage is judged as the node's table says.
-use Rattle.node_core.proofs.Names.{Activate, AllByRecursion, BeingProcessed, Bool, Bytes, Cluster, Done, Extent}
-use Rattle.node_core.proofs.Names.{Found, Goal, Holding, Idle, InvalidTransferId, IsCopied, IsCopiedIn, IsInOrder}
-use Rattle.node_core.proofs.Names.{IsJudged, IsPlaced, IsReady, IsSound, List, None, OperationNotPermitted, Option}
-use Rattle.node_core.proofs.Names.{Part, Phase, ProcessSwPackage, Processed, Refusal, Refused, Reply, Session}
-use Rattle.node_core.proofs.Names.{SessionOf, Some, StoredTransfer, Transfer, Transferred, Transferring}
-use Rattle.node_core.proofs.Names.{activate_refusal, ap, arrived, begin_processing, begun, change_meaning, changes_in}
-use Rattle.node_core.proofs.Names.{changes_kept, cluster_place, contents_of, false, first_refusal, found_of}
-use Rattle.node_core.proofs.Names.{if◌then◌else◌, is_in, is_none, is_wrong_tag, map, meaning, missing_dependencies}
-use Rattle.node_core.proofs.Names.{names_fit_places, new_session, node_of, not, opened, option_map, option_map_or}
-use Rattle.node_core.proofs.Names.{option_or, package_reading, package_refusals, parts_of, parts_refusal, phase_code}
-use Rattle.node_core.proofs.Names.{phased, planned, process_refusal, refl, refusal_by, session_kept, session_meaning}
-use Rattle.node_core.proofs.Names.{session_refusals, should_run, slots_differ, some_passes, status_table}
-use Rattle.node_core.proofs.Names.{stored_header, stored_of, subst, sym, taken_up, transfer_meaning, transfer_of}
-use Rattle.node_core.proofs.Names.{true, unmet_among, unmet_kept, unwrap_or, with_length, [], ℕ, ◌++◌, ◌==◌, ◌∙◌, ◌∷◌}
-use Rattle.node_core.proofs.Names.{◌≡◌}
-use Rattle.node_laws.proofs.Lists.{each-append, each-first, both-none, found-has, is-transferred, not-false}
-use Rattle.node_laws.proofs.Lists.{rows-clear}
+use Rattle.node_core.proofs.Names.{Activate, AllByRecursion, BeingProcessed, Bool, Bytes, Cluster, Done, Extent, Found, Goal, Holding}
+use Rattle.node_core.proofs.Names.{Idle, InvalidTransferId, IsCopied, IsInOrder, IsJudged, IsPlaced, IsReady, IsSound, List, None}
+use Rattle.node_core.proofs.Names.{OperationNotPermitted, Option, Part, ProcessSwPackage, Refusal, Refused, Reply, Session, SessionOf}
+use Rattle.node_core.proofs.Names.{Some, State, StoredTransfer, Transfer, Transferred, activate_refusal, ap, arrived, begin_processing}
+use Rattle.node_core.proofs.Names.{begun, change_meaning, changes_in, changes_kept, cluster_place, contents_of, false, first_refusal}
+use Rattle.node_core.proofs.Names.{found_of, if◌then◌else◌, is_in, is_none, is_wrong_tag, map, meaning, missing_dependencies}
+use Rattle.node_core.proofs.Names.{names_fit_places, new_session, node_of, not, opened, option_map, option_map_or, option_or}
+use Rattle.node_core.proofs.Names.{package_reading, package_refusals, parts_of, parts_refusal, phase_code, phased, planned}
+use Rattle.node_core.proofs.Names.{process_refusal, refl, refusal_by, session_kept, session_meaning, session_refusals, should_run}
+use Rattle.node_core.proofs.Names.{slots_differ, some_passes, status_table, stored_header, stored_of, subst, sym, taken_up}
+use Rattle.node_core.proofs.Names.{transfer_meaning, transfer_of, true, unmet_among, unmet_kept, unwrap_or, with_length, [], ℕ, ◌++◌}
+use Rattle.node_core.proofs.Names.{◌==◌, ◌∙◌, ◌∷◌, ◌≡◌}
+use Rattle.node_laws.proofs.Lists.{each-append, each-first, both-none, found-has, is-transferred, not-false, rows-clear}
 use Rattle.node_laws.proofs.Sessions.{free-of}
+use Rattle.node_core.proofs.Stored.{copied-when, found-header, found-means, some-stored}
 use Rattle.node_core.proofs.Planned.{among-fit}
 use Rattle.node_core.proofs.Lists.{every}
-use Rattle.node_core.proofs.Stored.{found-header, found-means, some-stored}
 use Rattle.node_core.proofs.Arrived.{done-judged, led-judged, refused-judged}
 use Rattle.node_core.proofs.Natural.{parts-mean, parts-with-length, planned-means, unmet-means}
 use Rattle.node_core.proofs.Phased.{phased-means, phased-placed, phased-slots}
@@ -145,13 +141,12 @@ module _ (v : Holding) (sound : IsSound v) (client id tag : ℕ) (u : StoredTran
       }
 
   begun-copied : IsCopied package_reading v.areas (begun id (Some (takes_up v.state.session)) v.state)
-  begun-copied = every (λ t. in_phase t t.header.phase) (begun id (Some (takes_up v.state.session)) v.state).transfers
+  begun-copied =
+      every (λ t. copied-when v.areas next t t.header.phase (λ e. every (λ (part : Part Bytes). refl) (transfer_meaning package_reading v.areas t).parts))
+      next.transfers
     where
-      in_phase : (t : StoredTransfer) (phase : Phase) → IsCopiedIn package_reading v.areas (begun id (Some (takes_up v.state.session)) v.state) t phase
-      in_phase t Transferring = tt
-      in_phase t Transferred = tt
-      in_phase t BeingProcessed = every (λ (part : Part Bytes). refl) (transfer_meaning package_reading v.areas t).parts
-      in_phase t Processed = tt
+      next : State
+      next = begun id (Some (takes_up v.state.session)) v.state
 
 -- the session that was taken: the node's own, or the one that is ready
 taken-is : (o kept : Option (SessionOf Extent)) (x : SessionOf Extent) → (o ≡ None → kept ≡ Some x) → option_or o kept ≡ Some (unwrap_or o x)

@@ -1,23 +1,20 @@
 -- What copying the next unit of a package leaves, and makes ready.
-use Rattle.node_core.proofs.Names.{Action, AllByRecursion, Area, Areas, AreasFit, Bytes, Err, Extent, Holding, IfSome}
-use Rattle.node_core.proofs.Names.{Install, IsArea, IsCopiedIn, IsKept, IsNextUnit, IsPackageReady, IsPartCopied}
-use Rattle.node_core.proofs.Names.{IsPartReady, IsReservedWork, IsSound, IsUnitOf, LeavesOutside, Manifest, NextUnit}
-use Rattle.node_core.proofs.Names.{None, Ok, OnOk, Option, Package, Part, Processing, Remove, Result, SessionOf, Side}
-use Rattle.node_core.proofs.Names.{Some, State, StoredTransfer, Transfer as MeantTransfer, Update, ap, arith}
-use Rattle.node_core.proofs.Names.{block_limit, change_due, change_kept, change_next, content_of, drop, drop-drop}
-use Rattle.node_core.proofs.Names.{drop-take, extent_in, extent_next, from_be_bytes, goes_to, has_cluster}
-use Rattle.node_core.proofs.Names.{if◌then◌else◌, is_of, length, length-drop, length-take, min, number_at}
-use Rattle.node_core.proofs.Names.{overwritten, package_limit, package_reading, payload_place, payload_start, refl}
-use Rattle.node_core.proofs.Names.{slice_range, stored_of, subst, suits, sym, take, take-add, take-take, take_min}
-use Rattle.node_core.proofs.Names.{transfer_meaning, true, unit_end, w32, with_content, with_length, [], ℕ, ◌*◌, ◌++◌}
-use Rattle.node_core.proofs.Names.{◌+◌, ◌-◌, ◌<◌, ◌∙◌, ◌≡◌, ◌≢◌, ◌≤◌}
+use Rattle.node_core.proofs.Names.{Action, AllByRecursion, Area, Areas, AreasFit, Bytes, Err, Extent, Holding, IfSome, Install, IsArea}
+use Rattle.node_core.proofs.Names.{IsCopiedIn, IsKept, IsNextUnit, IsPackageReady, IsPartCopied, IsPartReady, IsReservedWork, IsSound}
+use Rattle.node_core.proofs.Names.{IsUnitOf, LeavesOutside, Manifest, NextUnit, None, Ok, OnOk, Option, Package, Part, Processing}
+use Rattle.node_core.proofs.Names.{Remove, Result, SessionOf, Side, Some, State, StoredTransfer, Transfer as MeantTransfer, Update, ap}
+use Rattle.node_core.proofs.Names.{arith, block_limit, change_due, change_kept, change_next, content_of, drop, drop-drop, drop-take}
+use Rattle.node_core.proofs.Names.{extent_in, extent_next, from_be_bytes, goes_to, has_cluster, if◌then◌else◌, is_of, length}
+use Rattle.node_core.proofs.Names.{length-drop, length-take, min, number_at, overwritten, package_limit, package_reading, payload_place}
+use Rattle.node_core.proofs.Names.{payload_start, refl, slice_range, stored_of, subst, suits, sym, take, take-add, take-take, take_min}
+use Rattle.node_core.proofs.Names.{transfer_meaning, true, unit_end, w32, with_content, with_length, [], ℕ, ◌*◌, ◌++◌, ◌+◌, ◌-◌, ◌<◌}
+use Rattle.node_core.proofs.Names.{◌∙◌, ◌≡◌, ◌≢◌, ◌≤◌}
 use Rattle.package_reader.specs.Reading.{reading}
 use Rattle.transfer_blocks.specs.declared.area.Area.TheVariants.{Transfer}
 use Rattle.transfer_blocks.proofs.Bytes.{before-stands, take-overwritten}
 use Rattle.node_laws.proofs.Lists.{found-has}
 use Rattle.transfer_blocks.proofs.Areas.{content-here}
-use Rattle.node_core.proofs.Handled.{hand-copied, InHand, at_process, begin-within, busy, bytes_of, in-hand, part_of}
-use Rattle.node_core.proofs.Handled.{payload-is}
+use Rattle.node_core.proofs.Handled.{hand-copied, InHand, at_process, begin-within, busy, bytes_of, in-hand, part_of, payload-is}
 use Rattle.node_core.proofs.Worked.{at-work, sound-at}
 use Rattle.node_core.proofs.Staging.{came-lies, slot-is}
 use Rattle.node_core.proofs.Lastly.{change-extent, short, there-is}

@@ -1,7 +1,7 @@
 -- How many different names there are, one name more at a time.
-use Rattle.node_core.proofs.Names.{Bool, Change, Cluster, Extent, List, added, ap, arith, changed_names, cluster_of}
-use Rattle.node_core.proofs.Names.{count_of, drop, false, get_or, has_cluster, if◌then◌else◌, is_planned, length, map}
-use Rattle.node_core.proofs.Names.{subst, sym, take, take_rest, true, [], ℕ, ◌++◌, ◌+◌, ◌-◌, ◌||◌, ◌∙◌, ◌∷◌, ◌≡◌, ◌≤◌}
+use Rattle.node_core.proofs.Names.{Change, Cluster, Extent, List, added, ap, arith, changed_names, cluster_of, count_of, drop, get_or}
+use Rattle.node_core.proofs.Names.{if◌then◌else◌, length, map, subst, sym, take, take_rest, [], ℕ, ◌++◌, ◌+◌, ◌-◌, ◌||◌, ◌∙◌, ◌∷◌, ◌≡◌}
+use Rattle.node_core.proofs.Names.{◌≤◌}
 use Rattle.node_laws.proofs.NameLists.{has-append}
 use Rattle.node_core.proofs.Named.{has-named, one-named}
 
@@ -22,11 +22,7 @@ change-more change changes =
     ∙ ap (λ b. (if b then 0 else 1) + count_of [] changes) (has-named (λ (d : Change Extent). cluster_of d.part) changes (cluster_of change.part))
 
 pub one-at-most : (clusters : List (Cluster Extent)) (changes : List (Change Extent)) (name : List ℕ) → added clusters changes name ≤ 1
-one-at-most clusters changes name = by (has_cluster clusters name || is_planned changes name)
-  where
-    by : (b : Bool) → (if b then 0 else 1) ≤ 1
-    by true = omega arith
-    by false = omega arith
+one-at-most clusters changes name = grind arith
 
 -- a list without its first
 abbrev pub rest_of : {X : Type 0} → List X → List X

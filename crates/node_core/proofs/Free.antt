@@ -1,9 +1,8 @@
 -- A place is free where the names are few.
-use Rattle.node_core.proofs.Names.{AllByRecursion, Bool, List, None, Option, Some, all_differ, all_places, and_parts}
-use Rattle.node_core.proofs.Names.{ap, arith, beq, booleans_Decides, both_true, bytes_eq, cluster_limit}
-use Rattle.node_core.proofs.Names.{different_names, eq-eqb, eqb-true, false, find, has_name, if◌then◌else◌, length}
-use Rattle.node_core.proofs.Names.{list_all, list_any, map, names_fit_places, nat_tests, not, option_map_or, refl}
-use Rattle.node_core.proofs.Names.{slots_differ, sym, true, [], ℕ, ◌==◌, ◌||◌, ◌∙◌, ◌∷◌, ◌≡◌, ◌≤◌}
+use Rattle.node_core.proofs.Names.{AllByRecursion, Bool, List, None, Option, Some, all_differ, all_places, and_parts, ap, arith, beq}
+use Rattle.node_core.proofs.Names.{booleans_Decides, both_true, bytes_eq, cluster_limit, different_names, eq-eqb, eqb-true, false, find}
+use Rattle.node_core.proofs.Names.{has_name, if◌then◌else◌, length, list_all, list_any, map, names_fit_places, nat_tests, not}
+use Rattle.node_core.proofs.Names.{option_map_or, refl, slots_differ, sym, true, [], ℕ, ◌==◌, ◌||◌, ◌∙◌, ◌∷◌, ◌≡◌, ◌≤◌}
 use Rattle.node_laws.proofs.Lists.{each-map, each-unmap, not-false, each-both, each-imp, found-has, not-true}
 use Rattle.transfer_blocks.proofs.Lists.{none-passes}
 use Rattle.node_laws.proofs.NameLists.{within-self, Within, eq-name, has-within, name-swap, within-trans}
@@ -33,6 +32,9 @@ fits-each pairs each =
     each-all (λ a. list_all (fits a) pairs) pairs
     (each-imp _ _ (λ a h. each-all (fits a) pairs (each-imp _ _ (λ b k. (booleans_Decides (bytes_eq a.0 b.0) (a.1 == b.1)).1 k) pairs h)) pairs each)
 
+flip : (m n : ℕ) → (m == n) ≡ false → (n == m) ≡ false
+flip m n e = grind (arith, nat_tests, e)
+
 -- a pair with a name and a place of its own fits the others
 pub fits-onto : (a : Pair) (pairs : List Pair) → AllByRecursion (λ b. (bytes_eq a.0 b.0 ≡ false) × ((a.1 == b.1) ≡ false)) pairs
     → names_fit_places pairs ≡ true → names_fit_places (a ∷ pairs) ≡ true
@@ -40,9 +42,6 @@ fits-onto a pairs apart fit = fits-each (a ∷ pairs) (
   (eq-name a.0 a.0 refl ∙ sym (eq-eqb a.1 a.1 refl), each-imp _ _ (λ b h. h.0 ∙ sym h.1) pairs apart),
   each-both _ _ _ (λ b h k. ((name-swap b.0 a.0 ∙ h.0 ∙ sym (flip a.1 b.1 h.1)), k)) pairs apart (each-fits pairs fit),
 )
-  where
-    flip : (m n : ℕ) → (m == n) ≡ false → (n == m) ≡ false
-    flip m n e = grind (arith, nat_tests, e)
 
 -- each pair's name is one of the names
 own-names : (pairs : List Pair) → AllByRecursion (λ a. has_name (map (λ p. p.0) pairs) a.0 ≡ true) pairs
@@ -77,23 +76,16 @@ module _ (pairs : List Pair) (fit : AllByRecursion (FitsAll pairs) pairs) where
       let parts = and_parts (list_all (λ other. not (other == p)) ps) (slots_differ ps) d in
       both_true (ap not (none ps t.1 parts.0)) (names-differ ps t.1 parts.1)
     where
-      apart : (q : ℕ) → (q == p) ≡ false → (p == q) ≡ false
-      apart q e = grind (arith, nat_tests, e)
-
       none : (qs : List ℕ) → AllByRecursion (λ q. is_taken pairs q ≡ true) qs → list_all (λ other. not (other == p)) qs ≡ true → has_name (map (name_at pairs) qs) (name_at pairs p) ≡ false
       none [] t e = refl
       none (q ∷ qs) u e =
           let parts = and_parts (not (q == p)) (list_all (λ other. not (other == p)) qs) e in
-          (λ i. (two-names p q t.0 u.0 ∙ apart q (not-true _ parts.0)) i || none qs u.1 parts.1 i)
+          (λ i. (two-names p q t.0 u.0 ∙ flip q p (not-true _ parts.0)) i || none qs u.1 parts.1 i)
 
   -- a name that isn't there
   other-name : (n : List ℕ) → has_name (map (λ (a : Pair). a.0) pairs) n ≡ false
       → (ns : List (List ℕ)) → Within ns (map (λ (a : Pair). a.0) pairs) → has_name ns n ≡ false
-  other-name n new ns within = go (has_name ns n) refl
-    where
-      go : (b : Bool) → has_name ns n ≡ b → b ≡ false
-      go false e = refl
-      go true e = absurd (let z = sym new ∙ has-within ns (map (λ (a : Pair). a.0) pairs) n within e in let f : ⊥ = cc in f)
+  other-name n new ns within = grind (arith, has-within ns (map (λ (a : Pair). a.0) pairs) n within)
 
   all-taken : (ps : List ℕ) → find (λ p. not (is_taken pairs p)) ps ≡ None → AllByRecursion (λ p. is_taken pairs p ≡ true) ps
   all-taken ps e = each-imp _ _ (λ p k. not-false _ k) ps (none-passes (λ p. not (is_taken pairs p)) ps e)
@@ -116,8 +108,5 @@ module _ (pairs : List Pair) (fit : AllByRecursion (FitsAll pairs) pairs) where
 pub fresh-fits : (pairs : List Pair) (n : List ℕ) (place : ℕ) → names_fit_places pairs ≡ true
     → has_name (map (λ (a : Pair). a.0) pairs) n ≡ false → is_taken pairs place ≡ false → names_fit_places ((n, place) ∷ pairs) ≡ true
 fresh-fits pairs n place fit new free =
-    fits-onto (n, place) pairs (each-both _ _ _ (λ a h k. (h, flip a.1 k)) pairs (none-named (λ (a : Pair). a.0) pairs n new)
+    fits-onto (n, place) pairs (each-both _ _ _ (λ a h k. (h, flip a.1 place k)) pairs (none-named (λ (a : Pair). a.0) pairs n new)
     (none-any (λ (a : Pair). a.1 == place) pairs free)) fit
-  where
-    flip : (m : ℕ) → (m == place) ≡ false → (place == m) ≡ false
-    flip m e = grind (arith, nat_tests, e)

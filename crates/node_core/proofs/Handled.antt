@@ -1,20 +1,18 @@
 -- What a unit of a package leaves of a sound node.
-use Rattle.node_core.proofs.Names.{AllByRecursion, Areas, BeingProcessed, Bool, Bytes, Err, Extent, Holding, IfSome}
-use Rattle.node_core.proofs.Names.{IsCopiedIn, IsPackageReady, IsPartCopied, IsPartReady, IsRead, IsSomeAnd, IsSound}
-use Rattle.node_core.proofs.Names.{IsUnit, IsUnitReady, IsWholeFromTransferred, List, Manifest, NodeState, None, Ok}
-use Rattle.node_core.proofs.Names.{Option, Package, PackageFault, Part, Phase, Prepared, Processed, Processing}
-use Rattle.node_core.proofs.Names.{Result, SessionOf, Some, State, StoredTransfer, Transfer, Transferred}
-use Rattle.node_core.proofs.Names.{Transferring, all_units, ap, arith, block_limit, content_of, drop, eq-eqb, goes_to}
-use Rattle.node_core.proofs.Names.{if◌then◌else◌, is_in, is_of, length, length-drop, length-take, ltb-true, map}
-use Rattle.node_core.proofs.Names.{nat_lt, nat_tests, node_of, number_at, option_map, package_reading, parts_of}
-use Rattle.node_core.proofs.Names.{parts_read, payload_in, payload_place, phase_code, processed, refl}
-use Rattle.node_core.proofs.Names.{session_meaning, slice_index_or, stored_of, stored_units, subst, sum_by-cons, sym}
-use Rattle.node_core.proofs.Names.{take, transfer_meaning, transfer_of, true, unit, unit_end, units_of, unless}
-use Rattle.node_core.proofs.Names.{verdict_of, with_length, [], ℕ, ◌*◌, ◌+◌, ◌<◌, ◌==◌, ◌∙◌, ◌∷◌, ◌≡◌, ◌≤◌}
+use Rattle.node_core.proofs.Names.{AllByRecursion, Areas, BeingProcessed, Bool, Bytes, Err, Extent, Holding, IfSome, IsCopiedIn}
+use Rattle.node_core.proofs.Names.{IsPackageReady, IsPartCopied, IsPartReady, IsRead, IsSomeAnd, IsSound, IsUnit, IsUnitReady}
+use Rattle.node_core.proofs.Names.{IsWholeFromTransferred, List, Manifest, NodeState, None, Ok, Option, Package, PackageFault, Part}
+use Rattle.node_core.proofs.Names.{Prepared, Processing, Result, SessionOf, Some, State, StoredTransfer, Transfer, all_units, ap, arith}
+use Rattle.node_core.proofs.Names.{block_limit, content_of, drop, eq-eqb, goes_to, if◌then◌else◌, is_in, is_of, length, length-drop}
+use Rattle.node_core.proofs.Names.{length-take, ltb-true, map, nat_lt, nat_tests, node_of, number_at, option_map, package_reading}
+use Rattle.node_core.proofs.Names.{parts_of, parts_read, payload_in, payload_place, phase_code, processed, refl, session_meaning}
+use Rattle.node_core.proofs.Names.{slice_index_or, stored_of, stored_units, subst, sum_by-cons, sym, take, transfer_meaning}
+use Rattle.node_core.proofs.Names.{transfer_of, true, unit, unit_end, units_of, unless, verdict_of, with_length, [], ℕ, ◌*◌, ◌+◌, ◌<◌}
+use Rattle.node_core.proofs.Names.{◌==◌, ◌∙◌, ◌∷◌, ◌≡◌, ◌≤◌}
 use Rattle.package_reader.specs.Reading.{reading}
 use Rattle.node_laws.proofs.Lists.{each-both, each-imp, each-unmap, found-has, is-processing}
+use Rattle.node_core.proofs.Stored.{copied-when, rise, found-is, found-means, only}
 use Rattle.node_core.proofs.Arrived.{goes-by, marked-order}
-use Rattle.node_core.proofs.Stored.{rise, found-is, found-means, only}
 use Rattle.node_core.proofs.Worked.{at_work, moved}
 
 -- the session with a package in processing
@@ -128,22 +126,18 @@ module _ (v : Holding) (x : SessionOf Extent) (id : ℕ) (p : Prepared) (sound :
   -- what is copied of the part in hand is all that need be, while transfers mean the same
   pub hand-copied : (areas : Areas) (s : State) → ((t : StoredTransfer) → transfer_meaning package_reading areas t ≡ transfer_meaning package_reading v.areas t)
       → IsPartCopied areas s (part_of h.pack) → AllByRecursion (λ t. IsCopiedIn package_reading areas s t t.header.phase) v.state.transfers
-  hand-copied areas s reads own = each-both _ _ _ (λ t due same. copied t t.header.phase due same) v.state.transfers
+  hand-copied areas s reads own = each-both _ _ _ (λ t due same. copied-when areas s t t.header.phase (λ e. parts t (same (this t due e)))) v.state.transfers
       (each-unmap (λ (t : Transfer). is_in BeingProcessed t.header ≡ (id == t.header.id)) (transfer_meaning package_reading v.areas) v.state.transfers
       sound.fit.consistent.processing.each)
       (only x.owner id v.state.transfers h.transfer (rise (at_process v x id) sound) h.is)
     where
-      flip : (n : ℕ) → true ≡ (id == n) → (n == id) ≡ true
-      flip n e = grind (arith, nat_tests, sym e)
+      this : (t : StoredTransfer) → is_in BeingProcessed t.header ≡ (id == t.header.id) → t.header.phase ≡ BeingProcessed → (t.header.id == id) ≡ true
+      this t due e = let z = ap (λ p. phase_code p == 2) (sym e) ∙ due in grind (arith, nat_tests, sym z)
 
-      copied : (t : StoredTransfer) (phase : Phase) → (phase_code phase == 2) ≡ (id == t.header.id) → ((t.header.id == id) ≡ true → t ≡ h.transfer)
-          → IsCopiedIn package_reading areas s t phase
-      copied t Transferring due same = tt
-      copied t Transferred due same = tt
-      copied t BeingProcessed due same =
-          subst (λ (u : StoredTransfer). AllByRecursion (IsPartCopied areas s) (transfer_meaning package_reading areas u).parts) (sym (same (flip t.header.id due)))
-          (subst (AllByRecursion (IsPartCopied areas s)) (sym (ap (λ (k : Transfer). k.parts) (reads h.transfer) ∙ h.parts)) (own, tt))
-      copied t Processed due same = tt
+      parts : (t : StoredTransfer) → t ≡ h.transfer → AllByRecursion (IsPartCopied areas s) (transfer_meaning package_reading areas t).parts
+      parts t same =
+          subst (AllByRecursion (IsPartCopied areas s))
+          (sym (ap (λ (u : StoredTransfer). (transfer_meaning package_reading areas u).parts) same ∙ ap (λ (k : Transfer). k.parts) (reads h.transfer) ∙ h.parts)) (own, tt)
 
   -- what the unit does
   pub unit-done : (passed more : Bool) → nat_lt (x.units_done + 1) (units_of (length h.pack.payload)) ≡ more → unit (node_of (at_process v x id)) passed ≡ process_at (part_of h.pack ∷ []) more

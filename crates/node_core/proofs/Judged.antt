@@ -1,21 +1,18 @@
 -- A call on the table of transfers is judged as the node's table says.
-use Rattle.node_core.proofs.Names.{AllByRecursion, Areas, Bad, Call, DeleteTransfer, Done, Err, ExitVerdict, Good}
-use Rattle.node_core.proofs.Names.{Holding, IsBehind, IsCopied, IsCopiedIn, IsInOrder, IsJudged, IsReady, IsSound}
-use Rattle.node_core.proofs.Names.{IsTable, IsVerdictKept, List, None, Ok, Option, Prepared, Refusal, Reply, Some}
-use Rattle.node_core.proofs.Names.{Started, StoredTransfer, Table, Transfer, TransferData, TransferExit}
-use Rattle.node_core.proofs.Names.{TransferStart, Transferred, Transferring, Verdict, acceptance, accepted}
-use Rattle.node_core.proofs.Names.{after_reply, ap, bad_refusal, data_refusals, delete_refusals, exit_refusals}
-use Rattle.node_core.proofs.Names.{first_refusal, good_parts, grown, header_of, if◌then◌else◌, in_phase, is_in, is_of}
-use Rattle.node_core.proofs.Names.{length, length-map, map, map-append, node_of, not, option_map, option_map_or}
-use Rattle.node_core.proofs.Names.{option_or, package_reading, parts_read, phase_code, received, refl, refusal_by}
-use Rattle.node_core.proofs.Names.{refused_or, slice_index_or, some_passes, start_refusals, stored_header, stored_of}
-use Rattle.node_core.proofs.Names.{subst, sym, table_of, take, transfer_meaning, transfer_of, unless_refused}
-use Rattle.node_core.proofs.Names.{verdict_in, verdict_kept, verdict_on, verdict_refusal, whole, with_fresh}
-use Rattle.node_core.proofs.Names.{with_length, with_stored, with_table, with_transfer, without, [], ℕ, ◌++◌, ◌+◌}
-use Rattle.node_core.proofs.Names.{◌==◌, ◌∙◌, ◌≡◌}
+use Rattle.node_core.proofs.Names.{AllByRecursion, Areas, Bad, Call, DeleteTransfer, Done, Err, ExitVerdict, Good, Holding, IsBehind}
+use Rattle.node_core.proofs.Names.{IsCopied, IsCopiedIn, IsInOrder, IsJudged, IsReady, IsSound, IsTable, IsVerdictKept, List, None, Ok}
+use Rattle.node_core.proofs.Names.{Option, Prepared, Refusal, Reply, Some, Started, StoredTransfer, Table, Transfer, TransferData}
+use Rattle.node_core.proofs.Names.{TransferExit, TransferStart, Transferred, Transferring, Verdict, acceptance, accepted, after_reply}
+use Rattle.node_core.proofs.Names.{ap, bad_refusal, data_refusals, delete_refusals, exit_refusals, first_refusal, good_parts, grown}
+use Rattle.node_core.proofs.Names.{header_of, if◌then◌else◌, in_phase, is_in, is_of, length, length-map, map, map-append, node_of, not}
+use Rattle.node_core.proofs.Names.{option_map, option_map_or, option_or, package_reading, parts_read, phase_code, received, refl}
+use Rattle.node_core.proofs.Names.{refusal_by, refused_or, slice_index_or, some_passes, start_refusals, stored_header, stored_of, subst}
+use Rattle.node_core.proofs.Names.{sym, table_of, take, transfer_meaning, transfer_of, unless_refused, verdict_in, verdict_kept}
+use Rattle.node_core.proofs.Names.{verdict_on, verdict_refusal, whole, with_fresh, with_length, with_stored, with_table, with_transfer}
+use Rattle.node_core.proofs.Names.{without, [], ℕ, ◌++◌, ◌+◌, ◌==◌, ◌∙◌, ◌≡◌}
 use Rattle.transfer_blocks.proofs.Meanings.{filter-means, header-means}
-use Rattle.node_laws.proofs.Lists.{each-append, each-both, found-has, each-filter, each-imp, rows-clear, both-none}
-use Rattle.node_laws.proofs.Lists.{not-false, is-transferring}
+use Rattle.node_laws.proofs.Lists.{each-append, each-both, found-has, each-filter, each-imp, rows-clear, both-none, not-false}
+use Rattle.node_laws.proofs.Lists.{is-transferring}
 use Rattle.node_core.proofs.Arrived.{refused-judged}
 use Rattle.node_core.proofs.Stored.{rise, found-is, only-has, changed-means, found-means, some-stored, staged-bytes}
 use Rattle.node_core.proofs.Lists.{change-each}
@@ -144,18 +141,18 @@ block-judged v client id counter block reply table sound ready form answers tabl
 -- a verdict that is ready refuses as the bytes do
 same-verdict : (o : Option Refusal) (kept : Option ExitVerdict) (w : Verdict) → (o ≡ None → IsVerdictKept kept w) → option_or o (verdict_refusal w) ≡ option_or o (bad_refusal (verdict_in kept))
 same-verdict (Some r) kept w ready = refl
-same-verdict None None w ready = elim (ready refl) [ ]
-same-verdict None (Some (Good c)) (Ok parts) ready = refl
-same-verdict None (Some (Good c)) (Err why) ready = elim (ready refl) [ ]
-same-verdict None (Some (Bad r)) (Ok parts) ready = elim (ready refl) [ ]
-same-verdict None (Some (Bad r)) (Err why) ready = ap Some (sym (ready refl))
+same-verdict None kept w ready = of kept w (ready refl)
+  where
+    of : (kept : Option ExitVerdict) (w : Verdict) → IsVerdictKept kept w → verdict_refusal w ≡ bad_refusal (verdict_in kept)
+    of (Some (Good c)) (Ok parts) r = refl
+    of (Some (Bad r)) (Err why) e = ap Some (sym e)
+    of _ _ r = elim r [ ]
 
 -- the parts of a good verdict are those of the bytes
 good-parts-are : (kept : Option ExitVerdict) (w : Verdict) → IsVerdictKept kept w → bad_refusal (verdict_in kept) ≡ None → good_parts (verdict_in kept) ≡ map with_length (parts_read w)
-good-parts-are None w e k = elim e [ ]
 good-parts-are (Some (Good c)) (Ok parts) e k = sym e
-good-parts-are (Some (Good c)) (Err why) e k = elim e [ ]
 good-parts-are (Some (Bad r)) w e k = absurd (cc)
+good-parts-are _ _ e k = elim e [ ]
 
 -- TransferExit
 pub exit-judged : (v : Holding) (client id : ℕ) (reply : Reply) (table : Table) → IsSound v → IsReady v client (TransferExit id) → IsTable table

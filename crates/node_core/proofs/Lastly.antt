@@ -1,20 +1,17 @@
 -- What the last unit of a package leaves of a sound node.
-use Rattle.node_core.proofs.Names.{Action, AllByRecursion, Areas, BeingProcessed, Bool, Bytes, Change, Cluster}
-use Rattle.node_core.proofs.Names.{Extent, Holding, Install, IsExtent, IsReservedWork, IsSound, IsUnit, IsUnitReady}
-use Rattle.node_core.proofs.Names.{List, Manifest, None, Option, Part, Prepared, Processed, Processing, Ready, Remove}
-use Rattle.node_core.proofs.Names.{SessionOf, Some, State, Status, StoredTransfer, Table, Transfer, Update}
-use Rattle.node_core.proofs.Names.{all_differ, all_places, ap, append-nil, applies, arith, block_limit, bytes_eq}
-use Rattle.node_core.proofs.Names.{change_kept, change_meaning, change_place, change_to, cluster_at, cluster_limit}
-use Rattle.node_core.proofs.Names.{cluster_meaning, cluster_of, cluster_place, content_of, different_names, eq-eqb}
-use Rattle.node_core.proofs.Names.{extent_in, false, goes_to, has_cluster, has_name, if◌then◌else◌, is_in, is_of}
-use Rattle.node_core.proofs.Names.{le-ltb, length, length-append, length-map, length-take, lowest_free, lt-ltb}
-use Rattle.node_core.proofs.Names.{ltb-false, ltb-true, map, map-append, map-map, moved as moved_to, names_fit_places}
-use Rattle.node_core.proofs.Names.{nat_lt, nat_tests, node_of, not, on_side, option_map_or, package_limit}
-use Rattle.node_core.proofs.Names.{package_reading, parts_in, phase_code, places_in, refl, running_at}
-use Rattle.node_core.proofs.Names.{session_meaning, slice_index_or, stored_of, stored_units, subst, suits, sym}
-use Rattle.node_core.proofs.Names.{table_of, take, take_all, takes_side, transfer_meaning, true, unit_end, units_of}
-use Rattle.node_core.proofs.Names.{unwrap_or, with_length, with_stored, with_table, [], ℕ, ◌*◌, ◌++◌, ◌+◌, ◌-◌, ◌<◌}
-use Rattle.node_core.proofs.Names.{◌==◌, ◌^◌, ◌||◌, ◌∙◌, ◌∷◌, ◌≡◌, ◌≤◌}
+use Rattle.node_core.proofs.Names.{Action, AllByRecursion, Areas, BeingProcessed, Bool, Bytes, Change, Cluster, Extent, Holding}
+use Rattle.node_core.proofs.Names.{Install, IsExtent, IsReservedWork, IsSound, IsUnit, IsUnitReady, List, Manifest, None, Option, Part}
+use Rattle.node_core.proofs.Names.{Prepared, Processed, Processing, Ready, Remove, SessionOf, Some, State, Status, StoredTransfer}
+use Rattle.node_core.proofs.Names.{Table, Transfer, Update, all_differ, all_places, ap, append-nil, applies, arith, block_limit}
+use Rattle.node_core.proofs.Names.{bytes_eq, change_kept, change_meaning, change_place, change_to, cluster_at, cluster_limit}
+use Rattle.node_core.proofs.Names.{cluster_meaning, cluster_of, cluster_place, content_of, different_names, eq-eqb, extent_in, false}
+use Rattle.node_core.proofs.Names.{goes_to, has_cluster, has_name, if◌then◌else◌, is_in, is_of, le-ltb, length, length-append}
+use Rattle.node_core.proofs.Names.{length-map, length-take, lowest_free, lt-ltb, ltb-false, ltb-true, map, map-append, map-map}
+use Rattle.node_core.proofs.Names.{moved as moved_to, names_fit_places, nat_lt, nat_tests, node_of, not, on_side, option_map_or}
+use Rattle.node_core.proofs.Names.{package_limit, package_reading, parts_in, phase_code, places_in, refl, running_at, session_meaning}
+use Rattle.node_core.proofs.Names.{slice_index_or, stored_of, stored_units, subst, suits, sym, table_of, take, take_all, takes_side}
+use Rattle.node_core.proofs.Names.{transfer_meaning, true, unit_end, units_of, unwrap_or, with_length, with_stored, with_table, [], ℕ}
+use Rattle.node_core.proofs.Names.{◌*◌, ◌++◌, ◌+◌, ◌-◌, ◌<◌, ◌==◌, ◌^◌, ◌||◌, ◌∙◌, ◌∷◌, ◌≡◌, ◌≤◌}
 use Rattle.node_laws.proofs.Lists.{each-append, each-first, each-imp, each-map, each-unmap, found-has, not-true}
 use Rattle.node_laws.proofs.NameLists.{Within, has-append, name-eq, within-left, within-right, within-self}
 use Rattle.node_core.proofs.Lists.{all-each, each-all, any-found, each-second}
@@ -23,8 +20,8 @@ use Rattle.node_core.proofs.Phased.{phased-means, phased-placed, phased-slots}
 use Rattle.node_core.proofs.Sound.{table-is}
 use Rattle.node_core.proofs.Worked.{none-copied, ready-at, sound-at, unit-at}
 use Rattle.node_core.proofs.Free.{Pair, each-fits, free-place, fresh-fits, is_taken}
-use Rattle.node_core.proofs.Handled.{InHand, at_process, busy, bytes_of, end-last, in-hand, more-unit, part-ready}
-use Rattle.node_core.proofs.Handled.{part_of, parts-found, payload-fits, stored-one, unit-done}
+use Rattle.node_core.proofs.Handled.{InHand, at_process, busy, bytes_of, end-last, in-hand, more-unit, part-ready, part_of, parts-found}
+use Rattle.node_core.proofs.Handled.{payload-fits, stored-one, unit-done}
 use Rattle.node_core.proofs.Natural.{has-means}
 use Rattle.node_core.proofs.Planned.{among-fit}
 

@@ -1,7 +1,7 @@
 -- Which names things have, and how many different ones there are.
-use Rattle.node_core.proofs.Names.{AllByRecursion, List, all_differ, and_parts, ap, arith, bytes_eq, different_names}
-use Rattle.node_core.proofs.Names.{false, has_name, if◌then◌else◌, length, list_any, map, not, refl, subst, sym, true}
-use Rattle.node_core.proofs.Names.{[], ℕ, ◌++◌, ◌+◌, ◌||◌, ◌∙◌, ◌∷◌, ◌≡◌, ◌≤◌}
+use Rattle.node_core.proofs.Names.{AllByRecursion, List, all_differ, and_parts, ap, arith, bytes_eq, different_names, false, has_name}
+use Rattle.node_core.proofs.Names.{if◌then◌else◌, length, list_any, map, not, refl, subst, sym, true, [], ℕ, ◌++◌, ◌+◌, ◌||◌, ◌∙◌, ◌∷◌}
+use Rattle.node_core.proofs.Names.{◌≡◌, ◌≤◌}
 use Rattle.node_laws.proofs.Lists.{each-imp, neither, not-true}
 use Rattle.node_laws.proofs.NameLists.{Within, fewer-within, has-append, name-swap}
 use Rattle.node_core.proofs.Lists.{none-any}

@@ -1,23 +1,19 @@
 -- The words of the definitions and of the library that these proofs use.
 pub use Rattle.dependency_check.specs.Clusters.{needing}
-pub use Rattle.history_query.specs.Shown.{EachIsUnfinished, changes_planned, progress_answer, progress_at, shown_change}
-pub use Rattle.history_query.specs.Shown.{shown_cluster, shown_transfer}
+pub use Rattle.history_query.specs.Shown.{EachIsUnfinished, changes_planned, progress_answer, progress_at, shown_change, shown_cluster}
+pub use Rattle.history_query.specs.Shown.{shown_transfer}
 pub use Rattle.manifest.specs.Form.{manifest_of}
-pub use Rattle.node_core.specs.Core.{Holding, IsBehind, IsJudged, IsKept, IsReady, IsSound, holding, mark_of, node_of}
-pub use Rattle.node_core.specs.Core.{refusal_by, reply_by, step_by, table_of, verdict_on, with_table}
+pub use Rattle.node_core.specs.Core.{Holding, IsBehind, IsJudged, IsKept, IsReady, IsSound, holding, mark_of, node_of, refusal_by, reply_by}
+pub use Rattle.node_core.specs.Core.{step_by, table_of, verdict_on, with_table}
 pub use Rattle.node_core.specs.Format.{AreInstalled, in_order, named_before, placed, placed_from}
 pub use Rattle.node_core.specs.Packages.{package_reading, verdict_of}
-pub use Rattle.node_core.specs.Places.{IsCopied, IsCopiedIn, IsPartCopied, all_places, goes_to, lowest_free, running_at}
-pub use Rattle.node_core.specs.Places.{units_done}
-pub use Rattle.node_core.specs.Prepared.{IsVerdict, IsVerdictKept, session_kept, unmet_kept, verdict_in, verdict_kept}
-pub use Rattle.node_core.specs.Prepared.{with_length}
-pub use Rattle.node_core.specs.Sessions.{OnlyLeads, added, arrived, begun, changed_names, changes_kept, cleaning_up}
-pub use Rattle.node_core.specs.Sessions.{contents_of, count_of, is_planned, missing_dependencies, needing_of, opened}
-pub use Rattle.node_core.specs.Sessions.{package_refusals, paused, phased, stopped, taken_up}
-pub use Rattle.node_core.specs.Units.{IsNextUnit, IsPackageReady, IsPartReady, IsReservedWork, IsUnit, IsUnitOf}
-pub use Rattle.node_core.specs.Units.{IsUnitReady, after_work, answer_to, change_due, change_kept, change_next, change_to}
-pub use Rattle.node_core.specs.Units.{clusters_kept, extent_in, extent_next, payload_start, picks, session_takes}
-pub use Rattle.node_core.specs.Units.{stored_units, unit_end}
+pub use Rattle.node_core.specs.Places.{IsCopied, IsCopiedIn, IsPartCopied, all_places, goes_to, lowest_free, running_at, units_done}
+pub use Rattle.node_core.specs.Prepared.{IsVerdict, IsVerdictKept, session_kept, unmet_kept, verdict_in, verdict_kept, with_length}
+pub use Rattle.node_core.specs.Sessions.{OnlyLeads, added, arrived, begun, changed_names, changes_kept, cleaning_up, contents_of, count_of}
+pub use Rattle.node_core.specs.Sessions.{missing_dependencies, needing_of, opened, package_refusals, paused, phased, stopped, taken_up}
+pub use Rattle.node_core.specs.Units.{IsNextUnit, IsPackageReady, IsPartReady, IsReservedWork, IsUnit, IsUnitOf, IsUnitReady, after_work}
+pub use Rattle.node_core.specs.Units.{answer_to, change_due, change_kept, change_next, change_to, clusters_kept, extent_in, extent_next}
+pub use Rattle.node_core.specs.Units.{payload_start, picks, session_takes, stored_units, unit_end}
 pub use Rattle.node_core.specs.declared.copying.NextUnit.{NextUnit}
 pub use Rattle.node_core.specs.declared.prepared.Prepared.{Prepared}
 pub use Rattle.node_laws.specs.Fit.{IsFit, IsRead, IsReading}
@@ -25,31 +21,27 @@ pub use Rattle.package_reader.specs.Fields.{number_at, payload_in, payload_place
 pub use Rattle.package_reader.specs.Reading.{content_faults, field_faults, first_fault, is_payload_of, is_remove, unless}
 pub use Rattle.package_reader.specs.declared.fault.PackageFault.{PackageFault}
 pub use Rattle.package_reader.specs.declared.package.Package.{Package}
-pub use Rattle.pm_types.specs.Clusters.{all_units, brought, changed_as, changed_by, cluster_at, cluster_of, has_cluster}
-pub use Rattle.pm_types.specs.Clusters.{planned, units_of, unmet_among, with_cluster}
+pub use Rattle.pm_types.specs.Clusters.{all_units, brought, changed_as, changed_by, cluster_at, cluster_of, has_cluster, planned, units_of}
+pub use Rattle.pm_types.specs.Clusters.{unmet_among, with_cluster}
 pub use Rattle.pm_types.specs.Histories.{Reading, formatted, unit_passes}
-pub use Rattle.pm_types.specs.NodeState.{NodeState, Session, SessionOf, Transfer, has_status, is_in, of_client}
-pub use Rattle.pm_types.specs.NodeState.{phase_code, some_passes}
+pub use Rattle.pm_types.specs.NodeState.{NodeState, Session, SessionOf, Transfer, has_status, is_in, of_client, phase_code, some_passes}
 pub use Rattle.pm_types.specs.Queries.{answer}
 pub use Rattle.pm_types.specs.Refusals.{first_refusal}
-pub use Rattle.pm_types.specs.Sessions.{CleanUp, Goal, Resume, To, activate_refusal, applies, arrive, begin_processing}
-pub use Rattle.pm_types.specs.Sessions.{cancel_refusals, changes_in, is_install, is_old, is_update, is_wrong_tag, led_by}
-pub use Rattle.pm_types.specs.Sessions.{new_session, part_refusals, parts_refusal, process_refusal, session_refusals}
-pub use Rattle.pm_types.specs.Sessions.{status_table, stop_processing, suits}
-pub use Rattle.pm_types.specs.Steps.{acceptance, accepted, after_call, after_reply, refused_or, repeat_of, reply_to, step}
-pub use Rattle.pm_types.specs.Steps.{synced}
-pub use Rattle.pm_types.specs.Stored.{Areas, IsExtent, IsInOrder, IsPlaced, State, change_meaning, change_place}
-pub use Rattle.pm_types.specs.Stored.{cluster_meaning, cluster_place, fresh_state, meaning, names_fit_places, on_side}
-pub use Rattle.pm_types.specs.Stored.{places_in, session_meaning, slots_differ, takes_side, transfer_meaning}
-pub use Rattle.pm_types.specs.Transfers.{Verdict, data_refusals, delete_refusals, exit_refusals, grown, header_of, ids_of}
-pub use Rattle.pm_types.specs.Transfers.{in_phase, is_of, parts_of, parts_read, start_refusals, transfer_of}
-pub use Rattle.pm_types.specs.Transfers.{verdict_refusal, with_phase, with_transfer}
-pub use Rattle.pm_types.specs.Validity.{IsWholeFromTransferred, RunsWhatItShould, SessionIsDue, id_in_processing}
-pub use Rattle.pm_types.specs.Validity.{numbers_rise, parts_in, should_run}
+pub use Rattle.pm_types.specs.Sessions.{CleanUp, Goal, Resume, To, activate_refusal, applies, arrive, begin_processing, cancel_refusals}
+pub use Rattle.pm_types.specs.Sessions.{changes_in, is_install, is_old, is_update, is_wrong_tag, led_by, new_session, part_refusals}
+pub use Rattle.pm_types.specs.Sessions.{parts_refusal, process_refusal, session_refusals, status_table, stop_processing, suits}
+pub use Rattle.pm_types.specs.Steps.{acceptance, accepted, after_call, after_reply, refused_or, repeat_of, reply_to, step, synced}
+pub use Rattle.pm_types.specs.Stored.{Areas, IsExtent, IsInOrder, IsPlaced, State, change_meaning, change_place, cluster_meaning}
+pub use Rattle.pm_types.specs.Stored.{cluster_place, fresh_state, meaning, names_fit_places, on_side, places_in, session_meaning}
+pub use Rattle.pm_types.specs.Stored.{slots_differ, takes_side, transfer_meaning}
+pub use Rattle.pm_types.specs.Transfers.{Verdict, data_refusals, delete_refusals, exit_refusals, grown, header_of, ids_of, in_phase, is_of}
+pub use Rattle.pm_types.specs.Transfers.{parts_of, parts_read, start_refusals, transfer_of, verdict_refusal, with_phase, with_transfer}
+pub use Rattle.pm_types.specs.Validity.{IsWholeFromTransferred, RunsWhatItShould, SessionIsDue, id_in_processing, numbers_rise, parts_in}
+pub use Rattle.pm_types.specs.Validity.{should_run}
 pub use Rattle.pm_types.specs.Work.{end_mark, processed, unit}
 pub use Rattle.pm_types.specs.declared.calls.Call.{Call}
-pub use Rattle.pm_types.specs.declared.calls.Call.TheVariants.{Activate, Cancel, DeleteTransfer, ProcessSwPackage}
-pub use Rattle.pm_types.specs.declared.calls.Call.TheVariants.{TransferData, TransferExit, TransferStart}
+pub use Rattle.pm_types.specs.declared.calls.Call.TheVariants.{Activate, Cancel, DeleteTransfer, ProcessSwPackage, TransferData}
+pub use Rattle.pm_types.specs.declared.calls.Call.TheVariants.{TransferExit, TransferStart}
 pub use Rattle.pm_types.specs.declared.clusters.Change.{Change}
 pub use Rattle.pm_types.specs.declared.clusters.Cluster.{Cluster}
 pub use Rattle.pm_types.specs.declared.clusters.Extent.{Extent}
@@ -63,10 +55,9 @@ pub use Rattle.pm_types.specs.declared.queries.Query.TheVariants.{GetSwClusterCh
 pub use Rattle.pm_types.specs.declared.queries.Query.TheVariants.{GetSwProcessProgress}
 pub use Rattle.pm_types.specs.declared.replies.EndMark.{EndMark}
 pub use Rattle.pm_types.specs.declared.replies.Refusal.{Refusal}
-pub use Rattle.pm_types.specs.declared.replies.Refusal.TheVariants.{ActionNotApplicable, ClusterAlreadyChanged}
-pub use Rattle.pm_types.specs.declared.replies.Refusal.TheVariants.{InvalidManifest, InvalidTransferId, OldVersion}
-pub use Rattle.pm_types.specs.declared.replies.Refusal.TheVariants.{OperationNotPermitted, PackageInconsistent}
-pub use Rattle.pm_types.specs.declared.replies.Refusal.TheVariants.{TooManyClusters}
+pub use Rattle.pm_types.specs.declared.replies.Refusal.TheVariants.{ActionNotApplicable, ClusterAlreadyChanged, InvalidManifest}
+pub use Rattle.pm_types.specs.declared.replies.Refusal.TheVariants.{InvalidTransferId, OldVersion, OperationNotPermitted}
+pub use Rattle.pm_types.specs.declared.replies.Refusal.TheVariants.{PackageInconsistent, TooManyClusters}
 pub use Rattle.pm_types.specs.declared.replies.Reply.{Reply}
 pub use Rattle.pm_types.specs.declared.replies.Reply.TheVariants.{Done, Refused, Started}
 pub use Rattle.pm_types.specs.declared.replies.SessionMark.{SessionMark}
@@ -74,21 +65,19 @@ pub use Rattle.pm_types.specs.declared.state.StoredTransfer.{StoredTransfer}
 pub use Rattle.pm_types.specs.declared.status.Outcome.{Outcome}
 pub use Rattle.pm_types.specs.declared.status.Outcome.TheVariants.{Old}
 pub use Rattle.pm_types.specs.declared.status.Phase.{Phase}
-pub use Rattle.pm_types.specs.declared.status.Phase.TheVariants.{Processed, Processing as BeingProcessed, Transferred}
-pub use Rattle.pm_types.specs.declared.status.Phase.TheVariants.{Transferring}
+pub use Rattle.pm_types.specs.declared.status.Phase.TheVariants.{Processed, Processing as BeingProcessed, Transferred, Transferring}
 pub use Rattle.pm_types.specs.declared.status.Status.{Status}
-pub use Rattle.pm_types.specs.declared.status.Status.TheVariants.{Activated, Activating, CleaningUp, Idle, Processing}
-pub use Rattle.pm_types.specs.declared.status.Status.TheVariants.{Ready, RolledBack, RollingBack, Verifying}
+pub use Rattle.pm_types.specs.declared.status.Status.TheVariants.{Activated, Activating, CleaningUp, Idle, Processing, Ready, RolledBack}
+pub use Rattle.pm_types.specs.declared.status.Status.TheVariants.{RollingBack, Verifying}
 pub use Rattle.pm_types.specs.declared.transfers.ExitVerdict.{ExitVerdict}
 pub use Rattle.pm_types.specs.declared.transfers.ExitVerdict.TheVariants.{Bad, Good}
 pub use Rattle.sha2.specs.Sha256.{sha256}
-pub use Rattle.std.proofs.Common.{Bool, Err, IfOk, IfSome, IsSomeAnd, IsTrue, List, None, Ok, OnOk, Option, Result, Some}
-pub use Rattle.std.proofs.Common.{ap, append-nil, append_assoc, ap₂, arith, cond, drop, drop-drop, false, filter, find}
-pub use Rattle.std.proofs.Common.{fold, get_or, if◌then◌else◌, inl, inr, is_none, is_some, length, length-append}
-pub use Rattle.std.proofs.Common.{length-drop, length-take, map, min, nat_le, nat_lt, not, option_map, refl}
-pub use Rattle.std.proofs.Common.{slice_index_or, slice_range, slice_set, subst, sym, take, take-take, take_all, true}
-pub use Rattle.std.proofs.Common.{unwrap_or, zero-add, [], ℕ, ⊎_elim, ◌&&◌, ◌*◌, ◌++◌, ◌+◌, ◌-◌, ◌<◌, ◌==◌, ◌^◌, ◌||◌}
-pub use Rattle.std.proofs.Common.{◌∙◌, ◌∷◌, ◌≡◌, ◌≢◌, ◌≤◌, ◌⊎◌}
+pub use Rattle.std.proofs.Common.{Bool, Err, IfOk, IfSome, IsSomeAnd, IsTrue, List, None, Ok, OnOk, Option, Result, Some, ap, append-nil}
+pub use Rattle.std.proofs.Common.{append_assoc, ap₂, arith, cond, drop, drop-drop, false, filter, find, fold, get_or, if◌then◌else◌, inl}
+pub use Rattle.std.proofs.Common.{inr, is_none, is_some, length, length-append, length-drop, length-take, map, min, nat_le, nat_lt, not}
+pub use Rattle.std.proofs.Common.{option_map, refl, slice_index_or, slice_range, slice_set, subst, sym, take, take-take, take_all, true}
+pub use Rattle.std.proofs.Common.{unwrap_or, zero-add, [], ℕ, ⊎_elim, ◌&&◌, ◌*◌, ◌++◌, ◌+◌, ◌-◌, ◌<◌, ◌==◌, ◌^◌, ◌||◌, ◌∙◌, ◌∷◌, ◌≡◌, ◌≢◌}
+pub use Rattle.std.proofs.Common.{◌≤◌, ◌⊎◌}
 pub use Rattle.std.proofs.Math.Seq.{take-add}
 pub use Rattle.std.proofs.lemmas.Bool.{and_parts, eq-eqb, eqb-false, eqb-true, le-ltb, lt-ltb, ltb-false, ltb-true}
 pub use Rattle.std.proofs.lemmas.Bool.Decides.{nat_tests}
@@ -108,9 +97,9 @@ pub use Rattle.std.specs.Option.{option_map_or, option_or}
 pub use Rattle.std.specs.Str.{bytes_eq}
 pub use Rattle.std.specs.Vec.Iter.{into_iter_items, into_iter_len}
 pub use Rattle.transfer_blocks.specs.Areas.{AreasFit, IsArea, LeavesOutside, content_of, overwritten, with_content}
-pub use Rattle.transfer_blocks.specs.Table.{IsBounded, IsTable, Table, bad_refusal, cleaned, found_of, good_parts, moved}
-pub use Rattle.transfer_blocks.specs.Table.{received, slots_of, stored_header, stored_ids, stored_of, unless_refused}
-pub use Rattle.transfer_blocks.specs.Table.{whole, with_fresh, with_stored, without}
+pub use Rattle.transfer_blocks.specs.Table.{IsBounded, IsTable, Table, bad_refusal, cleaned, found_of, good_parts, moved, received}
+pub use Rattle.transfer_blocks.specs.Table.{slots_of, stored_header, stored_ids, stored_of, unless_refused, whole, with_fresh, with_stored}
+pub use Rattle.transfer_blocks.specs.Table.{without}
 pub use Rattle.transfer_blocks.specs.declared.area.Area.{Area}
 pub use Rattle.transfer_blocks.specs.declared.area.Area.TheVariants.{Side}
 pub use Rattle.transfer_blocks.specs.declared.found.Found.{Found}

@@ -1,13 +1,11 @@
 -- What is said of names, versions and needs is the same of where contents lie as of the contents.
-use Rattle.node_core.proofs.Names.{Action, ActionNotApplicable, Areas, Bool, Bytes, Change, Cluster}
-use Rattle.node_core.proofs.Names.{ClusterAlreadyChanged, Extent, Install, List, None, OldVersion, Option, Part}
-use Rattle.node_core.proofs.Names.{Refusal, Remove, Some, TooManyClusters, Update, ap, brought, bytes_eq}
-use Rattle.node_core.proofs.Names.{change_meaning, changed_as, changed_by, cluster_at, cluster_limit, cluster_meaning}
-use Rattle.node_core.proofs.Names.{cluster_of, different_names, filter, first_refusal, has_cluster, is_install}
-use Rattle.node_core.proofs.Names.{is_newer, is_old, is_update, length, list_any, map, map-append, map-map, missing}
-use Rattle.node_core.proofs.Names.{name_lt, nat_le, not, option_map, option_or, part_refusals, parts_refusal, planned}
-use Rattle.node_core.proofs.Names.{refl, some_passes, suits, sym, unmet_among, with_cluster, with_length, [], ℕ, ◌&&◌}
-use Rattle.node_core.proofs.Names.{◌++◌, ◌∙◌, ◌∷◌, ◌≡◌}
+use Rattle.node_core.proofs.Names.{Action, ActionNotApplicable, Areas, Bool, Bytes, Change, Cluster, ClusterAlreadyChanged, Extent}
+use Rattle.node_core.proofs.Names.{Install, List, None, OldVersion, Option, Part, Refusal, Remove, Some, TooManyClusters, Update, ap}
+use Rattle.node_core.proofs.Names.{brought, bytes_eq, change_meaning, changed_as, changed_by, cluster_at, cluster_limit}
+use Rattle.node_core.proofs.Names.{cluster_meaning, cluster_of, different_names, filter, first_refusal, has_cluster, is_install}
+use Rattle.node_core.proofs.Names.{is_newer, is_old, is_update, length, list_any, map, map-append, map-map, missing, name_lt, nat_le}
+use Rattle.node_core.proofs.Names.{not, option_map, option_or, part_refusals, parts_refusal, planned, refl, some_passes, suits, sym}
+use Rattle.node_core.proofs.Names.{unmet_among, with_cluster, with_length, [], ℕ, ◌&&◌, ◌++◌, ◌∙◌, ◌∷◌, ◌≡◌}
 use Rattle.dependency_check.proofs.Mapped.{list_any-map}
 use Rattle.node_core.proofs.Lists.{filter-map, find-map}
 

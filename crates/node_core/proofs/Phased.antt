@@ -1,14 +1,12 @@
 -- A transfer that goes to another phase, and the session with it.
-use Rattle.node_core.proofs.Names.{AllByRecursion, BeingProcessed, Bool, Cancel, Done, Extent, Found, Goal, Holding}
-use Rattle.node_core.proofs.Names.{IsCopied, IsCopiedIn, IsInOrder, IsJudged, IsPlaced, IsSound, List, None, Option}
-use Rattle.node_core.proofs.Names.{Phase, Refusal, Reply, Session, SessionOf, Some, State, StoredTransfer, Transfer}
-use Rattle.node_core.proofs.Names.{Transferred, ap, arrived, cancel_refusals, false, first_refusal, found_of}
-use Rattle.node_core.proofs.Names.{header_of, if◌then◌else◌, in_phase, is_in, is_of, map, meaning, moved, node_of}
-use Rattle.node_core.proofs.Names.{not, option_map, option_or, package_reading, parts_read, paused, phase_code}
-use Rattle.node_core.proofs.Names.{phased, places_in, refl, refusal_by, session_meaning, session_refusals}
-use Rattle.node_core.proofs.Names.{slice_index_or, slots_differ, some_passes, status_table, stop_processing, stopped}
-use Rattle.node_core.proofs.Names.{stored_header, stored_of, subst, sym, take, transfer_meaning, transfer_of, true}
-use Rattle.node_core.proofs.Names.{units_done, with_length, with_phase, [], ℕ, ◌==◌, ◌∙◌, ◌∷◌, ◌≡◌}
+use Rattle.node_core.proofs.Names.{AllByRecursion, BeingProcessed, Cancel, Done, Extent, Found, Goal, Holding, IsCopied, IsCopiedIn}
+use Rattle.node_core.proofs.Names.{IsInOrder, IsJudged, IsPlaced, IsSound, List, None, Option, Phase, Refusal, Reply, Session}
+use Rattle.node_core.proofs.Names.{SessionOf, Some, State, StoredTransfer, Transfer, Transferred, ap, arith, arrived, cancel_refusals}
+use Rattle.node_core.proofs.Names.{false, first_refusal, found_of, header_of, if◌then◌else◌, in_phase, is_in, is_of, map, meaning}
+use Rattle.node_core.proofs.Names.{moved, node_of, not, option_map, option_or, package_reading, parts_read, paused, phase_code, phased}
+use Rattle.node_core.proofs.Names.{places_in, refl, refusal_by, session_meaning, session_refusals, slice_index_or, slots_differ}
+use Rattle.node_core.proofs.Names.{some_passes, status_table, stop_processing, stopped, stored_header, stored_of, subst, sym, take}
+use Rattle.node_core.proofs.Names.{transfer_meaning, transfer_of, true, units_done, with_length, with_phase, [], ℕ, ◌==◌, ◌∙◌, ◌∷◌, ◌≡◌}
 use Rattle.transfer_blocks.proofs.Meanings.{header-means}
 use Rattle.node_laws.proofs.Lists.{found-has, both-none, is-processing, not-false, rows-clear}
 use Rattle.node_core.proofs.Arrived.{copied-by, done-judged}
@@ -21,11 +19,7 @@ slot_of t = t.slot
 -- the slots are as they were
 pub same-slots : (id : ℕ) (phase : Phase) (ts : List StoredTransfer) → map (λ t. t.slot) (phased id phase ts) ≡ map (λ t. t.slot) ts
 same-slots id phase [] = refl
-same-slots id phase (t ∷ ts) = by (t.header.id == id) ∙ ap (λ l. t.slot ∷ l) (same-slots id phase ts)
-  where
-    by : (b : Bool) → slot_of (if b then moved phase t else t) ∷ map (λ t. t.slot) (phased id phase ts) ≡ t.slot ∷ map (λ t. t.slot) (phased id phase ts)
-    by true = refl
-    by false = refl
+same-slots id phase (t ∷ ts) = grind (arith, same-slots id phase ts)
 
 module _ (v : Holding) (sound : IsSound v) (client id : ℕ) (u : StoredTransfer) (e : stored_of v.state.transfers client id ≡ Some u) (phase : Phase) (whole : (phase_code u.header.phase == 0) ≡ false) (stays : (phase_code phase == 0) ≡ false) where
   -- a transfer that is whole has the same parts in the other phase

@@ -1,8 +1,7 @@
 -- What holds of planned clusters, and of their places.
-use Rattle.node_core.proofs.Names.{Action, AllByRecursion, Bool, Change, Cluster, Extent, Install, List, Part, Remove}
-use Rattle.node_core.proofs.Names.{Update, beq, brought, bytes_eq, change_place, changed_as, changed_by}
-use Rattle.node_core.proofs.Names.{cluster_place, list_all, map, names_fit_places, planned, true, with_cluster, [], ℕ}
-use Rattle.node_core.proofs.Names.{◌++◌, ◌==◌, ◌∷◌, ◌≡◌}
+use Rattle.node_core.proofs.Names.{Action, AllByRecursion, Bool, Change, Cluster, Extent, Install, List, Part, Remove, Update, beq}
+use Rattle.node_core.proofs.Names.{brought, bytes_eq, change_place, changed_as, changed_by, cluster_place, list_all, map}
+use Rattle.node_core.proofs.Names.{names_fit_places, planned, true, with_cluster, [], ℕ, ◌++◌, ◌==◌, ◌∷◌, ◌≡◌}
 use Rattle.node_laws.proofs.Lists.{each-first, each-append, each-filter, each-imp, each-map, each-unmap}
 use Rattle.node_core.proofs.Lists.{all-each, each-all, each-second}
 

@@ -1,10 +1,9 @@
 -- A query is answered over the stored lists as of the node that they stand for.
-use Rattle.node_core.proofs.Names.{Answer, ChangeInfo, ClusterInfo, EachIsUnfinished, Extent, GetSwClusterChangeInfo}
-use Rattle.node_core.proofs.Names.{GetSwClusterInfo, GetSwPackages, GetSwProcessProgress, Holding, IsSound, List}
-use Rattle.node_core.proofs.Names.{Option, PackageInfo, Query, Refusal, Result, SessionOf, StoredTransfer, answer, ap}
-use Rattle.node_core.proofs.Names.{ap₂, changes_planned, filter, find, is_of, map, node_of, package_reading}
-use Rattle.node_core.proofs.Names.{progress_answer, progress_at, shown_change, shown_cluster, shown_transfer, subst}
-use Rattle.node_core.proofs.Names.{sym, ℕ, ◌==◌, ◌∙◌, ◌≡◌}
+use Rattle.node_core.proofs.Names.{Answer, ChangeInfo, ClusterInfo, EachIsUnfinished, Extent, GetSwClusterChangeInfo, GetSwClusterInfo}
+use Rattle.node_core.proofs.Names.{GetSwPackages, GetSwProcessProgress, Holding, IsSound, List, Option, PackageInfo, Query, Refusal}
+use Rattle.node_core.proofs.Names.{Result, SessionOf, StoredTransfer, answer, ap, ap₂, changes_planned, filter, find, is_of, map}
+use Rattle.node_core.proofs.Names.{node_of, package_reading, progress_answer, progress_at, shown_change, shown_cluster, shown_transfer}
+use Rattle.node_core.proofs.Names.{subst, sym, ℕ, ◌==◌, ◌∙◌, ◌≡◌}
 use Rattle.pm_types.specs.declared.queries.Answer.TheVariants.{Clusters, Changes, Packages}
 use Rattle.history_query.proofs.Answered.{clusters-answered, changes-answered, packages-answered, progress-answered}
 use Rattle.history_query.proofs.Valid.{each-unfinished}

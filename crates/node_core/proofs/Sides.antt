@@ -1,12 +1,11 @@
 -- What a put on the side that a package goes to leaves of a sound node.
-use Rattle.node_core.proofs.Names.{Action, AllByRecursion, Area, Areas, AreasFit, Bool, Bytes, Change, Cluster}
-use Rattle.node_core.proofs.Names.{Extent, Holding, Install, IsArea, IsExtent, IsInOrder, IsSound, LeavesOutside}
-use Rattle.node_core.proofs.Names.{List, Remove, SessionOf, Side, Some, StoredTransfer, Transfer, Update, ap, arith}
-use Rattle.node_core.proofs.Names.{bytes_eq, change_meaning, change_place, cluster_at, cluster_meaning, cluster_of}
-use Rattle.node_core.proofs.Names.{cluster_place, cond, eq-eqb, false, goes_to, has_cluster, length, lowest_free, map}
-use Rattle.node_core.proofs.Names.{map-map, meaning, name_lt, names_rise, node_of, on_side, option_map_or}
-use Rattle.node_core.proofs.Names.{package_reading, refl, session_meaning, subst, suits, sym, take, transfer_meaning}
-use Rattle.node_core.proofs.Names.{true, with_length, [], ℕ, ◌++◌, ◌+◌, ◌-◌, ◌==◌, ◌∙◌, ◌∷◌, ◌≡◌, ◌≢◌}
+use Rattle.node_core.proofs.Names.{Action, AllByRecursion, Area, Areas, AreasFit, Bool, Bytes, Change, Cluster, Extent, Holding}
+use Rattle.node_core.proofs.Names.{Install, IsArea, IsExtent, IsInOrder, IsSound, LeavesOutside, List, Remove, SessionOf, Side, Some}
+use Rattle.node_core.proofs.Names.{StoredTransfer, Transfer, Update, ap, arith, bytes_eq, change_meaning, change_place, cluster_at}
+use Rattle.node_core.proofs.Names.{cluster_meaning, cluster_of, cluster_place, cond, eq-eqb, false, goes_to, has_cluster, length}
+use Rattle.node_core.proofs.Names.{lowest_free, map, map-map, meaning, name_lt, names_rise, node_of, on_side, option_map_or}
+use Rattle.node_core.proofs.Names.{package_reading, refl, session_meaning, subst, suits, sym, take, transfer_meaning, true, with_length}
+use Rattle.node_core.proofs.Names.{[], ℕ, ◌++◌, ◌+◌, ◌-◌, ◌==◌, ◌∙◌, ◌∷◌, ◌≡◌, ◌≢◌}
 use Rattle.transfer_blocks.proofs.Areas.{elsewhere-stands}
 use Rattle.node_laws.proofs.Lists.{each-both, each-first, each-imp, each-unmap, found-has, not-true}
 use Rattle.node_laws.proofs.NameLists.{name-eq, name-swap, names-behind, names-tail}

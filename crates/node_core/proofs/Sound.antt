@@ -1,19 +1,19 @@
 -- A sound node has a table, and each step leaves it sound.
-use Rattle.node_core.proofs.Names.{AllByRecursion, Bool, Bytes, Call, CallNo, Err, Extent, Holding, IsBounded, IsFit}
-use Rattle.node_core.proofs.Names.{IsReading, IsSound, IsTable, IsTrue, List, NodeState, None, Ok, Option, Package}
-use Rattle.node_core.proofs.Names.{PackageFault, Part, Reply, Result, SessionMark, SessionOf, Some, Transfer, Verdict}
-use Rattle.node_core.proofs.Names.{after_call, all_differ, ap, arith, client_limit, cluster_of, ids_of, length}
-use Rattle.node_core.proofs.Names.{length-map, list_all, map, mark_of, nat_tests, node_of, not, numbers_rise}
-use Rattle.node_core.proofs.Names.{of_client, option_map, package_limit, package_reading, refl, repeat_of, reply_by}
-use Rattle.node_core.proofs.Names.{reply_to, session_meaning, slice_index_or, slots_differ, step, step_by, stored_ids}
-use Rattle.node_core.proofs.Names.{subst, sym, synced, table_of, transfer_limit, transfer_meaning, true, verdict_of}
-use Rattle.node_core.proofs.Names.{verdict_on, [], ℕ, ◌&&◌, ◌<◌, ◌==◌, ◌∙◌, ◌∷◌, ◌≡◌, ◌≤◌}
+use Rattle.node_core.proofs.Names.{Bytes, Call, CallNo, Err, Extent, Holding, IsBounded, IsFit, IsReading, IsSound, IsTable, IsTrue}
+use Rattle.node_core.proofs.Names.{List, NodeState, None, Ok, Option, Package, PackageFault, Part, Reply, Result, SessionMark}
+use Rattle.node_core.proofs.Names.{SessionOf, Some, Transfer, Verdict, after_call, all_differ, ap, arith, both_true, client_limit}
+use Rattle.node_core.proofs.Names.{cluster_of, ids_of, length, length-map, map, mark_of, nat_tests, node_of, not, numbers_rise}
+use Rattle.node_core.proofs.Names.{of_client, option_map, package_limit, package_reading, refl, repeat_of, reply_by, reply_to}
+use Rattle.node_core.proofs.Names.{session_meaning, slice_index_or, slots_differ, step, step_by, stored_ids, subst, sym, synced}
+use Rattle.node_core.proofs.Names.{table_of, transfer_limit, transfer_meaning, true, verdict_of, verdict_on, [], ℕ, ◌<◌, ◌==◌, ◌∙◌, ◌∷◌}
+use Rattle.node_core.proofs.Names.{◌≡◌, ◌≤◌}
 use Rattle.package_reader.specs.Reading.{reading}
 use Rattle.pm_types.specs.declared.replies.Reached.TheVariants.{Done as Answered}
 use Rattle.pm_types.specs.Validity.{IsSound as IsSoundTransfer}
+use Rattle.node_laws.proofs.Lists.{each-imp, each-both, each-unmap, rise-above, rise-tail}
 use Rattle.transfer_blocks.proofs.Meanings.{ids-mean}
 use Rattle.node_laws.proofs.Kept.{keeps-fit}
-use Rattle.node_laws.proofs.Lists.{each-both, each-unmap, rise-above, rise-tail}
+use Rattle.node_core.proofs.Lists.{each-all}
 use Rattle.node_core.proofs.Stored.{rise, ids}
 
 -- a package has one part
@@ -30,17 +30,11 @@ reading-is = record { parts_of = λ bytes parts e. of (reading bytes) parts e }
 -- rising numbers differ
 pub rising-differ : (ns : List ℕ) → numbers_rise ns ≡ true → slots_differ ns ≡ true
 rising-differ [] r = refl
-rising-differ (n ∷ ns) r = both _ _ (others ns (rise-above n ns r)) (rising-differ ns (rise-tail n ns r))
+rising-differ (n ∷ ns) r =
+    both_true (each-all (λ m. not (m == n)) ns (each-imp _ _ (λ m lt. apart m lt) ns (rise-above n ns r))) (rising-differ ns (rise-tail n ns r))
   where
-    both : (a b : Bool) → a ≡ true → b ≡ true → (a && b) ≡ true
-    both a b e f = ap (λ x. x && b) e ∙ f
-
     apart : (m : ℕ) → n < m → not (m == n) ≡ true
     apart m lt = grind (arith, nat_tests, lt)
-
-    others : (ms : List ℕ) → AllByRecursion (λ m. n < m) ms → list_all (λ m. not (m == n)) ms ≡ true
-    others [] above = refl
-    others (m ∷ ms) above = both _ _ (apart m above.0) (others ms above.1)
 
 -- the transfers of a sound node are a table
 pub table-is : (v : Holding) → IsSound v → IsTable (table_of v.state)

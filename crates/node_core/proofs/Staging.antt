@@ -1,16 +1,13 @@
 -- What a put behind a transfer's bytes leaves of a node.
-use Rattle.node_core.proofs.Names.{Action, AllByRecursion, Areas, AreasFit, BeingProcessed as Processing, Bool, Bytes}
-use Rattle.node_core.proofs.Names.{ExitVerdict, Found, Holding, Install, IsBehind, IsCopied, IsCopiedIn, IsInOrder}
-use Rattle.node_core.proofs.Names.{IsKept, IsPartCopied, IsReady, IsSound, IsVerdict, LeavesOutside, List, Manifest}
-use Rattle.node_core.proofs.Names.{None, Option, Phase, Prepared, Processed, Remove, Some, StoredTransfer}
-use Rattle.node_core.proofs.Names.{Transfer as NodeTransfer, TransferData, TransferExit, Transferred, Transferring}
-use Rattle.node_core.proofs.Names.{Update, and_parts, ap, arith, block_limit, cond, content_of, data_refusals}
-use Rattle.node_core.proofs.Names.{eqb-false, exit_refusals, false, find, first_refusal, found_of, goes_to, inl, inr}
-use Rattle.node_core.proofs.Names.{is_of, length, length-take, list_all, map, meaning, nat_tests, node_of, not}
-use Rattle.node_core.proofs.Names.{option_map, option_map_or, overwritten, package_limit, package_reading, refl}
-use Rattle.node_core.proofs.Names.{slice_range, slots_differ, slots_of, stored_header, stored_of, subst, sym, take}
-use Rattle.node_core.proofs.Names.{transfer_limit, transfer_meaning, true, units_done, with_content, zero-add, [], ℕ}
-use Rattle.node_core.proofs.Names.{◌*◌, ◌+◌, ◌<◌, ◌==◌, ◌∙◌, ◌∷◌, ◌≡◌, ◌≢◌, ◌≤◌, ◌⊎◌}
+use Rattle.node_core.proofs.Names.{Action, AllByRecursion, Areas, AreasFit, Bool, Bytes, ExitVerdict, Found, Holding, Install, IsBehind}
+use Rattle.node_core.proofs.Names.{IsCopied, IsCopiedIn, IsInOrder, IsKept, IsPartCopied, IsReady, IsSound, IsVerdict, LeavesOutside}
+use Rattle.node_core.proofs.Names.{List, Manifest, None, Option, Prepared, Remove, Some, StoredTransfer, Transfer as NodeTransfer}
+use Rattle.node_core.proofs.Names.{TransferData, TransferExit, Update, and_parts, ap, arith, block_limit, cond, content_of}
+use Rattle.node_core.proofs.Names.{data_refusals, eqb-false, exit_refusals, false, find, first_refusal, found_of, goes_to, inl, inr}
+use Rattle.node_core.proofs.Names.{is_of, length, length-take, list_all, map, meaning, nat_tests, node_of, not, option_map}
+use Rattle.node_core.proofs.Names.{option_map_or, overwritten, package_limit, package_reading, refl, slice_range, slots_differ}
+use Rattle.node_core.proofs.Names.{slots_of, stored_header, stored_of, subst, sym, take, transfer_limit, transfer_meaning, true}
+use Rattle.node_core.proofs.Names.{units_done, with_content, zero-add, [], ℕ, ◌*◌, ◌+◌, ◌<◌, ◌==◌, ◌∙◌, ◌∷◌, ◌≡◌, ◌≢◌, ◌≤◌, ◌⊎◌}
 use Rattle.pm_types.specs.Validity.{IsSound as IsSoundTransfer}
 use Rattle.transfer_blocks.specs.declared.area.Area.TheVariants.{Transfer}
 use Rattle.node_core.specs.declared.prepared.Prepared.TheVariants.{Verdict as Judged}
@@ -18,8 +15,8 @@ use Rattle.transfer_blocks.proofs.Meanings.{header-means, transfer-stands}
 use Rattle.transfer_blocks.proofs.Areas.{content-here}
 use Rattle.transfer_blocks.proofs.Bytes.{front_slice, slice-overwritten}
 use Rattle.node_laws.proofs.Lists.{each-both, each-imp, each-unmap, found-has, not-true}
+use Rattle.node_core.proofs.Stored.{copied-when, found-means, only-has, rise}
 use Rattle.node_core.proofs.Lists.{map-same}
-use Rattle.node_core.proofs.Stored.{found-means, only-has, rise}
 use Rattle.node_core.proofs.Judged.{data-same}
 use Rattle.node_core.proofs.Sound.{table-is}
 
@@ -46,14 +43,15 @@ side-stands v slots m Update = refl
 side-stands v slots m Remove = refl
 
 -- what is copied stays copied
-copied-stands : (v : Holding) (slots : List Bytes) (t : StoredTransfer) (phase : Phase) → transfer_meaning package_reading (record v.areas { slots = slots }) t ≡ transfer_meaning package_reading v.areas t → IsCopiedIn package_reading v.areas v.state t phase
-    → IsCopiedIn package_reading (record v.areas { slots = slots }) v.state t phase
-copied-stands v slots t Processing same copied =
+copied-stands : (v : Holding) (slots : List Bytes) (t : StoredTransfer)
+    → transfer_meaning package_reading (record v.areas { slots = slots }) t ≡ transfer_meaning package_reading v.areas t
+    → IsCopiedIn package_reading v.areas v.state t t.header.phase
+    → IsCopiedIn package_reading (record v.areas { slots = slots }) v.state t t.header.phase
+copied-stands v slots t same copied =
+    copied-when (record v.areas { slots = slots }) v.state t t.header.phase (λ e.
     subst (λ (m : NodeTransfer). AllByRecursion (IsPartCopied (record v.areas { slots = slots }) v.state) m.parts) (sym same)
-    (each-imp _ _ (λ part c. ap (take (units_done v.state * block_limit)) (side-stands v slots part.manifest part.manifest.action) ∙ c) _ copied)
-copied-stands v slots t Transferring same copied = tt
-copied-stands v slots t Transferred same copied = tt
-copied-stands v slots t Processed same copied = tt
+    (each-imp _ _ (λ part c. ap (take (units_done v.state * block_limit)) (side-stands v slots part.manifest part.manifest.action) ∙ c) _
+    (subst (IsCopiedIn package_reading v.areas v.state t) e copied)))
 
 -- what a put behind the bytes that came of the transfer that was found leaves
 pub record IsLeft (v : Holding) (areas : Areas) : Type 0 where
@@ -74,7 +72,7 @@ same-left v slots sound each = record {
     places = sound.order.places;
     running = sound.order.running;
   };
-  copied = each-both _ _ _ (λ t same copied. copied-stands v slots t t.header.phase same copied) v.state.transfers each sound.copied;
+  copied = each-both _ _ _ (copied-stands v slots) v.state.transfers each sound.copied;
 }
 
 module _ (v : Holding) (sound : IsSound v) (client id : ℕ) (u : StoredTransfer) (e : stored_of v.state.transfers client id ≡ Some u) where
@@ -101,8 +99,7 @@ module _ (v : Holding) (sound : IsSound v) (client id : ℕ) (u : StoredTransfer
 
 -- a look-up is that of a stored transfer
 stored-found : (o : Option StoredTransfer) (f : Found) → option_map (λ t. record { header = t.header; slot = t.slot }) o ≡ Some f → (u : StoredTransfer) × (o ≡ Some u) × (f ≡ record { header = u.header; slot = u.slot })
-stored-found None f e = absurd (cc)
-stored-found (Some u) f e = (u, refl, cc)
+stored-found o f e = grind arith
 
 -- what a put leaves is kept
 pub kept-of : (v : Holding) (areas : Areas) (faults : ℕ) (p : Prepared) → v.faults ≤ faults → IsLeft v areas → IsKept v (record { areas = areas; faults = faults; state = v.state; prepared = p })

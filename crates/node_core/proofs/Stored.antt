@@ -1,10 +1,10 @@
 -- What stored transfers mean, and what a change of one of them changes of that.
-use Rattle.node_core.proofs.Names.{AllByRecursion, Areas, Bool, Found, Holding, IsSound, List, None, Option, Reading}
-use Rattle.node_core.proofs.Names.{Some, StoredTransfer, Transfer, and_parts, ap, arith, cond, drop, eqb-true, false}
-use Rattle.node_core.proofs.Names.{find, found_of, if◌then◌else◌, is_none, is_of, map, map-map, numbers_rise}
-use Rattle.node_core.proofs.Names.{option_map, package_reading, refl, slice_range, stored_header, stored_of, subst}
-use Rattle.node_core.proofs.Names.{sym, take, take-add, transfer_meaning, true, [], ℕ, ◌++◌, ◌+◌, ◌-◌, ◌<◌, ◌==◌, ◌∙◌}
-use Rattle.node_core.proofs.Names.{◌∷◌, ◌≡◌}
+use Rattle.node_core.proofs.Names.{AllByRecursion, Areas, BeingProcessed, Bool, Found, Holding, IsCopiedIn, IsPartCopied, IsSound, List}
+use Rattle.node_core.proofs.Names.{None, Option, Phase, Processed, Reading, Some, State, StoredTransfer, Transfer, Transferred}
+use Rattle.node_core.proofs.Names.{Transferring, and_parts, ap, arith, cond, drop, eqb-true, false, find, found_of, if◌then◌else◌}
+use Rattle.node_core.proofs.Names.{is_none, is_of, map, map-map, numbers_rise, option_map, package_reading, refl, slice_range}
+use Rattle.node_core.proofs.Names.{stored_header, stored_of, subst, sym, take, take-add, transfer_meaning, true, [], ℕ, ◌++◌, ◌+◌, ◌-◌}
+use Rattle.node_core.proofs.Names.{◌<◌, ◌==◌, ◌∙◌, ◌∷◌, ◌≡◌}
 use Rattle.node_laws.proofs.Lists.{each-imp, each-unmap, found-has, rise-above, rise-tail}
 use Rattle.node_core.proofs.Lists.{every, find-map, change-map}
 
@@ -72,6 +72,15 @@ module _ (read : Reading) (areas : Areas) where
   changed-means client id g h ts u r e same =
       change-map (transfer_meaning read areas) (λ t. t.header.id == id) g h ts
       (only-has (λ t. transfer_meaning read areas (g t) ≡ h (transfer_meaning read areas t)) client id ts u r e same)
+
+-- only of a transfer in processing need anything be copied
+pub copied-when : (areas : Areas) (s : State) (t : StoredTransfer) (phase : Phase)
+    → (phase ≡ BeingProcessed → AllByRecursion (IsPartCopied areas s) (transfer_meaning package_reading areas t).parts)
+    → IsCopiedIn package_reading areas s t phase
+copied-when areas s t BeingProcessed each = each refl
+copied-when areas s t Transferring each = tt
+copied-when areas s t Transferred each = tt
+copied-when areas s t Processed each = tt
 
 -- the ids of a sound node's transfers rise
 pub rise : (v : Holding) → IsSound v → numbers_rise (ids v.state.transfers) ≡ true

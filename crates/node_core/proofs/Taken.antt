@@ -1,7 +1,7 @@
 -- Which places are taken, as the code looks for them.
-use Rattle.node_core.proofs.Names.{Bool, Cluster, Extent, Holding, List, None, Option, SessionOf, Some, State, ap}
-use Rattle.node_core.proofs.Names.{change_place, cluster_place, list_any, list_any-append, map, option_map_or, refl}
-use Rattle.node_core.proofs.Names.{session_takes, sym, [], ℕ, ◌++◌, ◌==◌, ◌||◌, ◌∙◌, ◌≡◌}
+use Rattle.node_core.proofs.Names.{Bool, Cluster, Extent, Holding, List, None, Option, SessionOf, Some, State, ap, change_place}
+use Rattle.node_core.proofs.Names.{cluster_place, list_any, list_any-append, map, option_map_or, refl, session_takes, sym, [], ℕ, ◌++◌}
+use Rattle.node_core.proofs.Names.{◌==◌, ◌||◌, ◌∙◌, ◌≡◌}
 use Rattle.node_core.specs.Units.{is_taken}
 use Rattle.dependency_check.proofs.Mapped.{list_any-map}
 

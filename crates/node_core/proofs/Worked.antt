@@ -1,18 +1,17 @@
 -- What a unit of work leaves of a sound node.
-use Rattle.node_core.proofs.Names.{Activated, Activating, AllByRecursion, Areas, BeingProcessed, Bool, CleaningUp}
-use Rattle.node_core.proofs.Names.{Cluster, EndMark, Extent, Holding, Idle, IsCopied, IsCopiedIn, IsExtent, IsFit}
-use Rattle.node_core.proofs.Names.{IsPlaced, IsReservedWork, IsSound, IsTable, IsUnit, IsUnitReady, List, None}
-use Rattle.node_core.proofs.Names.{Option, Outcome, Phase, Prepared, Processed, Processing, RolledBack, RollingBack}
-use Rattle.node_core.proofs.Names.{SessionIsDue, SessionOf, Some, State, Status, StoredTransfer, Table, Transfer}
-use Rattle.node_core.proofs.Names.{Transferred, Transferring, Verifying, after_work, ap, change_meaning, change_place}
-use Rattle.node_core.proofs.Names.{cleaned, cluster_place, clusters_kept, end_mark, false, has_status}
-use Rattle.node_core.proofs.Names.{id_in_processing, if◌then◌else◌, is_in, is_some, length, length-map, map, nat_lt}
-use Rattle.node_core.proofs.Names.{node_of, not, option_map, package_reading, planned, refl, session_meaning}
-use Rattle.node_core.proofs.Names.{should_run, slice_set, some_passes, subst, sym, table_of, transfer_meaning, true}
-use Rattle.node_core.proofs.Names.{unit, unit_passes, with_table, [], ℕ, ◌++◌, ◌+◌, ◌<◌, ◌==◌, ◌||◌, ◌∙◌, ◌≡◌}
+use Rattle.node_core.proofs.Names.{Activated, Activating, AllByRecursion, Areas, BeingProcessed, Bool, CleaningUp, Cluster, EndMark}
+use Rattle.node_core.proofs.Names.{Extent, Holding, Idle, IsCopied, IsExtent, IsFit, IsPlaced, IsReservedWork, IsSound, IsTable, IsUnit}
+use Rattle.node_core.proofs.Names.{IsUnitReady, List, None, Option, Outcome, Prepared, Processed, Processing, RolledBack, RollingBack}
+use Rattle.node_core.proofs.Names.{SessionIsDue, SessionOf, Some, State, Status, StoredTransfer, Table, Transfer, Verifying, after_work}
+use Rattle.node_core.proofs.Names.{ap, change_meaning, change_place, cleaned, cluster_place, clusters_kept, end_mark, false, has_status}
+use Rattle.node_core.proofs.Names.{id_in_processing, if◌then◌else◌, is_in, is_some, length, length-map, map, nat_lt, node_of, not}
+use Rattle.node_core.proofs.Names.{option_map, package_reading, phase_code, planned, refl, session_meaning, should_run, slice_set}
+use Rattle.node_core.proofs.Names.{some_passes, subst, sym, table_of, transfer_meaning, true, unit, unit_passes, with_table, [], ℕ}
+use Rattle.node_core.proofs.Names.{◌++◌, ◌+◌, ◌<◌, ◌==◌, ◌||◌, ◌∙◌, ◌≡◌}
 use Rattle.transfer_blocks.proofs.Meanings.{filter-means}
 use Rattle.node_laws.proofs.Lists.{each-append, each-filter, each-first, each-imp, each-unmap}
 use Rattle.node_laws.proofs.Kept.{keeps-fit}
+use Rattle.node_core.proofs.Stored.{copied-when}
 use Rattle.node_core.proofs.Lists.{each-second}
 use Rattle.node_core.proofs.Arrived.{marked-order}
 use Rattle.node_core.proofs.Natural.{planned-means}
@@ -28,13 +27,8 @@ at-work v status x q e = λ i. record v { state = record v.state { status = q i;
 
 -- where no transfer is in processing, nothing need be copied
 pub none-copied : (areas : Areas) (s : State) → AllByRecursion (λ t. is_in BeingProcessed t.header ≡ false) s.transfers → IsCopied package_reading areas s
-none-copied areas s each = each-imp _ _ (λ t idle. of t t.header.phase idle) s.transfers each
-  where
-    of : (t : StoredTransfer) (phase : Phase) → is_in BeingProcessed (record t.header { phase = phase }) ≡ false → IsCopiedIn package_reading areas s t phase
-    of t Transferring idle = tt
-    of t Transferred idle = tt
-    of t BeingProcessed idle = absurd (cc)
-    of t Processed idle = tt
+none-copied areas s each =
+    each-imp _ _ (λ t idle. copied-when areas s t t.header.phase (λ e. let z = ap (λ p. phase_code p == 2) (sym e) ∙ idle in absurd (cc))) s.transfers each
 
 -- none is outside Processing
 pub none-processed : (v : Holding) → IsSound v → has_status Processing (node_of v) ≡ false → AllByRecursion (λ t. is_in BeingProcessed t.header ≡ false) v.state.transfers

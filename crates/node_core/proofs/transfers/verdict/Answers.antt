@@ -1,5 +1,5 @@
-use Rattle.node_core.proofs.Names.{Bad, Err, Good, InvalidManifest, IsVerdict, PackageInconsistent, ap, length, refl}
-use Rattle.node_core.proofs.Names.{subst, sym, verdict_of, ⊎_elim, ◌∙◌}
+use Rattle.node_core.proofs.Names.{Bad, Err, Good, InvalidManifest, IsVerdict, PackageInconsistent, ap, length, refl, subst, sym}
+use Rattle.node_core.proofs.Names.{verdict_of, ⊎_elim, ◌∙◌}
 use Rattle.node_core.proofs.transfers.verdict.Goals as goal
 
 pub returns-in-Ok : goal.returns-in-Ok

@@ -1,6 +1,5 @@
-use Rattle.node_core.proofs.Names.{Done, IsReady, IsSound, TransferExit, ap, bad_refusal, exit_refusals}
-use Rattle.node_core.proofs.Names.{first_refusal, good_parts, option_or, refused_or, stored_header, subst, sym}
-use Rattle.node_core.proofs.Names.{unless_refused, whole, with_stored, ◌∙◌}
+use Rattle.node_core.proofs.Names.{Done, IsReady, IsSound, TransferExit, ap, bad_refusal, exit_refusals, first_refusal, good_parts}
+use Rattle.node_core.proofs.Names.{option_or, refused_or, stored_header, subst, sym, unless_refused, whole, with_stored, ◌∙◌}
 use Rattle.node_core.proofs.Judged.{exit-judged, judged-of}
 use Rattle.node_core.proofs.held.Held.exit.Goals as goal
 

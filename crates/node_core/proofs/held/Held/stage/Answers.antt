@@ -1,8 +1,7 @@
 use Rattle.node_core.proofs.Names.{IsSound, LeavesOutside, arith, length, refl, subst, sym}
 use Rattle.transfer_blocks.specs.declared.area.Area.TheVariants.{Transfer}
 use Rattle.transfer_blocks.proofs.Areas.{put-leaves}
-use Rattle.node_core.proofs.Staging.{found-fits, found-left, found-lies, found-slot, kept-from, kept-of, put-ready}
-use Rattle.node_core.proofs.Staging.{refused-block}
+use Rattle.node_core.proofs.Staging.{found-fits, found-left, found-lies, found-slot, kept-from, kept-of, put-ready, refused-block}
 use Rattle.node_core.proofs.held.Held.stage.Goals as goal
 
 pub returns-in_default-clause-ready : goal.returns-in_default-clause-ready

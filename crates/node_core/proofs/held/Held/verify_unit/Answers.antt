@@ -1,5 +1,5 @@
-use Rattle.node_core.proofs.Names.{Activated, Holding, Some, ap, arith, false, length, nat_lt, nat_tests, refl, sym}
-use Rattle.node_core.proofs.Names.{true, ◌+◌, ◌∙◌, ◌≡◌}
+use Rattle.node_core.proofs.Names.{Activated, Holding, Some, ap, arith, false, length, nat_lt, nat_tests, refl, sym, true, ◌+◌, ◌∙◌}
+use Rattle.node_core.proofs.Names.{◌≡◌}
 use Rattle.node_core.proofs.Worked.{left-to-verify, verified}
 use Rattle.node_core.proofs.held.Held.verify_unit.Goals as goal
 
