@@ -2,12 +2,12 @@
 use Rattle.node_core.proofs.Names.{Action, AllByRecursion, Areas, AreasFit, Bool, Bytes, ExitVerdict, Found, Holding, Install, IsBehind}
 use Rattle.node_core.proofs.Names.{IsCopied, IsCopiedIn, IsInOrder, IsKept, IsPartCopied, IsReady, IsSound, IsVerdict, LeavesOutside}
 use Rattle.node_core.proofs.Names.{List, Manifest, None, Option, Prepared, Remove, Some, StoredTransfer, Transfer as NodeTransfer}
-use Rattle.node_core.proofs.Names.{TransferData, TransferExit, Update, and_parts, ap, arith, block_limit, cond, content_of}
-use Rattle.node_core.proofs.Names.{data_refusals, eqb-false, exit_refusals, false, find, first_refusal, found_of, goes_to, inl, inr}
-use Rattle.node_core.proofs.Names.{is_of, length, length-take, list_all, map, meaning, nat_tests, node_of, not, option_map}
-use Rattle.node_core.proofs.Names.{option_map_or, overwritten, package_limit, package_reading, refl, slice_range, slots_differ}
-use Rattle.node_core.proofs.Names.{slots_of, stored_header, stored_of, subst, sym, take, transfer_limit, transfer_meaning, true}
-use Rattle.node_core.proofs.Names.{units_done, with_content, zero-add, [], ℕ, ◌*◌, ◌+◌, ◌<◌, ◌==◌, ◌∙◌, ◌∷◌, ◌≡◌, ◌≢◌, ◌≤◌, ◌⊎◌}
+use Rattle.node_core.proofs.Names.{TransferData, TransferExit, Update, and_parts, ap, arith, block_limit, cond, content_of, eqb-false}
+use Rattle.node_core.proofs.Names.{exit_refusals, false, find, first_refusal, found_of, goes_to, inl, inr, is_of, length, length-take}
+use Rattle.node_core.proofs.Names.{list_all, map, meaning, nat_tests, node_of, not, option_map, option_map_or, overwritten}
+use Rattle.node_core.proofs.Names.{package_limit, package_reading, refl, slice_range, slots_differ, slots_of, stored_of, subst, sym}
+use Rattle.node_core.proofs.Names.{take, transfer_limit, transfer_meaning, true, units_done, with_content, zero-add, [], ℕ, ◌*◌, ◌+◌}
+use Rattle.node_core.proofs.Names.{◌<◌, ◌==◌, ◌∙◌, ◌∷◌, ◌≡◌, ◌≢◌, ◌≤◌, ◌⊎◌}
 use Rattle.pm_types.specs.Validity.{IsSound as IsSoundTransfer}
 use Rattle.transfer_blocks.specs.declared.area.Area.TheVariants.{Transfer}
 use Rattle.node_core.specs.declared.prepared.Prepared.TheVariants.{Verdict as Judged}
@@ -15,9 +15,9 @@ use Rattle.transfer_blocks.proofs.Meanings.{header-means, transfer-stands}
 use Rattle.transfer_blocks.proofs.Areas.{content-here}
 use Rattle.transfer_blocks.proofs.Bytes.{front_slice, slice-overwritten}
 use Rattle.node_laws.proofs.Lists.{each-both, each-imp, each-unmap, found-has, not-true}
+use Rattle.node_core.proofs.Judged.{block_refusal, exit_refusal, data-same}
 use Rattle.node_core.proofs.Stored.{copied-when, found-means, only-has, rise}
 use Rattle.node_core.proofs.Lists.{map-same}
-use Rattle.node_core.proofs.Judged.{data-same}
 use Rattle.node_core.proofs.Sound.{table-is}
 
 -- a transfer is the one that was found, or lies in another slot
@@ -106,13 +106,15 @@ pub kept-of : (v : Holding) (areas : Areas) (faults : ℕ) (p : Prepared) → v.
 kept-of v areas faults p more left = record { state = refl; node = left.node; order = left.order; copied = left.copied; faults = more }
 
 -- a call that is refused needs nothing
-pub refused-block : {v w : Holding} → v ≡ w → (client id counter : ℕ) (block : Bytes) → first_refusal (data_refusals (stored_header v.state.transfers client id) counter (length block)) ≢ None → IsReady w client (TransferData id counter block)
+pub refused-block : {v w : Holding} → v ≡ w → (client id counter : ℕ) (block : Bytes) → block_refusal v client id counter block ≢ None
+    → IsReady w client (TransferData id counter block)
 refused-block {w = w} e client id counter block refused none =
-    absurd (refused (ap (λ (x : Holding). first_refusal (data_refusals (stored_header x.state.transfers client id) counter (length block))) e ∙ sym (data-same w client id counter block) ∙ none))
+    absurd (refused (ap (λ (x : Holding). block_refusal x client id counter block) e ∙ sym (data-same w client id counter block) ∙ none))
 
-pub refused-exit : {v w : Holding} → v ≡ w → (client id : ℕ) → first_refusal (exit_refusals (stored_header v.state.transfers client id)) ≢ None → IsReady w client (TransferExit id)
+pub refused-exit : {v w : Holding} → v ≡ w → (client id : ℕ) → exit_refusal v client id ≢ None → IsReady w client (TransferExit id)
 refused-exit {w = w} e client id refused none =
-    absurd (refused (ap (λ (x : Holding). first_refusal (exit_refusals (stored_header x.state.transfers client id))) e ∙ ap (λ h. first_refusal (exit_refusals h)) (sym (header-means package_reading w.areas (is_of client id) w.state.transfers)) ∙ none))
+    absurd (refused (ap (λ (x : Holding). exit_refusal x client id) e
+    ∙ ap (λ h. first_refusal (exit_refusals h)) (sym (header-means package_reading w.areas (is_of client id) w.state.transfers)) ∙ none))
 
 module _ (v : Holding) (sound : IsSound v) (client id : ℕ) (f : Found) (e : found_of v.state.transfers client id ≡ Some f) where
   there : (u : StoredTransfer) × (stored_of v.state.transfers client id ≡ Some u) × (f ≡ record { header = u.header; slot = u.slot })

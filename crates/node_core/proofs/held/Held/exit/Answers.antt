@@ -1,13 +1,12 @@
-use Rattle.node_core.proofs.Names.{Done, IsReady, IsSound, TransferExit, ap, bad_refusal, exit_refusals, first_refusal, good_parts}
-use Rattle.node_core.proofs.Names.{option_or, refused_or, stored_header, subst, sym, unless_refused, whole, with_stored, ◌∙◌}
-use Rattle.node_core.proofs.Judged.{exit-judged, judged-of}
+use Rattle.node_core.proofs.Names.{Done, ap, bad_refusal, exit_refusals, first_refusal, good_parts, option_or, refused_or}
+use Rattle.node_core.proofs.Names.{stored_header, unless_refused, whole, with_stored, ◌∙◌}
+use Rattle.node_core.proofs.Judged.{exit-judged}
 use Rattle.node_core.proofs.held.Held.exit.Goals as goal
 
 pub returns-clause-judged : goal.returns-clause-judged
 returns-clause-judged g c =
     let table = c.self.inside.transfers in
-    judged-of c.self.view_is
-    (exit-judged _ c.args.client c.args.id c.exit.result c.exit.new.self (subst IsSound (sym c.self.view_is) c.requires.sound)
-    (subst (λ v. IsReady v c.args.client (TransferExit c.args.id)) (sym c.self.view_is) c.requires.ready) c.exit.ensures.form
+    exit-judged c.self.view_is c.requires.sound c.args.client c.args.id c.exit.result c.exit.new.self c.requires.ready c.exit.ensures.form
     (c.exit.ensures.reply ∙ ap (λ x. refused_or Done (option_or (first_refusal (exit_refusals (stored_header table.transfers c.args.client c.args.id))) (bad_refusal x))) c.take_verdict-verdict.ensures)
-    (c.exit.ensures.table ∙ ap (λ x. unless_refused c.exit.result table (with_stored c.args.id (whole (good_parts x)) table)) c.take_verdict-verdict.ensures) c.take_verdict-verdict.new.self)
+    (c.exit.ensures.table ∙ ap (λ x. unless_refused c.exit.result table (with_stored c.args.id (whole (good_parts x)) table)) c.take_verdict-verdict.ensures)
+    c.take_verdict-verdict.new.self
