@@ -1,109 +1,111 @@
 -- What a put behind a transfer's bytes leaves of a node.
 use Rattle.node_core.proofs.Names.{Action, AllByRecursion, Areas, AreasFit, Bool, Bytes, ExitVerdict, Found, Holding, Install, IsBehind}
-use Rattle.node_core.proofs.Names.{IsCopied, IsCopiedIn, IsInOrder, IsKept, IsPartCopied, IsReady, IsSound, IsVerdict, LeavesOutside}
-use Rattle.node_core.proofs.Names.{List, Manifest, None, Option, Prepared, Remove, Some, StoredTransfer, Transfer as NodeTransfer}
-use Rattle.node_core.proofs.Names.{TransferData, TransferExit, Update, and_parts, ap, arith, block_limit, cond, content_of, eqb-false}
-use Rattle.node_core.proofs.Names.{exit_refusals, false, find, first_refusal, found_of, goes_to, inl, inr, is_of, length, length-take}
-use Rattle.node_core.proofs.Names.{list_all, map, meaning, nat_tests, node_of, not, option_map, option_map_or, overwritten}
-use Rattle.node_core.proofs.Names.{package_limit, package_reading, refl, slice_range, slots_differ, slots_of, stored_of, subst, sym}
-use Rattle.node_core.proofs.Names.{take, transfer_limit, transfer_meaning, true, units_done, with_content, zero-add, [], ℕ, ◌*◌, ◌+◌}
-use Rattle.node_core.proofs.Names.{◌<◌, ◌==◌, ◌∙◌, ◌∷◌, ◌≡◌, ◌≢◌, ◌≤◌, ◌⊎◌}
+use Rattle.node_core.proofs.Names.{IsCopiedIn, IsKept, IsPartCopied, IsReady, IsSound, IsVerdict, LeavesOutside, List, Manifest, None}
+use Rattle.node_core.proofs.Names.{Option, Prepared, Remove, Some, StoredTransfer, Transfer as NodeTransfer, TransferData, TransferExit}
+use Rattle.node_core.proofs.Names.{Update, and_parts, ap, arith, block_limit, cond, content_of, eqb-false, exit_refusals, false, find}
+use Rattle.node_core.proofs.Names.{first_refusal, found_of, goes_to, inl, inr, is_of, length, length-take, map, nat_tests, node_of, not}
+use Rattle.node_core.proofs.Names.{option_map, option_map_or, overwritten, package_limit, package_reading, refl, slice_range}
+use Rattle.node_core.proofs.Names.{slots_differ, slots_of, stored_of, subst, sym, take, transfer_limit, transfer_meaning, true}
+use Rattle.node_core.proofs.Names.{units_done, with_content, with_length, zero-add, [], ℕ, ◌*◌, ◌+◌, ◌<◌, ◌==◌, ◌∙◌, ◌∷◌, ◌≡◌, ◌≢◌, ◌≤◌}
+use Rattle.node_core.proofs.Names.{◌⊎◌}
 use Rattle.pm_types.specs.Validity.{IsSound as IsSoundTransfer}
 use Rattle.transfer_blocks.specs.declared.area.Area.TheVariants.{Transfer}
 use Rattle.node_core.specs.declared.prepared.Prepared.TheVariants.{Verdict as Judged}
+use Rattle.transfer_blocks.proofs.Areas.{put-leaves, content-here}
+use Rattle.node_laws.proofs.Lists.{each-unmap, each-both, each-imp, found-has, not-true}
 use Rattle.transfer_blocks.proofs.Meanings.{header-means, transfer-stands}
-use Rattle.transfer_blocks.proofs.Areas.{content-here}
 use Rattle.transfer_blocks.proofs.Bytes.{front_slice, slice-overwritten}
-use Rattle.node_laws.proofs.Lists.{each-both, each-imp, each-unmap, found-has, not-true}
+use Rattle.node_core.proofs.Lists.{all-each, map-same}
 use Rattle.node_core.proofs.Judged.{block_refusal, exit_refusal, data-same}
 use Rattle.node_core.proofs.Stored.{copied-when, found-means, only-has, rise}
-use Rattle.node_core.proofs.Lists.{map-same}
 use Rattle.node_core.proofs.Sound.{table-is}
 
 -- a transfer is the one that was found, or lies in another slot
-pub apart : (client id : ℕ) (ts : List StoredTransfer) (u : StoredTransfer) → slots_differ (slots_of ts) ≡ true → stored_of ts client id ≡ Some u → AllByRecursion (λ t. (t.slot ≢ u.slot) ⊎ (t ≡ u)) ts
+pub apart : (client id : ℕ) (ts : List StoredTransfer) (u : StoredTransfer) → slots_differ (slots_of ts) ≡ true
+    → stored_of ts client id ≡ Some u → AllByRecursion (λ t. (t.slot ≢ u.slot) ⊎ (t ≡ u)) ts
 apart client id [] u d e = tt
 apart client id (t ∷ ts) u d e = go (is_of client id t.header) e (apart client id ts u (and_parts _ _ d).1)
   where
-    others : (us : List StoredTransfer) → list_all (λ slot. not (slot == t.slot)) (slots_of us) ≡ true → AllByRecursion (λ v. v.slot ≢ t.slot) us
-    others [] q = tt
-    others (v ∷ us) q = (λ same. eqb-false _ _ (not-true _ (and_parts (not (v.slot == t.slot)) _ q).0) same, others us (and_parts (not (v.slot == t.slot)) _ q).1)
-
     rest : AllByRecursion (λ v. v.slot ≢ t.slot) ts
-    rest = others ts (and_parts _ _ d).0
+    rest =
+        each-unmap (λ n. n ≢ t.slot) (λ (v : StoredTransfer). v.slot) ts
+        (each-imp _ _ (λ n k. eqb-false n t.slot (not-true _ k)) (slots_of ts) (all-each (λ n. not (n == t.slot)) (slots_of ts) (and_parts _ _ d).0))
 
-    go : (b : Bool) → cond b (Some t) (stored_of ts client id) ≡ Some u → (stored_of ts client id ≡ Some u → AllByRecursion (λ v. (v.slot ≢ u.slot) ⊎ (v ≡ u)) ts) → AllByRecursion (λ v. (v.slot ≢ u.slot) ⊎ (v ≡ u)) (t ∷ ts)
-    go true k rec = let same : t ≡ u = cc in (inr same, each-imp _ _ (λ v differ. inl (subst (λ w. v.slot ≢ w.slot) same differ)) ts rest)
-    go false k rec = (inl (λ same. (found-has (λ v. is_of client id v.header) (λ v. v.slot ≢ t.slot) ts u rest k).1 (sym same)), rec k)
+    go : (b : Bool) → cond b (Some t) (stored_of ts client id) ≡ Some u
+        → (stored_of ts client id ≡ Some u → AllByRecursion (λ v. (v.slot ≢ u.slot) ⊎ (v ≡ u)) ts)
+        → AllByRecursion (λ v. (v.slot ≢ u.slot) ⊎ (v ≡ u)) (t ∷ ts)
+    go true k rec =
+        let same : t ≡ u = cc in
+        (inr same, each-imp _ _ (λ v differ. inl (subst (λ w. v.slot ≢ w.slot) same differ)) ts rest)
+    go false k rec =
+        (inl (λ same. (found-has (λ v. is_of client id v.header) (λ v. v.slot ≢ t.slot) ts u rest k).1 (sym same)), rec k)
 
 -- areas with other slots hold the same on every side
-side-stands : (v : Holding) (slots : List Bytes) (m : Manifest) (a : Action) → content_of (goes_to v.state m a) (record v.areas { slots = slots }) ≡ content_of (goes_to v.state m a) v.areas
+side-stands : (v : Holding) (slots : List Bytes) (m : Manifest) (a : Action)
+    → content_of (goes_to v.state m a) (record v.areas { slots = slots }) ≡ content_of (goes_to v.state m a) v.areas
 side-stands v slots m Install = refl
 side-stands v slots m Update = refl
 side-stands v slots m Remove = refl
 
--- what is copied stays copied
-copied-stands : (v : Holding) (slots : List Bytes) (t : StoredTransfer)
-    → transfer_meaning package_reading (record v.areas { slots = slots }) t ≡ transfer_meaning package_reading v.areas t
-    → IsCopiedIn package_reading v.areas v.state t t.header.phase
-    → IsCopiedIn package_reading (record v.areas { slots = slots }) v.state t t.header.phase
-copied-stands v slots t same copied =
-    copied-when (record v.areas { slots = slots }) v.state t t.header.phase (λ e.
-    subst (λ (m : NodeTransfer). AllByRecursion (IsPartCopied (record v.areas { slots = slots }) v.state) m.parts) (sym same)
-    (each-imp _ _ (λ part c. ap (take (units_done v.state * block_limit)) (side-stands v slots part.manifest part.manifest.action) ∙ c) _
-    (subst (IsCopiedIn package_reading v.areas v.state t) e copied)))
-
--- what a put behind the bytes that came of the transfer that was found leaves
-pub record IsLeft (v : Holding) (areas : Areas) : Type 0 where
-  pub node : meaning package_reading areas v.state ≡ node_of v
-  pub order : IsInOrder package_reading areas v.state
-  pub copied : IsCopied package_reading areas v.state
-
--- where every transfer means the same
-same-left : (v : Holding) (slots : List Bytes) → IsSound v → AllByRecursion (λ t. transfer_meaning package_reading (record v.areas { slots = slots }) t ≡ transfer_meaning package_reading v.areas t) v.state.transfers → IsLeft v (record v.areas { slots = slots })
-same-left v slots sound each = record {
+-- where they hold the same of each transfer the node is kept
+same-kept : (v : Holding) (slots : List Bytes) (faults : ℕ) (p : Prepared) → IsSound v → v.faults ≤ faults
+    → AllByRecursion (λ t. transfer_meaning package_reading (record v.areas { slots = slots }) t ≡ transfer_meaning package_reading v.areas t) v.state.transfers
+    → IsKept v (record { areas = record v.areas { slots = slots }; faults = faults; state = v.state; prepared = p })
+same-kept v slots faults p sound more each = record {
+  state = refl;
   node = ap (λ ts. record (node_of v) { transfers = ts })
-      (map-same (transfer_meaning package_reading (record v.areas { slots = slots })) (transfer_meaning package_reading v.areas) v.state.transfers each);
+      (map-same (transfer_meaning package_reading areas) (transfer_meaning package_reading v.areas) v.state.transfers each);
   order = record {
     clusters = sound.order.clusters;
     session = sound.order.session;
-    transfers = each-both _ _ _ (λ t same placed. record { slot = placed.slot; contents = placed.contents ∙ ap (λ (m : NodeTransfer). map (λ part. record { manifest = part.manifest; payload = length part.payload }) m.parts) (sym same) }) v.state.transfers each sound.order.transfers;
+    transfers = each-both _ _ _ (λ t same placed. record {
+      slot = placed.slot;
+      contents = placed.contents ∙ ap (λ (m : NodeTransfer). map with_length m.parts) (sym same);
+    }) v.state.transfers each sound.order.transfers;
     slots = sound.order.slots;
     places = sound.order.places;
     running = sound.order.running;
   };
-  copied = each-both _ _ _ (copied-stands v slots) v.state.transfers each sound.copied;
+  copied = each-both _ _ _ copied v.state.transfers each sound.copied;
+  faults = more;
 }
+  where
+    areas : Areas
+    areas = record v.areas { slots = slots }
+
+    copied : (t : StoredTransfer) → transfer_meaning package_reading areas t ≡ transfer_meaning package_reading v.areas t
+        → IsCopiedIn package_reading v.areas v.state t t.header.phase → IsCopiedIn package_reading areas v.state t t.header.phase
+    copied t same c = copied-when areas v.state t t.header.phase (λ e.
+        subst (λ (m : NodeTransfer). AllByRecursion (IsPartCopied areas v.state) m.parts) (sym same)
+        (each-imp _ _ (λ part k. ap (take (units_done v.state * block_limit)) (side-stands v slots part.manifest part.manifest.action) ∙ k) _
+        (subst (IsCopiedIn package_reading v.areas v.state t) e c)))
 
 module _ (v : Holding) (sound : IsSound v) (client id : ℕ) (u : StoredTransfer) (e : stored_of v.state.transfers client id ≡ Some u) where
   -- its slot is one
   pub slot-is : u.slot < transfer_limit
-  slot-is = (found-has (λ t. is_of client id t.header) (λ t. t.slot < transfer_limit) v.state.transfers u (each-imp _ _ (λ t placed. placed.slot) v.state.transfers sound.order.transfers) e).1
+  slot-is =
+      (found-has (λ t. is_of client id t.header) (λ t. t.slot < transfer_limit) v.state.transfers u
+      (each-imp _ _ (λ t placed. placed.slot) v.state.transfers sound.order.transfers) e).1
 
   -- its bytes lie there
   pub came-lies : u.header.received ≤ length (content_of (Transfer u.slot) v.areas)
   came-lies =
-      let each = each-unmap (IsSoundTransfer v.state.next_id) (transfer_meaning package_reading v.areas) v.state.transfers sound.fit.consistent.transfers.each in
-      let own = (found-has (λ t. is_of client id t.header) (λ t. IsSoundTransfer v.state.next_id (transfer_meaning package_reading v.areas t)) v.state.transfers u each e).1 in
+      let means = transfer_meaning package_reading v.areas in
+      let each = each-unmap (IsSoundTransfer v.state.next_id) means v.state.transfers sound.fit.consistent.transfers.each in
+      let own = (found-has (λ t. is_of client id t.header) (λ t. IsSoundTransfer v.state.next_id (means t)) v.state.transfers u each e).1 in
       let width = length-take u.header.received (content_of (Transfer u.slot) v.areas) in
       omega (arith, own.bytes, width)
 
-  pub put-leaves-node : (fit : AreasFit v.areas) (n : ℕ) (areas : Areas) → LeavesOutside (Transfer u.slot) u.header.received n v.areas areas → IsLeft v areas
-  put-leaves-node fit n areas left =
-      let each = each-both _ _ _ (λ t placed where_is. transfer-stands u.slot u.header.received n v.areas areas slot-is fit left package_reading t placed.slot (or-came t where_is)) v.state.transfers sound.order.transfers (apart client id v.state.transfers u sound.order.slots e) in
-      subst (IsLeft v) (sym left.elsewhere) (same-left v _ sound (each-imp _ _ (λ t same. ap (λ z. transfer_meaning package_reading z t) (sym left.elsewhere) ∙ same) v.state.transfers each))
+  -- a put behind them leaves what each transfer means
+  put-stands : AreasFit v.areas → (n : ℕ) (areas : Areas) → LeavesOutside (Transfer u.slot) u.header.received n v.areas areas
+      → AllByRecursion (λ t. transfer_meaning package_reading areas t ≡ transfer_meaning package_reading v.areas t) v.state.transfers
+  put-stands fit n areas left = each-both _ _ _ (λ t placed where_is.
+      transfer-stands u.slot u.header.received n v.areas areas slot-is fit left package_reading t placed.slot (or-came t where_is))
+      v.state.transfers sound.order.transfers (apart client id v.state.transfers u sound.order.slots e)
     where
       or-came : (t : StoredTransfer) → (t.slot ≢ u.slot) ⊎ (t ≡ u) → (t.slot ≢ u.slot) ⊎ (t.header.received ≤ u.header.received)
       or-came t (inl differ) = inl differ
       or-came t (inr same) = inr (omega (arith, ap (λ (x : StoredTransfer). x.header.received) same))
-
--- a look-up is that of a stored transfer
-stored-found : (o : Option StoredTransfer) (f : Found) → option_map (λ t. record { header = t.header; slot = t.slot }) o ≡ Some f → (u : StoredTransfer) × (o ≡ Some u) × (f ≡ record { header = u.header; slot = u.slot })
-stored-found o f e = grind arith
-
--- what a put leaves is kept
-pub kept-of : (v : Holding) (areas : Areas) (faults : ℕ) (p : Prepared) → v.faults ≤ faults → IsLeft v areas → IsKept v (record { areas = areas; faults = faults; state = v.state; prepared = p })
-kept-of v areas faults p more left = record { state = refl; node = left.node; order = left.order; copied = left.copied; faults = more }
 
 -- a call that is refused needs nothing
 pub refused-block : {v w : Holding} → v ≡ w → (client id counter : ℕ) (block : Bytes) → block_refusal v client id counter block ≢ None
@@ -116,47 +118,81 @@ refused-exit {w = w} e client id refused none =
     absurd (refused (ap (λ (x : Holding). exit_refusal x client id) e
     ∙ ap (λ h. first_refusal (exit_refusals h)) (sym (header-means package_reading w.areas (is_of client id) w.state.transfers)) ∙ none))
 
-module _ (v : Holding) (sound : IsSound v) (client id : ℕ) (f : Found) (e : found_of v.state.transfers client id ≡ Some f) where
+-- a look-up of a node by its parts
+module _ {v w : Holding} (view : v ≡ w) (sound : IsSound w) (client id : ℕ) (f : Found) (e : found_of v.state.transfers client id ≡ Some f) where
+  own : IsSound v
+  own = subst IsSound (sym view) sound
+
+  -- it is of a stored transfer
   there : (u : StoredTransfer) × (stored_of v.state.transfers client id ≡ Some u) × (f ≡ record { header = u.header; slot = u.slot })
-  there = stored-found (stored_of v.state.transfers client id) f e
+  there = stored-found (stored_of v.state.transfers client id) e
+    where
+      stored-found : (o : Option StoredTransfer) → option_map (λ t. record { header = t.header; slot = t.slot }) o ≡ Some f
+          → (u : StoredTransfer) × (o ≡ Some u) × (f ≡ record { header = u.header; slot = u.slot })
+      stored-found o is = grind arith
 
   pub found-slot : f.slot < transfer_limit
-  found-slot = subst (λ (x : Found). x.slot < transfer_limit) (sym there.2) (slot-is v sound client id there.0 there.1)
+  found-slot = subst (λ (x : Found). x.slot < transfer_limit) (sym there.2) (slot-is v own client id there.0 there.1)
 
   pub found-lies : f.header.received ≤ length (content_of (Transfer f.slot) v.areas)
-  found-lies = subst (λ (x : Found). x.header.received ≤ length (content_of (Transfer x.slot) v.areas)) (sym there.2) (came-lies v sound client id there.0 there.1)
+  found-lies =
+      subst (λ (x : Found). x.header.received ≤ length (content_of (Transfer x.slot) v.areas)) (sym there.2)
+      (came-lies v own client id there.0 there.1)
 
   pub found-fits : f.header.size ≤ package_limit
   found-fits = subst (λ (x : Found). x.header.size ≤ package_limit) (sym there.2)
-      (found-has (λ t. is_of client id t.header) (λ t. t.header.size ≤ package_limit) v.state.transfers there.0 (each-imp _ _ (λ t bounded. bounded.size) v.state.transfers (table-is v sound).each) there.1).1
+      (found-has (λ t. is_of client id t.header) (λ t. t.header.size ≤ package_limit) v.state.transfers there.0
+      (each-imp _ _ (λ t bounded. bounded.size) v.state.transfers (table-is v own).each) there.1).1
 
-  pub found-left : AreasFit v.areas → (n : ℕ) (areas : Areas) → LeavesOutside (Transfer f.slot) f.header.received n v.areas areas → IsLeft v areas
-  found-left fit n areas left = put-leaves-node v sound client id there.0 there.1 fit n areas (subst (λ (x : Found). LeavesOutside (Transfer x.slot) x.header.received n v.areas areas) there.2 left)
+  -- what a put leaves is kept, if it fails
+  pub failed-kept : AreasFit v.areas → (n : ℕ) (areas : Areas) (faults : ℕ) (p : Prepared) → v.faults ≤ faults
+      → LeavesOutside (Transfer f.slot) f.header.received n v.areas areas
+      → IsKept w (record { areas = areas; faults = faults; state = v.state; prepared = p })
+  failed-kept fit n areas faults p more left =
+      let each = put-stands v own client id there.0 there.1 fit n areas
+      (subst (λ (x : Found). LeavesOutside (Transfer x.slot) x.header.received n v.areas areas) there.2 left) in
+      subst (λ (k : Holding × Areas). IsKept k.0 (record { areas = k.1; faults = faults; state = v.state; prepared = p }))
+      (λ i. (view i, sym left.elsewhere i)) (same-kept v _ faults p own more
+      (each-imp _ _ (λ t same. ap (λ z. transfer_meaning package_reading z t) (sym left.elsewhere) ∙ same) v.state.transfers each))
+
+  -- and if it succeeds
+  pub put-kept : AreasFit v.areas → (block : Bytes) (areas : Areas) (faults : ℕ) (p : Prepared) → v.faults ≤ faults
+      → areas ≡ with_content (Transfer f.slot) (overwritten f.header.received block (content_of (Transfer f.slot) v.areas)) v.areas
+      → IsKept w (record { areas = areas; faults = faults; state = v.state; prepared = p })
+  put-kept fit block areas faults p more put =
+      failed-kept fit (length block) areas faults p more
+      (subst (LeavesOutside (Transfer f.slot) f.header.received (length block) v.areas) (sym put)
+      (put-leaves (Transfer f.slot) v.areas found-slot fit f.header.received block found-lies))
 
   -- a block that was put is ready
-  pub put-ready : AreasFit v.areas → (counter : ℕ) (block : Bytes) (areas : Areas) (faults : ℕ) (p : Prepared) → areas ≡ with_content (Transfer f.slot) (overwritten f.header.received block (content_of (Transfer f.slot) v.areas)) v.areas
+  pub put-ready : AreasFit v.areas → (counter : ℕ) (block : Bytes) (areas : Areas) (faults : ℕ) (p : Prepared)
+      → areas ≡ with_content (Transfer f.slot) (overwritten f.header.received block (content_of (Transfer f.slot) v.areas)) v.areas
       → IsReady (record { areas = areas; faults = faults; state = v.state; prepared = p }) client (TransferData id counter block)
   put-ready fit counter block areas faults p put none =
+      let at = f.header.received in
+      let area = Transfer f.slot in
       each-imp _ _ (λ t behind same. behind (eqb-of t.header.id id same)) v.state.transfers
-      (only-has (IsBehind areas block) client id v.state.transfers there.0 (rise v sound) there.1
+      (only-has (IsBehind areas block) client id v.state.transfers there.0 (rise v own) there.1
       (subst (λ (x : Found). slice_range (content_of (Transfer x.slot) areas) x.header.received (x.header.received + length block) ≡ block) there.2
-      (ap (λ a. slice_range (content_of (Transfer f.slot) a) f.header.received (f.header.received + length block)) put
-      ∙ ap (λ c. slice_range c f.header.received (f.header.received + length block)) (content-here (Transfer f.slot) v.areas found-slot fit _)
-      ∙ slice-overwritten f.header.received block (content_of (Transfer f.slot) v.areas) found-lies)))
+      (ap (λ a. slice_range (content_of area a) at (at + length block)) put
+      ∙ ap (λ c. slice_range c at (at + length block)) (content-here area v.areas found-slot fit _)
+      ∙ slice-overwritten at block (content_of area v.areas) found-lies)))
     where
       eqb-of : (a b : ℕ) → a ≡ b → (a == b) ≡ true
       eqb-of a b same = grind (arith, nat_tests, same)
 
   -- a verdict on the bytes that were got is ready
-  pub got-ready : (bytes : Bytes) (verdict : ExitVerdict) (areas : Areas) (faults : ℕ) → areas ≡ v.areas → bytes ≡ slice_range (content_of (Transfer f.slot) v.areas) 0 (0 + f.header.received) → IsVerdict verdict (package_reading bytes)
+  pub got-ready : (bytes : Bytes) (verdict : ExitVerdict) (areas : Areas) (faults : ℕ) → areas ≡ v.areas
+      → bytes ≡ slice_range (content_of (Transfer f.slot) v.areas) 0 (0 + f.header.received) → IsVerdict verdict (package_reading bytes)
       → IsReady (record { areas = areas; faults = faults; state = v.state; prepared = Judged verdict }) client (TransferExit id)
   got-ready bytes verdict areas faults same got judged none =
+      let slot = content_of (Transfer f.slot) v.areas in
+      let means = transfer_meaning package_reading in
+      let came = got ∙ ap (slice_range slot 0) (zero-add f.header.received) ∙ front_slice f.header.received slot
+      ∙ ap (λ (x : Found). take x.header.received (content_of (Transfer x.slot) v.areas)) there.2 in
       subst (IsVerdict verdict)
-      (ap package_reading (got ∙ ap (slice_range (content_of (Transfer f.slot) v.areas) 0) (zero-add f.header.received) ∙ front_slice f.header.received (content_of (Transfer f.slot) v.areas) ∙ ap (λ (x : Found). take x.header.received (content_of (Transfer x.slot) v.areas)) there.2)
-      ∙ sym (ap (λ a. package_reading (option_map_or (λ t. t.bytes) (find (λ t. is_of client id t.header) (map (transfer_meaning package_reading a) v.state.transfers)) [])) same
-      ∙ ap (λ o. package_reading (option_map_or (λ t. t.bytes) o [])) (found-means package_reading v.areas client id v.state.transfers ∙ ap (option_map (transfer_meaning package_reading v.areas)) there.1)))
+      (ap package_reading came
+      ∙ sym (ap (λ a. package_reading (option_map_or (λ t. t.bytes) (find (λ t. is_of client id t.header) (map (means a) v.state.transfers)) [])) same
+      ∙ ap (λ o. package_reading (option_map_or (λ t. t.bytes) o [])) (found-means package_reading v.areas client id v.state.transfers
+      ∙ ap (option_map (means v.areas)) there.1)))
       judged
-
--- the same of an equal node
-pub kept-from : {v w new : Holding} → v ≡ w → IsKept v new → IsKept w new
-kept-from {new = new} e k = subst (λ v. IsKept v new) e k

@@ -1,6 +1,5 @@
-use Rattle.node_core.proofs.Names.{ap, arith, change_kept, refl, ℕ, ◌<◌, ◌∙◌, ◌≡◌}
+use Rattle.node_core.proofs.Names.{IsKept, ap, arith, change_kept, refl, subst, ℕ, ◌<◌, ◌∙◌, ◌≡◌}
 use Rattle.node_core.proofs.Copied.{needs, on-ok}
-use Rattle.node_core.proofs.Staging.{kept-from}
 use Rattle.node_core.proofs.held.Held.reserve_unit.Goals as goal
 
 some-left : (n : ℕ) → (n ≡ 0 → ⊥) → 0 < n
@@ -32,7 +31,7 @@ copy-requires-clause-fits g c = (needs c.self.view_is c.requires.sound c.require
 
 pub returns-clause-kept : goal.returns-clause-kept
 returns-clause-kept g c =
-    kept-from c.self.view_is ((needs c.self.view_is c.requires.sound c.requires.status c.in_ok-next.ensures c.in-Some.is).kept
+    subst (λ v. IsKept v c.copy.new.self) c.self.view_is ((needs c.self.view_is c.requires.sound c.requires.status c.in_ok-next.ensures c.in-Some.is).kept
     (g.met.S.Staging.areas_fit c.self.inside.staging) (some-left c.in-Some.next.len c.if-len-eq0.false)
     c.copy.new.self c.copy.ensures.state c.copy.ensures.faults c.copy.ensures.left)
 
