@@ -138,18 +138,19 @@ module _ (areas : Areas) (s : State) where
       by (change ∷ changes) = to-there Ready (Some (record x { changes = change ∷ changes }))
 
 -- an accepted call is judged, where what it does before it leads somewhere is what it should be, in order and copied
-pub done-judged : (v : Holding) (client : ℕ) (c : Call) (goal : Goal) (s : State) (p : Prepared) (before : NodeState)
+pub done-judged : (v : Holding) (client : ℕ) (c : Call) (reply : Reply) (new : Holding) (goal : Goal) (s : State) (p : Prepared) (before : NodeState)
     → refusal_by v client c ≡ None → acceptance (node_of v) client c ≡ Done
     → accepted (node_of v) client c (verdict_on v client c) ≡ led_by c before → meaning package_reading v.areas s ≡ before
     → status_table s.status c ≡ Some goal → IsInOrder package_reading v.areas s → IsCopied package_reading v.areas s
-    → s.entries ≡ v.state.entries → IsJudged v client c Done (record v { state = arrived goal s; prepared = p })
-done-judged v client c goal s p before none done leads same table order copied entries = record {
-  answer = sym done ∙ ap (refused_or (acceptance (node_of v) client c)) (sym none);
-  node = there.node ∙ led ∙ sym leads;
-  order = there.order;
-  copied = there.copied;
-  entries = there.entries ∙ entries;
-}
+    → s.entries ≡ v.state.entries → reply ≡ Done → new ≡ record v { state = arrived goal s; prepared = p } → IsJudged v client c reply new
+done-judged v client c reply new goal s p before none done leads same table order copied entries replies is =
+    subst (λ (x : Reply × Holding). IsJudged v client c x.0 x.1) (sym (λ i. (replies i, is i))) (record {
+      answer = sym done ∙ ap (refused_or (acceptance (node_of v) client c)) (sym none);
+      node = there.node ∙ led ∙ sym leads;
+      order = there.order;
+      copied = there.copied;
+      entries = there.entries ∙ entries;
+    })
   where
     led : arrive (meaning package_reading v.areas s) goal ≡ led_by c before
     led =
@@ -169,9 +170,8 @@ pub led-judged : (v : Holding) (client : ℕ) (c : Call) (reply : Reply) (new : 
     → accepted (node_of v) client c (verdict_on v client c) ≡ led_by c (node_of v)
     → status_table v.state.status c ≡ Some goal → reply ≡ Done → new ≡ record v { state = arrived goal v.state }
     → IsJudged v client c reply new
-led-judged v client c reply new goal sound none done leads table replies is =
-    subst (λ (x : Reply × Holding). IsJudged v client c x.0 x.1) (sym (λ i. (replies i, is i)))
-    (done-judged v client c goal v.state v.prepared (node_of v) none done leads refl table sound.order sound.copied refl)
+led-judged v client c reply new goal sound none done leads table =
+    done-judged v client c reply new goal v.state v.prepared (node_of v) none done leads refl table sound.order sound.copied refl
 
 -- a call that only leads somewhere is refused as its session says, and does nothing before
 module _ (v : Holding) (client : ℕ) (c : Call) (sound : IsSound v) (only : OnlyLeads c) where

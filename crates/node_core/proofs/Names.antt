@@ -28,8 +28,8 @@ pub use Rattle.pm_types.specs.NodeState.{NodeState, Session, SessionOf, Transfer
 pub use Rattle.pm_types.specs.Queries.{answer}
 pub use Rattle.pm_types.specs.Refusals.{first_refusal}
 pub use Rattle.pm_types.specs.Sessions.{CleanUp, Goal, Resume, To, activate_refusal, applies, arrive, begin_processing, cancel_refusals}
-pub use Rattle.pm_types.specs.Sessions.{changes_in, is_install, is_old, is_update, is_wrong_tag, led_by, new_session, part_refusals}
-pub use Rattle.pm_types.specs.Sessions.{parts_refusal, process_refusal, session_refusals, status_table, stop_processing, suits}
+pub use Rattle.pm_types.specs.Sessions.{changes_in, is_install, is_update, is_wrong_tag, led_by, new_session, part_refusals, parts_refusal}
+pub use Rattle.pm_types.specs.Sessions.{process_refusal, session_refusals, status_table, stop_processing, suits}
 pub use Rattle.pm_types.specs.Steps.{acceptance, accepted, after_call, after_reply, refused_or, repeat_of, reply_to, step, synced}
 pub use Rattle.pm_types.specs.Stored.{Areas, IsExtent, IsInOrder, IsPlaced, State, change_meaning, change_place, cluster_meaning}
 pub use Rattle.pm_types.specs.Stored.{cluster_place, fresh_state, meaning, names_fit_places, on_side, places_in, session_meaning}

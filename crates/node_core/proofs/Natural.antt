@@ -1,35 +1,17 @@
 -- What is said of names, versions and needs is the same of where contents lie as of the contents.
 use Rattle.node_core.proofs.Names.{Action, ActionNotApplicable, Areas, Bool, Bytes, Change, Cluster, ClusterAlreadyChanged, Extent}
-use Rattle.node_core.proofs.Names.{Install, List, None, OldVersion, Option, Part, Refusal, Remove, Some, TooManyClusters, Update, ap}
-use Rattle.node_core.proofs.Names.{brought, bytes_eq, change_meaning, changed_as, changed_by, cluster_at, cluster_limit}
-use Rattle.node_core.proofs.Names.{cluster_meaning, cluster_of, different_names, filter, first_refusal, has_cluster, is_install}
-use Rattle.node_core.proofs.Names.{is_newer, is_old, is_update, length, list_any, map, map-append, map-map, missing, name_lt, nat_le}
-use Rattle.node_core.proofs.Names.{not, option_map, option_or, part_refusals, parts_refusal, planned, refl, some_passes, suits, sym}
-use Rattle.node_core.proofs.Names.{unmet_among, with_cluster, with_length, [], ℕ, ◌&&◌, ◌++◌, ◌∙◌, ◌∷◌, ◌≡◌}
+use Rattle.node_core.proofs.Names.{Install, List, None, OldVersion, Option, Part, Remove, Some, TooManyClusters, Update, ap, brought}
+use Rattle.node_core.proofs.Names.{bytes_eq, change_meaning, changed_as, changed_by, cluster_at, cluster_limit, cluster_meaning}
+use Rattle.node_core.proofs.Names.{cluster_of, different_names, filter, first_refusal, has_cluster, is_install, is_newer, is_update}
+use Rattle.node_core.proofs.Names.{length, map, map-append, map-map, missing, name_lt, nat_le, not, option_map, option_or}
+use Rattle.node_core.proofs.Names.{part_refusals, parts_refusal, planned, refl, some_passes, suits, sym, unmet_among, with_cluster}
+use Rattle.node_core.proofs.Names.{with_length, [], ℕ, ◌&&◌, ◌++◌, ◌∙◌, ◌∷◌, ◌≡◌}
 use Rattle.dependency_check.proofs.Mapped.{list_any-map}
 use Rattle.node_core.proofs.Lists.{filter-map, find-map}
 
 passes-map : {X Y : Type 0} (p : Y → Bool) (f : X → Y) (o : Option X) → some_passes p (option_map f o) ≡ some_passes (λ x. p (f x)) o
 passes-map p f None = refl
 passes-map p f (Some x) = refl
-
--- a part is refused as one with another payload
-module _ {C D : Type 0} (running : List (Cluster C)) (changes : List (Change D)) where
-  -- the refusal by the names that stand before
-  abbrev rows-refuse : List (List ℕ) → Part Bytes → Option Refusal
-  rows-refuse names part = first_refusal (
-      (list_any (λ change. bytes_eq (cluster_of change.part) (cluster_of part)) changes, ClusterAlreadyChanged)
-      ∷ (not (suits part.manifest.action (has_cluster running (cluster_of part))), ActionNotApplicable)
-      ∷ (is_old part running, OldVersion)
-      ∷ (is_install part.manifest.action && nat_le cluster_limit (length (different_names (map (λ c. c.name) running ++ map (λ change. cluster_of change.part) changes ++ names))), TooManyClusters)
-      ∷ [])
-
-  pub parts-with-length : (before parts : List (Part Bytes)) → parts_refusal running changes (map with_length before) (map with_length parts) ≡ parts_refusal running changes before parts
-  parts-with-length before [] = refl
-  parts-with-length before (part ∷ parts) =
-      (λ i. option_or (rows-refuse (map-map cluster_of with_length before i) part) (parts_refusal running changes (map with_length before ++ with_length part ∷ []) (map with_length parts)))
-      ∙ ap (λ l. option_or (first_refusal (part_refusals running changes before part)) (parts_refusal running changes l (map with_length parts))) (sym (map-append with_length before (part ∷ [])))
-      ∙ ap (option_or (first_refusal (part_refusals running changes before part))) (parts-with-length (before ++ part ∷ []) parts)
 
 module _ (areas : Areas) where
   abbrev means : List (Cluster Extent) → List (Cluster Bytes)
@@ -41,11 +23,13 @@ module _ (areas : Areas) where
   pub has-means : (cs : List (Cluster Extent)) (name : List ℕ) → has_cluster (means cs) name ≡ has_cluster cs name
   has-means cs name = list_any-map (λ (c : Cluster Bytes). bytes_eq c.name name) (cluster_meaning areas) cs
 
-  pub at-means : (cs : List (Cluster Extent)) (name : List ℕ) → cluster_at (means cs) name ≡ option_map (cluster_meaning areas) (cluster_at cs name)
+  at-means : (cs : List (Cluster Extent)) (name : List ℕ)
+      → cluster_at (means cs) name ≡ option_map (cluster_meaning areas) (cluster_at cs name)
   at-means cs name = find-map (cluster_meaning areas) (λ (c : Cluster Bytes). bytes_eq c.name name) cs
 
-  -- parts are refused as what stands stored says
-  pub refused-means : {E : Type 0} (running : List (Cluster Extent)) (changes : List (Change Extent)) (before : List (Part E)) (part : Part E) → part_refusals (means running) (plans changes) before part ≡ part_refusals running changes before part
+  -- a part is refused as what stands stored says, whatever its payload
+  refused-means : (running : List (Cluster Extent)) (changes : List (Change Extent)) (before : List (Part Bytes)) (part : Part Bytes)
+      → part_refusals (means running) (plans changes) before part ≡ part_refusals running changes (map with_length before) (with_length part)
   refused-means running changes before part = λ i.
       (list_any-map (λ (c : Change Bytes). bytes_eq (cluster_of c.part) (cluster_of part)) (change_meaning areas) changes i, ClusterAlreadyChanged)
       ∷ (not (suits part.manifest.action (has-means running (cluster_of part) i)), ActionNotApplicable)
@@ -53,15 +37,27 @@ module _ (areas : Areas) where
       ∷ (is_install part.manifest.action && nat_le cluster_limit (length (different_names (names i))), TooManyClusters)
       ∷ []
     where
-      older : some_passes (λ (c : Cluster Bytes). not (is_newer part.manifest.version c.version)) (cluster_at (means running) (cluster_of part)) ≡ some_passes (λ (c : Cluster Extent). not (is_newer part.manifest.version c.version)) (cluster_at running (cluster_of part))
-      older = ap (some_passes (λ (c : Cluster Bytes). not (is_newer part.manifest.version c.version))) (at-means running (cluster_of part)) ∙ passes-map (λ (c : Cluster Bytes). not (is_newer part.manifest.version c.version)) (cluster_meaning areas) (cluster_at running (cluster_of part))
+      older : some_passes (λ (c : Cluster Bytes). not (is_newer part.manifest.version c.version)) (cluster_at (means running) (cluster_of part))
+          ≡ some_passes (λ (c : Cluster Extent). not (is_newer part.manifest.version c.version)) (cluster_at running (cluster_of part))
+      older =
+          let newer = λ (c : Cluster Bytes). not (is_newer part.manifest.version c.version) in
+          ap (some_passes newer) (at-means running (cluster_of part)) ∙ passes-map newer (cluster_meaning areas) (cluster_at running (cluster_of part))
 
-      names : map (λ (c : Cluster Bytes). c.name) (means running) ++ map (λ (c : Change Bytes). cluster_of c.part) (plans changes) ++ map cluster_of before ≡ map (λ (c : Cluster Extent). c.name) running ++ map (λ (c : Change Extent). cluster_of c.part) changes ++ map cluster_of before
-      names = λ i. map-map (λ (c : Cluster Bytes). c.name) (cluster_meaning areas) running i ++ map-map (λ (c : Change Bytes). cluster_of c.part) (change_meaning areas) changes i ++ map cluster_of before
+      names : map (λ (c : Cluster Bytes). c.name) (means running) ++ map (λ (c : Change Bytes). cluster_of c.part) (plans changes) ++ map cluster_of before
+          ≡ map (λ (c : Cluster Extent). c.name) running ++ map (λ (c : Change Extent). cluster_of c.part) changes
+          ++ map cluster_of (map with_length before)
+      names = λ i. map-map (λ (c : Cluster Bytes). c.name) (cluster_meaning areas) running i
+          ++ map-map (λ (c : Change Bytes). cluster_of c.part) (change_meaning areas) changes i
+          ++ sym (map-map cluster_of with_length before) i
 
-  pub parts-mean : {E : Type 0} (running : List (Cluster Extent)) (changes : List (Change Extent)) (before parts : List (Part E)) → parts_refusal (means running) (plans changes) before parts ≡ parts_refusal running changes before parts
+  pub parts-mean : (running : List (Cluster Extent)) (changes : List (Change Extent)) (before parts : List (Part Bytes))
+      → parts_refusal (means running) (plans changes) before parts
+      ≡ parts_refusal running changes (map with_length before) (map with_length parts)
   parts-mean running changes before [] = refl
-  parts-mean running changes before (part ∷ parts) = λ i. option_or (first_refusal (refused-means running changes before part i)) (parts-mean running changes (before ++ part ∷ []) parts i)
+  parts-mean running changes before (part ∷ parts) =
+      (λ i. option_or (first_refusal (refused-means running changes before part i)) (parts-mean running changes (before ++ part ∷ []) parts i))
+      ∙ ap (λ l. option_or (first_refusal (part_refusals running changes (map with_length before) (with_length part)))
+      (parts_refusal running changes l (map with_length parts))) (map-append with_length before (part ∷ []))
 
   -- planned changes
   with-means : (c : Cluster Extent) (cs : List (Cluster Extent)) → with_cluster (cluster_meaning areas c) (means cs) ≡ means (with_cluster c cs)

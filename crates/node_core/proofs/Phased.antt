@@ -5,11 +5,11 @@ use Rattle.node_core.proofs.Names.{SessionOf, Some, State, StoredTransfer, Trans
 use Rattle.node_core.proofs.Names.{false, first_refusal, found_of, header_of, if◌then◌else◌, in_phase, is_in, is_of, map, meaning}
 use Rattle.node_core.proofs.Names.{moved, node_of, not, option_map, option_or, package_reading, parts_read, paused, phase_code, phased}
 use Rattle.node_core.proofs.Names.{places_in, refl, refusal_by, session_meaning, session_refusals, slice_index_or, slots_differ}
-use Rattle.node_core.proofs.Names.{some_passes, status_table, stop_processing, stopped, stored_header, stored_of, subst, sym, take}
+use Rattle.node_core.proofs.Names.{some_passes, status_table, stop_processing, stopped, stored_header, stored_of, sym, take}
 use Rattle.node_core.proofs.Names.{transfer_meaning, transfer_of, true, units_done, with_length, with_phase, [], ℕ, ◌==◌, ◌∙◌, ◌∷◌, ◌≡◌}
 use Rattle.transfer_blocks.proofs.Meanings.{header-means}
 use Rattle.node_laws.proofs.Lists.{found-has, both-none, is-processing, not-false, rows-clear}
-use Rattle.node_core.proofs.Arrived.{copied-by, done-judged}
+use Rattle.node_core.proofs.Arrived.{marked, copied-by, done-judged}
 use Rattle.node_core.proofs.Lists.{every, change-each}
 use Rattle.node_core.proofs.Stored.{found-header, rise, changed-means, only-has, some-stored}
 
@@ -21,15 +21,21 @@ pub same-slots : (id : ℕ) (phase : Phase) (ts : List StoredTransfer) → map (
 same-slots id phase [] = refl
 same-slots id phase (t ∷ ts) = grind (arith, same-slots id phase ts)
 
-module _ (v : Holding) (sound : IsSound v) (client id : ℕ) (u : StoredTransfer) (e : stored_of v.state.transfers client id ≡ Some u) (phase : Phase) (whole : (phase_code u.header.phase == 0) ≡ false) (stays : (phase_code phase == 0) ≡ false) where
-  -- a transfer that is whole has the same parts in the other phase
-  same-meaning : transfer_meaning package_reading v.areas (moved phase u) ≡ record (transfer_meaning package_reading v.areas u) { header = in_phase phase u.header }
+-- a transfer that is whole goes to a phase where it still is
+module _ (v : Holding) (sound : IsSound v) (client id : ℕ) (u : StoredTransfer) (e : stored_of v.state.transfers client id ≡ Some u)
+    (phase : Phase) (whole : (phase_code u.header.phase == 0) ≡ false) (stays : (phase_code phase == 0) ≡ false) where
+  -- it has the same parts there
+  same-meaning : transfer_meaning package_reading v.areas (moved phase u)
+      ≡ record (transfer_meaning package_reading v.areas u) { header = in_phase phase u.header }
   same-meaning =
       let bytes = take u.header.received (slice_index_or v.areas.slots u.slot []) in
-      ap (λ b. record { header = in_phase phase u.header; bytes = bytes; parts = if b then [] else parts_read (package_reading bytes) }) (stays ∙ sym whole)
+      ap (λ b. record { header = in_phase phase u.header; bytes = bytes; parts = if b then [] else parts_read (package_reading bytes) })
+      (stays ∙ sym whole)
 
   pub phased-means : map (transfer_meaning package_reading v.areas) (phased id phase v.state.transfers) ≡ (with_phase id phase (node_of v)).transfers
-  phased-means = changed-means package_reading v.areas client id (moved phase) (λ t. record t { header = in_phase phase t.header }) v.state.transfers u (rise v sound) e same-meaning
+  phased-means =
+      changed-means package_reading v.areas client id (moved phase) (λ t. record t { header = in_phase phase t.header })
+      v.state.transfers u (rise v sound) e same-meaning
 
   pub phased-placed : AllByRecursion (IsPlaced package_reading v.areas) (phased id phase v.state.transfers)
   phased-placed =
@@ -42,77 +48,95 @@ module _ (v : Holding) (sound : IsSound v) (client id : ℕ) (u : StoredTransfer
   pub phased-slots : slots_differ (map (λ t. t.slot) (phased id phase v.state.transfers)) ≡ true
   phased-slots = ap slots_differ (same-slots id phase v.state.transfers) ∙ sound.order.slots
 
+  -- the session with other marks, and the transfers, are in order
+  pub phased-order : (x : SessionOf Extent) (processing : Option ℕ) (done : ℕ)
+      → IsInOrder package_reading v.areas (record v.state { session = Some x })
+      → IsInOrder package_reading v.areas (record v.state {
+        transfers = phased id phase v.state.transfers;
+        session = Some (marked processing done x.verified x.outcome x);
+      })
+  phased-order x processing done i = record {
+    clusters = i.clusters;
+    session = i.session;
+    transfers = phased-placed;
+    slots = phased-slots;
+    places = i.places;
+    running = i.running;
+  }
+
 -- Cancel is refused by what is stored
-pub cancel-by : {v w : Holding} → v ≡ w → (client id : ℕ) (found : Option Found) (o : Option Refusal) → found ≡ found_of v.state.transfers client id → o ≡ first_refusal (cancel_refusals (option_map (λ f. f.header) found))
+pub cancel-by : {v w : Holding} → v ≡ w → (client id : ℕ) (found : Option Found) (o : Option Refusal)
+    → found ≡ found_of v.state.transfers client id → o ≡ first_refusal (cancel_refusals (option_map (λ f. f.header) found))
     → first_refusal (session_refusals (node_of w) client (Cancel id)) ≡ None → refusal_by w client (Cancel id) ≡ o
 cancel-by {v = v} {w = w} same client id found o there judged none =
     ap (λ x. option_or x (first_refusal (cancel_refusals (header_of (transfer_of (node_of w) client id))))) none
-    ∙ ap (λ h. first_refusal (cancel_refusals h)) (header-means package_reading w.areas (is_of client id) w.state.transfers ∙ ap (λ (x : Holding). stored_header x.state.transfers client id) (sym same) ∙ found-header v.state.transfers client id ∙ ap (option_map (λ f. f.header)) (sym there))
+    ∙ ap (λ h. first_refusal (cancel_refusals h))
+    (header-means package_reading w.areas (is_of client id) w.state.transfers
+    ∙ ap (λ (x : Holding). stored_header x.state.transfers client id) (sym same)
+    ∙ found-header v.state.transfers client id ∙ ap (option_map (λ f. f.header)) (sym there))
     ∙ sym judged
 
 -- what stopping leaves
-module _ (v : Holding) (sound : IsSound v) (client id : ℕ) (u : StoredTransfer) (e : stored_of v.state.transfers client id ≡ Some u) (phase : u.header.phase ≡ BeingProcessed) where
+module _ (v : Holding) (sound : IsSound v) (client id : ℕ) (u : StoredTransfer) (e : stored_of v.state.transfers client id ≡ Some u)
+    (phase : u.header.phase ≡ BeingProcessed) where
+  abbrev with : Option (SessionOf Extent) → State
+  with o = record v.state { session = o }
+
   was-whole : (phase_code u.header.phase == 0) ≡ false
   was-whole = ap (λ p. phase_code p == 0) phase
 
   stopped-means : meaning package_reading v.areas (stopped id v.state) ≡ stop_processing (node_of v) id
   stopped-means =
-      ap (λ ts. record (meaning package_reading v.areas (stopped id v.state)) { transfers = ts }) (phased-means v sound client id u e Transferred was-whole refl)
+      ap (λ ts. record (meaning package_reading v.areas (stopped id v.state)) { transfers = ts })
+      (phased-means v sound client id u e Transferred was-whole refl)
       ∙ ap (λ o. record (stop_processing (node_of v) id) { session = o }) (go v.state.session)
     where
-      go : (o : Option (SessionOf Extent)) → option_map (session_meaning v.areas) (option_map paused o) ≡ option_map (λ (x : Session). record x { processing = None }) (option_map (session_meaning v.areas) o)
+      go : (o : Option (SessionOf Extent)) → option_map (session_meaning v.areas) (option_map paused o)
+          ≡ option_map (λ (x : Session). record x { processing = None }) (option_map (session_meaning v.areas) o)
       go None = refl
       go (Some x) = refl
 
-  stopped-order : IsInOrder package_reading v.areas (stopped id v.state)
-  stopped-order = go v.state.session sound.order
+  stopped-order : (o : Option (SessionOf Extent)) → IsInOrder package_reading v.areas (with o) → IsInOrder package_reading v.areas (stopped id (with o))
+  stopped-order None i = record {
+    clusters = i.clusters;
+    session = tt;
+    transfers = phased-placed v sound client id u e Transferred was-whole refl;
+    slots = phased-slots v sound client id u e Transferred was-whole refl;
+    places = i.places;
+    running = tt;
+  }
+  stopped-order (Some x) i = phased-order v sound client id u e Transferred was-whole refl x None x.units_done i
+
+  stopped-copied : (o : Option (SessionOf Extent)) → IsCopied package_reading v.areas (with o) → IsCopied package_reading v.areas (stopped id (with o))
+  stopped-copied o copied =
+      change-each (λ t. IsCopiedIn package_reading v.areas (stopped id (with o)) t t.header.phase) (λ t. t.header.id == id) (moved Transferred)
+      v.state.transfers (every (λ t q. tt) v.state.transfers)
+      (copied-by v.areas (with o) (stopped id (with o)) (still o).0 refl (still o).1 v.state.transfers copied)
     where
-      placed : AllByRecursion (IsPlaced package_reading v.areas) (phased id Transferred v.state.transfers)
-      placed = phased-placed v sound client id u e Transferred was-whole refl
-
-      slots : slots_differ (map (λ t. t.slot) (phased id Transferred v.state.transfers)) ≡ true
-      slots = phased-slots v sound client id u e Transferred was-whole refl
-
-      go : (o : Option (SessionOf Extent)) → IsInOrder package_reading v.areas (record v.state { session = o })
-          → IsInOrder package_reading v.areas (stopped id (record v.state { session = o }))
-      go None i = record { clusters = i.clusters; session = tt; transfers = placed; slots = slots; places = i.places; running = tt }
-      go (Some x) i =
-          record { clusters = i.clusters; session = i.session; transfers = placed; slots = slots; places = i.places; running = i.running }
-
-  stopped-copied : IsCopied package_reading v.areas (stopped id v.state)
-  stopped-copied = go v.state.session sound.copied
-    where
-      still : (o : Option (SessionOf Extent)) → (units_done (stopped id (record v.state { session = o })) ≡ units_done (record v.state { session = o }))
-          × (places_in (stopped id (record v.state { session = o })) ≡ places_in (record v.state { session = o }))
+      still : (o : Option (SessionOf Extent)) → (units_done (stopped id (with o)) ≡ units_done (with o)) × (places_in (stopped id (with o)) ≡ places_in (with o))
       still None = (refl, refl)
       still (Some x) = (refl, refl)
 
-      go : (o : Option (SessionOf Extent)) → IsCopied package_reading v.areas (record v.state { session = o })
-          → IsCopied package_reading v.areas (stopped id (record v.state { session = o }))
-      go o copied =
-          let n : State = stopped id (record v.state { session = o }) in
-          change-each (λ t. IsCopiedIn package_reading v.areas n t t.header.phase) (λ t. t.header.id == id) (moved Transferred) v.state.transfers
-          (every (λ t q. tt) v.state.transfers)
-          (copied-by v.areas (record v.state { session = o }) n (still o).0 refl (still o).1 v.state.transfers copied)
-
 -- Cancel
-pub cancel-judged : (v : Holding) (client id : ℕ) (reply : Reply) (goal : Goal) (w new : Holding) → IsSound v → refusal_by v client (Cancel id) ≡ None → status_table v.state.status (Cancel id) ≡ Some goal
-    → w ≡ record v { state = stopped id v.state } → reply ≡ Done → new ≡ record w { state = arrived goal w.state } → IsJudged v client (Cancel id) reply new
+pub cancel-judged : (v : Holding) (client id : ℕ) (reply : Reply) (goal : Goal) (w new : Holding) → IsSound v
+    → refusal_by v client (Cancel id) ≡ None → status_table v.state.status (Cancel id) ≡ Some goal
+    → w ≡ record v { state = stopped id v.state } → reply ≡ Done → new ≡ record w { state = arrived goal w.state }
+    → IsJudged v client (Cancel id) reply new
 cancel-judged v client id reply goal w new sound none table stops replies leads =
-    let is : new ≡ record v { state = arrived goal (stopped id v.state) } = leads ∙ ap (λ (x : Holding). record x { state = arrived goal x.state }) stops in
-    subst (λ (x : Reply × Holding). IsJudged v client (Cancel id) x.0 x.1) (sym (λ i. (replies i, is i))) judged
+    done-judged v client (Cancel id) reply new goal (stopped id v.state) v.prepared (stop_processing (node_of v) id) none refl refl
+    (stopped-means v sound client id there.0 there.1 phase) table
+    (stopped-order v sound client id there.0 there.1 phase v.state.session sound.order)
+    (stopped-copied v sound client id there.0 there.1 phase v.state.session sound.copied) refl replies
+    (leads ∙ ap (λ (x : Holding). record x { state = arrived goal x.state }) stops)
   where
     clear : AllByRecursion (λ row. row.0 ≡ false) (cancel_refusals (stored_header v.state.transfers client id))
     clear = rows-clear (cancel_refusals (stored_header v.state.transfers client id))
-        (ap (λ h. first_refusal (cancel_refusals h)) (sym (header-means package_reading v.areas (is_of client id) v.state.transfers)) ∙ (both-none (first_refusal (session_refusals (node_of v) client (Cancel id))) (first_refusal (cancel_refusals (header_of (transfer_of (node_of v) client id)))) none).1)
+        (ap (λ h. first_refusal (cancel_refusals h)) (sym (header-means package_reading v.areas (is_of client id) v.state.transfers))
+        ∙ (both-none (first_refusal (session_refusals (node_of v) client (Cancel id))) _ none).1)
 
     there : (u : StoredTransfer) × (stored_of v.state.transfers client id ≡ Some u)
     there = some-stored (stored_of v.state.transfers client id) clear.0
 
     phase : there.0.header.phase ≡ BeingProcessed
-    phase = is-processing there.0.header (not-false _ (ap (λ o. some_passes (λ h. not (is_in BeingProcessed h)) (option_map (λ t. t.header) o)) (sym there.1) ∙ clear.1.0))
-
-    judged : IsJudged v client (Cancel id) Done (record v { state = arrived goal (stopped id v.state) })
-    judged =
-        done-judged v client (Cancel id) goal (stopped id v.state) v.prepared (stop_processing (node_of v) id) none refl refl
-        (stopped-means v sound client id there.0 there.1 phase) table (stopped-order v sound client id there.0 there.1 phase) (stopped-copied v sound client id there.0 there.1 phase) refl
+    phase = is-processing there.0.header (not-false _
+        (ap (λ o. some_passes (λ h. not (is_in BeingProcessed h)) (option_map (λ t. t.header) o)) (sym there.1) ∙ clear.1.0))

@@ -1,14 +1,15 @@
 -- What a put on the side that a package goes to leaves of a sound node.
 use Rattle.node_core.proofs.Names.{Action, AllByRecursion, Area, Areas, AreasFit, Bool, Bytes, Change, Cluster, Extent, Holding}
 use Rattle.node_core.proofs.Names.{Install, IsArea, IsExtent, IsInOrder, IsSound, LeavesOutside, List, Remove, SessionOf, Side, Some}
-use Rattle.node_core.proofs.Names.{StoredTransfer, Transfer, Update, ap, arith, bytes_eq, change_meaning, change_place, cluster_at}
+use Rattle.node_core.proofs.Names.{StoredTransfer, Update, ap, arith, bytes_eq, change_meaning, change_place, cluster_at}
 use Rattle.node_core.proofs.Names.{cluster_meaning, cluster_of, cluster_place, cond, eq-eqb, false, goes_to, has_cluster, length}
 use Rattle.node_core.proofs.Names.{lowest_free, map, map-map, meaning, name_lt, names_rise, node_of, on_side, option_map_or}
-use Rattle.node_core.proofs.Names.{package_reading, refl, session_meaning, subst, suits, sym, take, transfer_meaning, true, with_length}
-use Rattle.node_core.proofs.Names.{[], ℕ, ◌++◌, ◌+◌, ◌-◌, ◌==◌, ◌∙◌, ◌∷◌, ◌≡◌, ◌≢◌}
+use Rattle.node_core.proofs.Names.{package_reading, refl, session_meaning, subst, suits, sym, take, transfer_meaning, true, [], ℕ, ◌++◌}
+use Rattle.node_core.proofs.Names.{◌+◌, ◌-◌, ◌==◌, ◌∙◌, ◌∷◌, ◌≡◌, ◌≢◌}
 use Rattle.transfer_blocks.proofs.Areas.{elsewhere-stands}
 use Rattle.node_laws.proofs.Lists.{each-both, each-first, each-imp, each-unmap, found-has, not-true}
 use Rattle.node_laws.proofs.NameLists.{name-eq, name-swap, names-behind, names-tail}
+use Rattle.node_core.proofs.Stored.{read-order}
 use Rattle.node_core.proofs.Lists.{each-second, every, map-same, none-any}
 use Rattle.node_core.proofs.Ordered.{lt-self}
 use Rattle.node_core.proofs.Named.{none-named}
@@ -135,11 +136,4 @@ module _ (v : Holding) (x : SessionOf Extent) (id : ℕ) (sound : IsSound (at_pr
     }
 
     pub side-order : IsInOrder package_reading areas (at_process v x id).state
-    side-order = record {
-      clusters = sound.order.clusters;
-      session = sound.order.session;
-      transfers = each-imp _ _ (λ t placed. record { slot = placed.slot; contents = placed.contents ∙ ap (λ (m : Transfer). map with_length m.parts) (sym (reads t)) }) v.state.transfers sound.order.transfers;
-      slots = sound.order.slots;
-      places = sound.order.places;
-      running = sound.order.running;
-    }
+    side-order = read-order v.areas areas (at_process v x id).state (every reads v.state.transfers) sound.order

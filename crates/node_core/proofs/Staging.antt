@@ -6,8 +6,7 @@ use Rattle.node_core.proofs.Names.{Update, and_parts, ap, arith, block_limit, co
 use Rattle.node_core.proofs.Names.{first_refusal, found_of, goes_to, inl, inr, is_of, length, length-take, map, nat_tests, node_of, not}
 use Rattle.node_core.proofs.Names.{option_map, option_map_or, overwritten, package_limit, package_reading, refl, slice_range}
 use Rattle.node_core.proofs.Names.{slots_differ, slots_of, stored_of, subst, sym, take, transfer_limit, transfer_meaning, true}
-use Rattle.node_core.proofs.Names.{units_done, with_content, with_length, zero-add, [], ℕ, ◌*◌, ◌+◌, ◌<◌, ◌==◌, ◌∙◌, ◌∷◌, ◌≡◌, ◌≢◌, ◌≤◌}
-use Rattle.node_core.proofs.Names.{◌⊎◌}
+use Rattle.node_core.proofs.Names.{units_done, with_content, zero-add, [], ℕ, ◌*◌, ◌+◌, ◌<◌, ◌==◌, ◌∙◌, ◌∷◌, ◌≡◌, ◌≢◌, ◌≤◌, ◌⊎◌}
 use Rattle.pm_types.specs.Validity.{IsSound as IsSoundTransfer}
 use Rattle.transfer_blocks.specs.declared.area.Area.TheVariants.{Transfer}
 use Rattle.node_core.specs.declared.prepared.Prepared.TheVariants.{Verdict as Judged}
@@ -15,9 +14,9 @@ use Rattle.transfer_blocks.proofs.Areas.{put-leaves, content-here}
 use Rattle.node_laws.proofs.Lists.{each-unmap, each-both, each-imp, found-has, not-true}
 use Rattle.transfer_blocks.proofs.Meanings.{header-means, transfer-stands}
 use Rattle.transfer_blocks.proofs.Bytes.{front_slice, slice-overwritten}
+use Rattle.node_core.proofs.Stored.{read-order, copied-when, found-means, only-has, rise}
 use Rattle.node_core.proofs.Lists.{all-each, map-same}
 use Rattle.node_core.proofs.Judged.{block_refusal, exit_refusal, data-same}
-use Rattle.node_core.proofs.Stored.{copied-when, found-means, only-has, rise}
 use Rattle.node_core.proofs.Sound.{table-is}
 
 -- a transfer is the one that was found, or lies in another slot
@@ -55,17 +54,7 @@ same-kept v slots faults p sound more each = record {
   state = refl;
   node = ap (λ ts. record (node_of v) { transfers = ts })
       (map-same (transfer_meaning package_reading areas) (transfer_meaning package_reading v.areas) v.state.transfers each);
-  order = record {
-    clusters = sound.order.clusters;
-    session = sound.order.session;
-    transfers = each-both _ _ _ (λ t same placed. record {
-      slot = placed.slot;
-      contents = placed.contents ∙ ap (λ (m : NodeTransfer). map with_length m.parts) (sym same);
-    }) v.state.transfers each sound.order.transfers;
-    slots = sound.order.slots;
-    places = sound.order.places;
-    running = sound.order.running;
-  };
+  order = read-order v.areas areas v.state each sound.order;
   copied = each-both _ _ _ copied v.state.transfers each sound.copied;
   faults = more;
 }

@@ -1,11 +1,11 @@
 -- What stored transfers mean, and what a change of one of them changes of that.
-use Rattle.node_core.proofs.Names.{AllByRecursion, Areas, BeingProcessed, Bool, Found, Holding, IsCopiedIn, IsPartCopied, IsSound, List}
-use Rattle.node_core.proofs.Names.{None, Option, Phase, Processed, Reading, Some, State, StoredTransfer, Transfer, Transferred}
-use Rattle.node_core.proofs.Names.{Transferring, and_parts, ap, arith, cond, drop, eqb-true, false, find, found_of, if◌then◌else◌}
-use Rattle.node_core.proofs.Names.{is_none, is_of, map, map-map, numbers_rise, option_map, package_reading, refl, slice_range}
-use Rattle.node_core.proofs.Names.{stored_header, stored_of, subst, sym, take, take-add, transfer_meaning, true, [], ℕ, ◌++◌, ◌+◌, ◌-◌}
-use Rattle.node_core.proofs.Names.{◌<◌, ◌==◌, ◌∙◌, ◌∷◌, ◌≡◌}
-use Rattle.node_laws.proofs.Lists.{each-imp, each-unmap, found-has, rise-above, rise-tail}
+use Rattle.node_core.proofs.Names.{AllByRecursion, Areas, BeingProcessed, Bool, Found, Holding, IsCopiedIn, IsInOrder, IsPartCopied}
+use Rattle.node_core.proofs.Names.{IsSound, List, None, Option, Phase, Processed, Reading, Some, State, StoredTransfer, Transfer}
+use Rattle.node_core.proofs.Names.{Transferred, Transferring, and_parts, ap, arith, cond, drop, eqb-true, false, find, found_of}
+use Rattle.node_core.proofs.Names.{if◌then◌else◌, is_none, is_of, map, map-map, numbers_rise, option_map, package_reading, refl}
+use Rattle.node_core.proofs.Names.{slice_range, stored_header, stored_of, subst, sym, take, take-add, transfer_meaning, true}
+use Rattle.node_core.proofs.Names.{with_length, [], ℕ, ◌++◌, ◌+◌, ◌-◌, ◌<◌, ◌==◌, ◌∙◌, ◌∷◌, ◌≡◌}
+use Rattle.node_laws.proofs.Lists.{each-both, each-imp, each-unmap, found-has, rise-above, rise-tail}
 use Rattle.node_core.proofs.Lists.{every, find-map, change-map}
 
 abbrev pub ids : List StoredTransfer → List ℕ
@@ -81,6 +81,22 @@ copied-when areas s t BeingProcessed each = each refl
 copied-when areas s t Transferring each = tt
 copied-when areas s t Transferred each = tt
 copied-when areas s t Processed each = tt
+
+-- a state is in order by what its transfers mean
+pub read-order : (old new : Areas) (s : State)
+    → AllByRecursion (λ t. transfer_meaning package_reading new t ≡ transfer_meaning package_reading old t) s.transfers
+    → IsInOrder package_reading old s → IsInOrder package_reading new s
+read-order old new s each i = record {
+  clusters = i.clusters;
+  session = i.session;
+  transfers = each-both _ _ _ (λ t same placed. record {
+    slot = placed.slot;
+    contents = placed.contents ∙ ap (λ (m : Transfer). map with_length m.parts) (sym same);
+  }) s.transfers each i.transfers;
+  slots = i.slots;
+  places = i.places;
+  running = i.running;
+}
 
 -- the ids of a sound node's transfers rise
 pub rise : (v : Holding) → IsSound v → numbers_rise (ids v.state.transfers) ≡ true
