@@ -4,12 +4,11 @@ use Rattle.node_core.proofs.Names.{Done, Extent, Goal, Holding, Idle, IfSome, In
 use Rattle.node_core.proofs.Names.{IsSound, List, Manifest, NodeState, None, Old, OnlyLeads, Option, Outcome, Part, Prepared}
 use Rattle.node_core.proofs.Names.{Processing, Ready, Refusal, Refused, Remove, Reply, Resume, RolledBack, RunsWhatItShould, SessionOf}
 use Rattle.node_core.proofs.Names.{Side, Some, State, Status, StoredTransfer, To, Update, Verifying, acceptance, accepted, all_places}
-use Rattle.node_core.proofs.Names.{ap, arrive, arrived, block_limit, cleaning_up, cluster_at, content_of, find, first_refusal, goes_to}
-use Rattle.node_core.proofs.Names.{led_by, list_any, meaning, node_of, not, option_map_or, package_reading, places_in, refl, refusal_by}
-use Rattle.node_core.proofs.Names.{refused_or, running_at, session_refusals, should_run, status_table, subst, sym, take, units_done}
-use Rattle.node_core.proofs.Names.{unwrap_or, verdict_on, [], ℕ, ◌*◌, ◌-◌, ◌==◌, ◌∙◌, ◌∷◌, ◌≡◌}
+use Rattle.node_core.proofs.Names.{ap, arrive, arrived, block_limit, cleaning_up, cluster_at, content_of, each-imp, find, first_refusal}
+use Rattle.node_core.proofs.Names.{goes_to, led_by, list_any, meaning, node_of, not, option_map_or, package_reading, places_in, refl}
+use Rattle.node_core.proofs.Names.{refusal_by, refused_or, running_at, session_refusals, should_run, status_table, subst, sym, take}
+use Rattle.node_core.proofs.Names.{units_done, unwrap_or, verdict_on, [], ℕ, ◌*◌, ◌-◌, ◌==◌, ◌∙◌, ◌∷◌, ◌≡◌}
 use Rattle.pm_types.specs.declared.calls.Call.TheVariants as call
-use Rattle.node_laws.proofs.Lists.{each-imp}
 use Rattle.node_core.proofs.Stored.{copied-when}
 
 -- a call that is refused is judged, whatever was ready for it

@@ -3,17 +3,14 @@ use Rattle.node_core.proofs.Names.{Action, AllByRecursion, Area, Areas, AreasFit
 use Rattle.node_core.proofs.Names.{IsCopiedIn, IsKept, IsNextUnit, IsPackageReady, IsPartCopied, IsPartReady, IsReservedWork, IsSound}
 use Rattle.node_core.proofs.Names.{IsUnitOf, LeavesOutside, Manifest, NextUnit, None, Ok, OnOk, Option, Package, Part, Processing}
 use Rattle.node_core.proofs.Names.{Remove, Result, SessionOf, Side, Some, State, StoredTransfer, Transfer as MeantTransfer, Update, ap}
-use Rattle.node_core.proofs.Names.{arith, block_limit, change_due, change_kept, change_next, content_of, drop, drop-drop, drop-take}
-use Rattle.node_core.proofs.Names.{extent_in, extent_next, from_be_bytes, goes_to, has_cluster, if◌then◌else◌, is_of, length}
-use Rattle.node_core.proofs.Names.{length-drop, length-take, min, number_at, overwritten, package_limit, package_reading, payload_place}
-use Rattle.node_core.proofs.Names.{payload_start, refl, slice_range, stored_of, subst, suits, sym, take, take-add, take-take, take_min}
-use Rattle.node_core.proofs.Names.{transfer_meaning, true, unit_end, w32, with_content, with_length, [], ℕ, ◌*◌, ◌++◌, ◌+◌, ◌-◌, ◌<◌}
-use Rattle.node_core.proofs.Names.{◌∙◌, ◌≡◌, ◌≢◌, ◌≤◌}
+use Rattle.node_core.proofs.Names.{arith, before-stands, block_limit, change_due, change_kept, change_next, content-here, content_of}
+use Rattle.node_core.proofs.Names.{drop, drop-drop, drop-take, extent_in, extent_next, found-has, from_be_bytes, goes_to, has_cluster}
+use Rattle.node_core.proofs.Names.{if◌then◌else◌, is_of, length, length-drop, length-take, min, number_at, overwritten, package_limit}
+use Rattle.node_core.proofs.Names.{package_reading, payload_place, payload_start, refl, slice_range, stored_of, subst, suits, sym, take}
+use Rattle.node_core.proofs.Names.{take-add, take-overwritten, take-take, take_min, transfer_meaning, true, unit_end, w32, with_content}
+use Rattle.node_core.proofs.Names.{with_length, [], ℕ, ◌*◌, ◌++◌, ◌+◌, ◌-◌, ◌<◌, ◌∙◌, ◌≡◌, ◌≢◌, ◌≤◌}
 use Rattle.package_reader.specs.Reading.{reading}
 use Rattle.transfer_blocks.specs.declared.area.Area.TheVariants.{Transfer}
-use Rattle.transfer_blocks.proofs.Bytes.{before-stands, take-overwritten}
-use Rattle.node_laws.proofs.Lists.{found-has}
-use Rattle.transfer_blocks.proofs.Areas.{content-here}
 use Rattle.node_core.proofs.Handled.{hand-copied, InHand, at_process, begin-within, busy, bytes_of, in-hand, part_of, payload-is}
 use Rattle.node_core.proofs.Worked.{at-work, sound-at}
 use Rattle.node_core.proofs.Staging.{came-lies, slot-is}
@@ -85,14 +82,14 @@ goes-side s m Remove size = refl
 pub record Needs (v : Holding) (n : NextUnit) (side : Area) : Type 0 where
   pub slot : IsArea (Transfer n.slot)
   pub area : IsArea side
-  pub head : 0 < n.len → 8 ≤ length (content_of (Transfer n.slot) v.areas)
-  pub range : 0 < n.len
+  pub head : n.len ≢ 0 → 8 ≤ length (content_of (Transfer n.slot) v.areas)
+  pub range : n.len ≢ 0
       → payload_start (content_of (Transfer n.slot) v.areas) + n.at + n.len ≤ length (content_of (Transfer n.slot) v.areas)
   pub done : n.at ≤ length (content_of side v.areas)
   pub fits : n.at + n.len ≤ package_limit
-  pub kept : AreasFit v.areas → 0 < n.len → (new : Holding) → new.state ≡ v.state → v.faults ≤ new.faults
+  pub kept : AreasFit v.areas → n.len ≢ 0 → (new : Holding) → new.state ≡ v.state → v.faults ≤ new.faults
       → LeavesOutside side n.at n.len v.areas new.areas → IsKept v new
-  pub ready : AreasFit v.areas → 0 < n.len → (new : Holding) → new.state ≡ v.state → change_kept new.prepared ≡ n.change
+  pub ready : AreasFit v.areas → n.len ≢ 0 → (new : Holding) → new.state ≡ v.state → change_kept new.prepared ≡ n.change
       → LeavesOutside side n.at n.len v.areas new.areas
       → new.areas ≡ with_content side (overwritten n.at
       (slice_range (content_of (Transfer n.slot) v.areas)
@@ -158,6 +155,9 @@ module _ (v : Holding) (x : SessionOf Extent) (id : ℕ) (sound : IsSound (at_pr
       let all = length-take at payload in
       omega (arith, b, wide, here, all)
 
+  some-left : len ≢ 0 → 0 < len
+  some-left some = omega (arith, some)
+
   -- what is put elsewhere than on a removal's side
   no-removal : 0 < len → h.pack.manifest.action ≢ Remove
   no-removal some is =
@@ -174,12 +174,12 @@ module _ (v : Holding) (x : SessionOf Extent) (id : ℕ) (sound : IsSound (at_pr
       ap (λ (k : Areas). transfer_meaning package_reading k t) (subst (λ a. LeavesOutside a at len v.areas areas) (sym is-side) left).elsewhere
 
   -- a put behind the done units, of no more than these bytes, leaves the node as it is
-  put-kept : AreasFit v.areas → 0 < len → (new : Holding) → new.state ≡ s → v.faults ≤ new.faults
+  put-kept : AreasFit v.areas → len ≢ 0 → (new : Holding) → new.state ≡ s → v.faults ≤ new.faults
       → LeavesOutside area at len v.areas new.areas → IsKept (at_process v x id) new
   put-kept fit some new same more left = subst (IsKept (at_process v x id)) (sym (as-left new same)) (record {
     state = refl;
     node = side-means v x id sound h area at len new.areas area-is fit left (same-read new.areas left)
-        (goes-apart v x id sound h h.pack.manifest.action there (no-removal some));
+        (goes-apart v x id sound h h.pack.manifest.action there (no-removal (some-left some)));
     order = side-order v x id sound h area at len new.areas area-is fit left (same-read new.areas left);
     copied = hand-copied v x id v.prepared sound h new.areas s (same-read new.areas left)
         (before-stands at len (content_of area v.areas) (content_of area new.areas) at (omega arith) left.here ∙ copied-so-far);
@@ -211,15 +211,15 @@ module _ (v : Holding) (x : SessionOf Extent) (id : ℕ) (sound : IsSound (at_pr
   needs-next = record {
     slot = slot-is (at_process v x id) sound x.owner id h.transfer h.is;
     area = area-is;
-    head = λ some. head-lies came slot h.pack h.reads lies at len some within;
-    range = λ some. unit-lies came slot h.pack h.reads lies at len some within;
+    head = λ some. head-lies came slot h.pack h.reads lies at len (some-left some) within;
+    range = λ some. unit-lies came slot h.pack h.reads lies at len (some-left some) within;
     done = done-lies;
     fits = let w = within in let low = short v x id sound h in omega (arith, w, low);
     kept = put-kept;
     ready = λ fit some new same kept left put.
         unit-ready new same kept (same-read new.areas left h.transfer)
         (ap (λ a. take (at + len) (content_of area a)) put ∙ ap (take (at + len)) (content-here area v.areas area-is fit _)
-        ∙ ap (λ b. take (at + len) (overwritten at b (content_of area v.areas))) (piece-is came slot h.pack h.reads lies at len some within)
+        ∙ ap (λ b. take (at + len) (overwritten at b (content_of area v.areas))) (piece-is came slot h.pack h.reads lies at len (some-left some) within)
         ∙ take-overwritten at piece (content_of area v.areas) done-lies (at + len) wide
         ∙ ap (λ b. b ++ piece) copied-so-far ∙ sym (take-add at len payload));
     none = λ zero new areas same kept.

@@ -1,14 +1,11 @@
 -- A node that begins with installed clusters is sound.
 use Rattle.node_core.proofs.Names.{AllByRecursion, AreInstalled, Area, Areas, AreasFit, Bytes, Cluster, Extent, IsExtent, IsFit}
 use Rattle.node_core.proofs.Names.{IsSound, List, Side, ap, append-nil, ap₂, arith, bytes_eq, cluster_limit, cluster_meaning}
-use Rattle.node_core.proofs.Names.{cluster_place, content_of, different_names, false, formatted, fresh_state, holding, in_order, length}
-use Rattle.node_core.proofs.Names.{length-append, length-map, map, map-append, name_lt, names_fit_places, names_rise, nat_tests}
+use Rattle.node_core.proofs.Names.{cluster_place, content-elsewhere, content-here, content_of, different_names, each-unmap, false}
+use Rattle.node_core.proofs.Names.{formatted, fresh_state, holding, in_order, keeps-fit, length, length-append, length-map, map}
+use Rattle.node_core.proofs.Names.{map-append, name_lt, names-behind, names-tail, names_fit_places, names_of, names_rise, nat_tests}
 use Rattle.node_core.proofs.Names.{package_limit, package_reading, placed, placed_from, refl, subst, sym, take, take_all, true}
 use Rattle.node_core.proofs.Names.{with_content, [], ℕ, ◌++◌, ◌+◌, ◌<◌, ◌==◌, ◌∙◌, ◌∷◌, ◌≡◌, ◌≢◌, ◌≤◌}
-use Rattle.transfer_blocks.proofs.Areas.{content-here, content-elsewhere}
-use Rattle.node_laws.proofs.Kept.{keeps-fit}
-use Rattle.node_laws.proofs.Lists.{each-unmap}
-use Rattle.node_laws.proofs.NameLists.{names-behind, names-tail, names_of}
 use Rattle.node_core.proofs.Free.{fits-onto}
 use Rattle.node_core.proofs.Named.{not-more}
 use Rattle.node_core.proofs.Ordered.{lt-differ, order-each, order-rises}

@@ -1,11 +1,11 @@
--- A place is free where the names are few.
-use Rattle.node_core.proofs.Names.{AllByRecursion, Bool, List, None, Option, Some, all_differ, all_places, and_parts, ap, arith, beq}
-use Rattle.node_core.proofs.Names.{booleans_Decides, both_true, bytes_eq, cluster_limit, different_names, eq-eqb, eqb-true, false, find}
-use Rattle.node_core.proofs.Names.{has_name, if◌then◌else◌, length, list_all, list_any, map, names_fit_places, nat_tests, not}
-use Rattle.node_core.proofs.Names.{option_map_or, refl, slots_differ, sym, true, [], ℕ, ◌==◌, ◌||◌, ◌∙◌, ◌∷◌, ◌≡◌, ◌≤◌}
-use Rattle.node_laws.proofs.Lists.{each-map, each-unmap, not-false, each-both, each-imp, found-has, not-true}
-use Rattle.transfer_blocks.proofs.Lists.{none-passes}
-use Rattle.node_laws.proofs.NameLists.{within-self, Within, eq-name, has-within, name-swap, within-trans}
+-- Which places are taken, and that one is free where the names are few.
+use Rattle.node_core.proofs.Names.{AllByRecursion, Bool, Cluster, Extent, Holding, List, None, Option, SessionOf, Some, State, Within}
+use Rattle.node_core.proofs.Names.{all_differ, all_places, and_parts, ap, arith, beq, booleans_Decides, both_true, bytes_eq}
+use Rattle.node_core.proofs.Names.{change_place, cluster_limit, cluster_place, different_names, each-both, each-imp, each-map}
+use Rattle.node_core.proofs.Names.{each-unmap, eq-eqb, eq-name, eqb-true, false, find, found-has, has-within, has_name, if◌then◌else◌}
+use Rattle.node_core.proofs.Names.{length, list_all, list_any, list_any-append, list_any-map, map, name-swap, names_fit_places}
+use Rattle.node_core.proofs.Names.{nat_tests, none-passes, not, not-false, not-true, option_map_or, places_in, refl, session_takes}
+use Rattle.node_core.proofs.Names.{slots_differ, sym, true, within-self, within-trans, [], ℕ, ◌++◌, ◌==◌, ◌||◌, ◌∙◌, ◌∷◌, ◌≡◌, ◌≤◌}
 use Rattle.node_core.proofs.Lists.{all-each, each-all, any-found, none-any}
 use Rattle.node_core.proofs.Named.{differ-few, none-named}
 
@@ -110,3 +110,27 @@ pub fresh-fits : (pairs : List Pair) (n : List ℕ) (place : ℕ) → names_fit_
 fresh-fits pairs n place fit new free =
     fits-onto (n, place) pairs (each-both _ _ _ (λ a h k. (h, flip a.1 place k)) pairs (none-named (λ (a : Pair). a.0) pairs n new)
     (none-any (λ (a : Pair). a.1 == place) pairs free)) fit
+
+-- a place is taken by what runs, or by the session
+taken-is : (s : State) (place : ℕ)
+    → is_taken (places_in s) place ≡ (list_any (λ c. c.content.place == place) s.running || session_takes s.session place)
+taken-is s place =
+    list_any-append here (map cluster_place s.running) _ ∙ (λ i. list_any-map here cluster_place s.running i || of s.session i)
+  where
+    here : Pair → Bool
+    here taken = taken.1 == place
+
+    of : (o : Option (SessionOf Extent))
+        → list_any here (option_map_or (λ x. map cluster_place x.saved ++ map change_place x.changes) o []) ≡ session_takes o place
+    of None = refl
+    of (Some x) =
+        list_any-append here (map cluster_place x.saved) (map change_place x.changes)
+        ∙ (λ i. list_any-map here cluster_place x.saved i || list_any-map here change_place x.changes i)
+
+-- the same, told of a node by its parts
+pub taken-of : {v w : Holding} → v ≡ w → (place : ℕ) (a b : Bool) (cs : List (Cluster Extent)) → cs ≡ v.state.running
+    → list_any (λ c. c.content.place == place) cs ≡ a → session_takes v.state.session place ≡ b
+    → (a || b) ≡ is_taken (places_in w.state) place
+taken-of {v = v} e place a b cs same ran planned =
+    (λ i. (sym ran ∙ ap (list_any (λ (c : Cluster Extent). c.content.place == place)) same) i || sym planned i)
+    ∙ sym (taken-is v.state place) ∙ ap (λ (u : Holding). is_taken (places_in u.state) place) e

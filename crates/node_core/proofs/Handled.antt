@@ -3,14 +3,13 @@ use Rattle.node_core.proofs.Names.{AllByRecursion, Areas, BeingProcessed, Bool, 
 use Rattle.node_core.proofs.Names.{IsPackageReady, IsPartCopied, IsPartReady, IsRead, IsSomeAnd, IsSound, IsUnit, IsUnitReady}
 use Rattle.node_core.proofs.Names.{IsWholeFromTransferred, List, Manifest, NodeState, None, Ok, Option, Package, PackageFault, Part}
 use Rattle.node_core.proofs.Names.{Prepared, Processing, Result, SessionOf, Some, State, StoredTransfer, Transfer, all_units, ap, arith}
-use Rattle.node_core.proofs.Names.{block_limit, content_of, drop, eq-eqb, goes_to, if◌then◌else◌, is_in, is_of, length, length-drop}
-use Rattle.node_core.proofs.Names.{length-take, ltb-true, map, nat_lt, nat_tests, node_of, number_at, option_map, package_reading}
-use Rattle.node_core.proofs.Names.{parts_of, parts_read, payload_in, payload_place, phase_code, processed, refl, session_meaning}
-use Rattle.node_core.proofs.Names.{slice_index_or, stored_of, stored_units, subst, sum_by-cons, sym, take, transfer_meaning}
-use Rattle.node_core.proofs.Names.{transfer_of, true, unit, unit_end, units_of, unless, verdict_of, with_length, [], ℕ, ◌*◌, ◌+◌, ◌<◌}
-use Rattle.node_core.proofs.Names.{◌==◌, ◌∙◌, ◌∷◌, ◌≡◌, ◌≤◌}
+use Rattle.node_core.proofs.Names.{block_limit, content_of, drop, each-both, each-imp, each-unmap, eq-eqb, found-has, goes_to}
+use Rattle.node_core.proofs.Names.{if◌then◌else◌, is-processing, is_in, is_of, length, length-drop, length-take, ltb-true, map, nat_lt}
+use Rattle.node_core.proofs.Names.{nat_tests, node_of, number_at, option_map, package_reading, parts_of, parts_read, payload_in}
+use Rattle.node_core.proofs.Names.{payload_place, phase_code, processed, refl, session_meaning, slice_index_or, stored_of, stored_units}
+use Rattle.node_core.proofs.Names.{subst, sum_by-cons, sym, take, transfer_meaning, transfer_of, true, unit, unit_end, units_of, unless}
+use Rattle.node_core.proofs.Names.{verdict_of, with_length, [], ℕ, ◌*◌, ◌+◌, ◌<◌, ◌==◌, ◌∙◌, ◌∷◌, ◌≡◌, ◌≤◌}
 use Rattle.package_reader.specs.Reading.{reading}
-use Rattle.node_laws.proofs.Lists.{each-both, each-imp, each-unmap, found-has, is-processing}
 use Rattle.node_core.proofs.Stored.{copied-when, rise, found-is, found-means, only}
 use Rattle.node_core.proofs.Arrived.{goes-by, marked-order}
 use Rattle.node_core.proofs.Worked.{at_work, moved}

@@ -3,16 +3,15 @@ use Rattle.node_core.proofs.Names.{AllByRecursion, Areas, Bad, Call, DeleteTrans
 use Rattle.node_core.proofs.Names.{IsCopied, IsCopiedIn, IsInOrder, IsJudged, IsReady, IsSound, IsTable, IsVerdictKept, List, None, Ok}
 use Rattle.node_core.proofs.Names.{Option, Prepared, Refusal, Reply, Some, Started, StoredTransfer, Table, Transfer, TransferData}
 use Rattle.node_core.proofs.Names.{TransferExit, TransferStart, Transferred, Transferring, Verdict, acceptance, accepted, after_reply}
-use Rattle.node_core.proofs.Names.{ap, bad_refusal, data_refusals, delete_refusals, exit_refusals, first_refusal, good_parts, grown}
-use Rattle.node_core.proofs.Names.{header_of, if◌then◌else◌, in_phase, is_in, is_of, length, length-map, map, map-append, node_of, not}
-use Rattle.node_core.proofs.Names.{option_map, option_map_or, option_or, package_reading, parts_read, phase_code, received, refl}
-use Rattle.node_core.proofs.Names.{refusal_by, refused_or, slice_index_or, some_passes, start_refusals, stored_header, stored_of, subst}
-use Rattle.node_core.proofs.Names.{sym, table_of, take, transfer_meaning, transfer_of, unless_refused, verdict_in, verdict_kept}
-use Rattle.node_core.proofs.Names.{verdict_on, verdict_refusal, whole, with_fresh, with_length, with_stored, with_table, with_transfer}
-use Rattle.node_core.proofs.Names.{without, [], ℕ, ◌++◌, ◌+◌, ◌==◌, ◌∙◌, ◌≡◌}
-use Rattle.transfer_blocks.proofs.Meanings.{filter-means, header-means}
-use Rattle.node_laws.proofs.Lists.{each-append, each-both, found-has, each-filter, each-imp, rows-clear, both-none, not-false}
-use Rattle.node_laws.proofs.Lists.{is-transferring}
+use Rattle.node_core.proofs.Names.{ap, bad_refusal, both-none, data_refusals, delete_refusals, each-append, each-both, each-filter}
+use Rattle.node_core.proofs.Names.{each-imp, exit_refusals, filter-means, first_refusal, found-has, good_parts, grown, header-means}
+use Rattle.node_core.proofs.Names.{header_of, if◌then◌else◌, in_phase, is-transferring, is_in, is_of, length, length-map, map}
+use Rattle.node_core.proofs.Names.{map-append, node_of, not, not-false, option_map, option_map_or, option_or, package_reading}
+use Rattle.node_core.proofs.Names.{parts_read, phase_code, received, refl, refusal_by, refused_or, rows-clear, slice_index_or}
+use Rattle.node_core.proofs.Names.{some_passes, start_refusals, stored_header, stored_of, subst, sym, table_of, take, transfer_meaning}
+use Rattle.node_core.proofs.Names.{transfer_of, unless_refused, verdict_in, verdict_kept, verdict_on, verdict_refusal, whole}
+use Rattle.node_core.proofs.Names.{with_fresh, with_length, with_stored, with_table, with_transfer, without, [], ℕ, ◌++◌, ◌+◌, ◌==◌}
+use Rattle.node_core.proofs.Names.{◌∙◌, ◌≡◌}
 use Rattle.node_core.proofs.Arrived.{refused-judged}
 use Rattle.node_core.proofs.Stored.{rise, found-is, only-has, changed-means, found-means, some-stored, staged-bytes}
 use Rattle.node_core.proofs.Lists.{change-each}

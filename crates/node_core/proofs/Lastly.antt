@@ -2,18 +2,18 @@
 use Rattle.node_core.proofs.Names.{Action, AllByRecursion, Areas, BeingProcessed, Bool, Bytes, Change, Cluster, Extent, Holding}
 use Rattle.node_core.proofs.Names.{Install, IsExtent, IsReservedWork, IsSound, IsUnit, IsUnitReady, List, Manifest, None, Option, Part}
 use Rattle.node_core.proofs.Names.{Prepared, Processed, Processing, Ready, Remove, SessionOf, Some, State, Status, StoredTransfer}
-use Rattle.node_core.proofs.Names.{Table, Transfer, Update, all_differ, all_places, ap, append-nil, applies, arith, block_limit}
+use Rattle.node_core.proofs.Names.{Table, Transfer, Update, Within, all_differ, all_places, ap, append-nil, applies, arith, block_limit}
 use Rattle.node_core.proofs.Names.{bytes_eq, change_kept, change_meaning, change_place, change_to, cluster_at, cluster_limit}
-use Rattle.node_core.proofs.Names.{cluster_meaning, cluster_of, cluster_place, content_of, different_names, eq-eqb, extent_in, false}
-use Rattle.node_core.proofs.Names.{goes_to, has_cluster, has_name, if◌then◌else◌, is_in, is_of, le-ltb, length, length-append}
-use Rattle.node_core.proofs.Names.{length-map, length-take, lowest_free, lt-ltb, ltb-false, ltb-true, map, map-append, map-map}
-use Rattle.node_core.proofs.Names.{moved as moved_to, names_fit_places, nat_lt, nat_tests, node_of, not, on_side, option_map_or}
+use Rattle.node_core.proofs.Names.{cluster_meaning, cluster_of, cluster_place, content_of, different_names, each-append, each-first}
+use Rattle.node_core.proofs.Names.{each-imp, each-map, each-unmap, eq-eqb, extent_in, false, found-has, goes_to, has-append}
+use Rattle.node_core.proofs.Names.{has_cluster, has_name, if◌then◌else◌, is_in, is_of, le-ltb, length, length-append, length-map}
+use Rattle.node_core.proofs.Names.{length-take, lowest_free, lt-ltb, ltb-false, ltb-true, map, map-append, map-map, moved as moved_to}
+use Rattle.node_core.proofs.Names.{name-eq, names_fit_places, nat_lt, nat_tests, node_of, not, not-true, on_side, option_map_or}
 use Rattle.node_core.proofs.Names.{package_limit, package_reading, parts_in, phase_code, places_in, refl, running_at, session_meaning}
 use Rattle.node_core.proofs.Names.{slice_index_or, stored_of, stored_units, subst, suits, sym, table_of, take, take_all, takes_side}
-use Rattle.node_core.proofs.Names.{transfer_meaning, true, unit_end, units_of, unwrap_or, with_length, with_stored, with_table, [], ℕ}
-use Rattle.node_core.proofs.Names.{◌*◌, ◌++◌, ◌+◌, ◌-◌, ◌<◌, ◌==◌, ◌^◌, ◌||◌, ◌∙◌, ◌∷◌, ◌≡◌, ◌≤◌}
-use Rattle.node_laws.proofs.Lists.{each-append, each-first, each-imp, each-map, each-unmap, found-has, not-true}
-use Rattle.node_laws.proofs.NameLists.{Within, has-append, name-eq, within-left, within-right, within-self}
+use Rattle.node_core.proofs.Names.{transfer_meaning, true, unit_end, units_of, unwrap_or, with_length, with_stored, with_table}
+use Rattle.node_core.proofs.Names.{within-left, within-right, within-self, [], ℕ, ◌*◌, ◌++◌, ◌+◌, ◌-◌, ◌<◌, ◌==◌, ◌^◌, ◌||◌, ◌∙◌, ◌∷◌}
+use Rattle.node_core.proofs.Names.{◌≡◌, ◌≤◌}
 use Rattle.node_core.proofs.Lists.{all-each, each-all, any-found, each-second}
 use Rattle.node_core.proofs.Named.{differ-before, has-named, differ-few}
 use Rattle.node_core.proofs.Phased.{phased-means, phased-placed, phased-slots}

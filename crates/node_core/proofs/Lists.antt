@@ -1,7 +1,6 @@
 -- Facts of each member of a list, and lists in which one member is changed.
 use Rattle.node_core.proofs.Names.{AllByRecursion, Bool, List, Some, and_parts, arith, both_true, cond, false, filter, find}
-use Rattle.node_core.proofs.Names.{if◌then◌else◌, list_all, list_any, map, option_map, refl, true, [], ◌++◌, ◌||◌, ◌∷◌, ◌≡◌}
-use Rattle.node_laws.proofs.Lists.{neither}
+use Rattle.node_core.proofs.Names.{if◌then◌else◌, list_all, list_any, map, neither, option_map, refl, true, [], ◌++◌, ◌||◌, ◌∷◌, ◌≡◌}
 
 pub every : {X : Type 0} {P : X → Type 0} → ((x : X) → P x) → (xs : List X) → AllByRecursion P xs
 every f [] = tt

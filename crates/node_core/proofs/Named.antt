@@ -1,9 +1,8 @@
 -- Which names things have, and how many different ones there are.
-use Rattle.node_core.proofs.Names.{AllByRecursion, List, all_differ, and_parts, ap, arith, bytes_eq, different_names, false, has_name}
-use Rattle.node_core.proofs.Names.{if◌then◌else◌, length, list_any, map, not, refl, subst, sym, true, [], ℕ, ◌++◌, ◌+◌, ◌||◌, ◌∙◌, ◌∷◌}
-use Rattle.node_core.proofs.Names.{◌≡◌, ◌≤◌}
-use Rattle.node_laws.proofs.Lists.{each-imp, neither, not-true}
-use Rattle.node_laws.proofs.NameLists.{Within, fewer-within, has-append, name-swap}
+use Rattle.node_core.proofs.Names.{AllByRecursion, Change, Cluster, Extent, List, Within, added, all_differ, and_parts, ap, arith}
+use Rattle.node_core.proofs.Names.{bytes_eq, changed_names, cluster_of, count_of, different_names, drop, each-imp, false, fewer-within}
+use Rattle.node_core.proofs.Names.{get_or, has-append, has_name, if◌then◌else◌, length, list_any, map, name-swap, neither, not}
+use Rattle.node_core.proofs.Names.{not-true, refl, subst, sym, take, take_rest, true, [], ℕ, ◌++◌, ◌+◌, ◌-◌, ◌||◌, ◌∙◌, ◌∷◌, ◌≡◌, ◌≤◌}
 use Rattle.node_core.proofs.Lists.{none-any}
 
 -- a name is among others where one of what they name has it
@@ -47,3 +46,39 @@ not-more (n ∷ ns) = grind (arith, not-more ns)
 pub one-named : (ns : List (List ℕ)) (n : List ℕ)
     → length (different_names (n ∷ ns)) ≡ (if has_name ns n then 0 else 1) + length (different_names ns)
 one-named ns n = grind arith
+
+-- a cluster more
+pub cluster-more : (c : Cluster Extent) (cs : List (Cluster Extent)) (changes : List (Change Extent))
+    → count_of (c ∷ cs) changes ≡ added cs changes c.name + count_of cs changes
+cluster-more c cs changes =
+    let names = map (λ (d : Cluster Extent). d.name) cs in
+    one-named (names ++ changed_names changes) c.name
+    ∙ ap (λ b. (if b then 0 else 1) + count_of cs changes) (has-append names (changed_names changes) c.name
+    ∙ (λ i. has-named (λ (d : Cluster Extent). d.name) cs c.name i || has-named (λ (d : Change Extent). cluster_of d.part) changes c.name i))
+
+-- a change more
+pub change-more : (change : Change Extent) (changes : List (Change Extent))
+    → count_of [] (change ∷ changes) ≡ added [] changes (cluster_of change.part) + count_of [] changes
+change-more change changes =
+    one-named (changed_names changes) (cluster_of change.part)
+    ∙ ap (λ b. (if b then 0 else 1) + count_of [] changes) (has-named (λ (d : Change Extent). cluster_of d.part) changes (cluster_of change.part))
+
+pub one-at-most : (clusters : List (Cluster Extent)) (changes : List (Change Extent)) (name : List ℕ) → added clusters changes name ≤ 1
+one-at-most clusters changes name = grind arith
+
+-- a list without its first
+abbrev pub rest_of : {X : Type 0} → List X → List X
+rest_of xs = take (length xs - 1) (drop 1 xs)
+
+-- the rest of a list that is counted, one at a time
+module _ {X : Type 0} (total : List X → ℕ) (more : List X → X → ℕ) (step : (x : X) (xs : List X) → total (x ∷ xs) ≡ more xs x + total xs) where
+  pub counted-on : (xs : List X) (x : X) (count n : ℕ) → 1 ≤ length xs → x ≡ get_or xs 0 x → count + total xs ≡ n → count + more (rest_of xs) x + total (rest_of xs) ≡ n
+  counted-on [] x count n some is sum = absurd (omega (arith, some))
+  counted-on (y ∷ ys) x count n some is sum =
+      let next = step y ys in
+      let here : count + more ys y + total ys ≡ n = omega (arith, sum, next) in
+      subst (λ l. count + more l x + total l ≡ n) (sym (take_rest (y ∷ ys) 1)) (subst (λ z. count + more ys z + total ys ≡ n) (sym is) here)
+
+pub fewer-on : {X : Type 0} (xs : List X) → 1 ≤ length xs → length (rest_of xs) + 1 ≡ length xs
+fewer-on [] some = absurd (omega (arith, some))
+fewer-on (x ∷ xs) some = let rest = ap length (take_rest (x ∷ xs) 1) in omega (arith, rest)

@@ -1,5 +1,8 @@
--- The words of the definitions and of the library that these proofs use.
+-- The words of the definitions, of the library and of the crates below that these proofs use.
+pub use Rattle.dependency_check.proofs.Mapped.{list_any-map}
 pub use Rattle.dependency_check.specs.Clusters.{needing}
+pub use Rattle.history_query.proofs.Answered.{changes-answered, clusters-answered, packages-answered, progress-answered}
+pub use Rattle.history_query.proofs.Valid.{each-unfinished}
 pub use Rattle.history_query.specs.Shown.{EachIsUnfinished, changes_planned, progress_answer, progress_at, shown_change, shown_cluster}
 pub use Rattle.history_query.specs.Shown.{shown_transfer}
 pub use Rattle.manifest.specs.Form.{manifest_of}
@@ -16,6 +19,14 @@ pub use Rattle.node_core.specs.Units.{answer_to, change_due, change_kept, change
 pub use Rattle.node_core.specs.Units.{payload_start, picks, session_takes, stored_units, unit_end}
 pub use Rattle.node_core.specs.declared.copying.NextUnit.{NextUnit}
 pub use Rattle.node_core.specs.declared.prepared.Prepared.{Prepared}
+pub use Rattle.node_laws.proofs.Kept.{keeps-fit}
+pub use Rattle.node_laws.proofs.Lists.{both-none, each-append, each-both, each-filter, each-first, each-imp, each-map, each-unmap}
+pub use Rattle.node_laws.proofs.Lists.{found-has, is-processing, is-transferred, is-transferring, length-filter, neither, not-false}
+pub use Rattle.node_laws.proofs.Lists.{not-true, rise-above, rise-tail, rows-clear}
+pub use Rattle.node_laws.proofs.NameLists.{Within, eq-name, fewer-within, has-append, has-within, lt-trans, name-eq, name-swap}
+pub use Rattle.node_laws.proofs.NameLists.{names-behind, names-tail, names_of, planned-rise, within-left, within-right, within-self}
+pub use Rattle.node_laws.proofs.NameLists.{within-trans}
+pub use Rattle.node_laws.proofs.Sessions.{free-of}
 pub use Rattle.node_laws.specs.Fit.{IsFit, IsRead, IsReading}
 pub use Rattle.package_reader.specs.Fields.{number_at, payload_in, payload_place, text_in}
 pub use Rattle.package_reader.specs.Reading.{content_faults, field_faults, first_fault, is_payload_of, is_remove, unless}
@@ -96,6 +107,11 @@ pub use Rattle.std.specs.List.{AllByRecursion, insert, list_all, list_any, range
 pub use Rattle.std.specs.Option.{option_map_or, option_or}
 pub use Rattle.std.specs.Str.{bytes_eq}
 pub use Rattle.std.specs.Vec.Iter.{into_iter_items, into_iter_len}
+pub use Rattle.transfer_blocks.proofs.Areas.{content-elsewhere, content-here, elsewhere-stands, put-leaves}
+pub use Rattle.transfer_blocks.proofs.Bytes.{before-stands, front_slice, slice-overwritten, take-overwritten}
+pub use Rattle.transfer_blocks.proofs.Lists.{none-passes}
+pub use Rattle.transfer_blocks.proofs.Meanings.{filter-means, header-means, ids-mean, transfer-stands}
+pub use Rattle.transfer_blocks.proofs.Slots.{scan-here, scan-next}
 pub use Rattle.transfer_blocks.specs.Areas.{AreasFit, IsArea, LeavesOutside, content_of, overwritten, with_content}
 pub use Rattle.transfer_blocks.specs.Table.{IsBounded, IsTable, Table, bad_refusal, cleaned, found_of, good_parts, moved, received}
 pub use Rattle.transfer_blocks.specs.Table.{slots_of, stored_header, stored_ids, stored_of, unless_refused, whole, with_fresh, with_stored}

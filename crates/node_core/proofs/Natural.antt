@@ -3,10 +3,9 @@ use Rattle.node_core.proofs.Names.{Action, ActionNotApplicable, Areas, Bool, Byt
 use Rattle.node_core.proofs.Names.{Install, List, None, OldVersion, Option, Part, Remove, Some, TooManyClusters, Update, ap, brought}
 use Rattle.node_core.proofs.Names.{bytes_eq, change_meaning, changed_as, changed_by, cluster_at, cluster_limit, cluster_meaning}
 use Rattle.node_core.proofs.Names.{cluster_of, different_names, filter, first_refusal, has_cluster, is_install, is_newer, is_update}
-use Rattle.node_core.proofs.Names.{length, map, map-append, map-map, missing, name_lt, nat_le, not, option_map, option_or}
+use Rattle.node_core.proofs.Names.{length, list_any-map, map, map-append, map-map, missing, name_lt, nat_le, not, option_map, option_or}
 use Rattle.node_core.proofs.Names.{part_refusals, parts_refusal, planned, refl, some_passes, suits, sym, unmet_among, with_cluster}
 use Rattle.node_core.proofs.Names.{with_length, [], ℕ, ◌&&◌, ◌++◌, ◌∙◌, ◌∷◌, ◌≡◌}
-use Rattle.dependency_check.proofs.Mapped.{list_any-map}
 use Rattle.node_core.proofs.Lists.{filter-map, find-map}
 
 passes-map : {X Y : Type 0} (p : Y → Bool) (f : X → Y) (o : Option X) → some_passes p (option_map f o) ≡ some_passes (λ x. p (f x)) o

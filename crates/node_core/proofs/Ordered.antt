@@ -1,10 +1,10 @@
 -- Clusters in order of name: each is inserted behind those that stand before it.
 use Rattle.node_core.proofs.Names.{AllByRecursion, Bool, Bytes, Cluster, Install, List, all_differ, ap, ap₂, arith, bytes_eq, cond}
-use Rattle.node_core.proofs.Names.{drop, false, filter, fold, fold-append, in_order, insert, length, length-append, length-insert}
-use Rattle.node_core.proofs.Names.{map-append, name_lt, named_before, names_rise, nat_list_cmp_total, refl, subst, sym, take}
-use Rattle.node_core.proofs.Names.{texts_ties, true, with_cluster, [], ℕ, ◌++◌, ◌∙◌, ◌∷◌, ◌≡◌, ◌≤◌}
-use Rattle.node_laws.proofs.NameLists.{name-swap, lt-trans, name-eq, names-behind, names-tail, names_of, planned-rise}
-use Rattle.node_laws.proofs.Lists.{each-append, each-filter, each-imp, each-unmap, length-filter}
+use Rattle.node_core.proofs.Names.{drop, each-append, each-filter, each-imp, each-unmap, false, filter, fold, fold-append, in_order}
+use Rattle.node_core.proofs.Names.{insert, length, length-append, length-filter, length-insert, lt-trans, map-append, name-eq}
+use Rattle.node_core.proofs.Names.{name-swap, name_lt, named_before, names-behind, names-tail, names_of, names_rise, nat_list_cmp_total}
+use Rattle.node_core.proofs.Names.{planned-rise, refl, subst, sym, take, texts_ties, true, with_cluster, [], ℕ, ◌++◌, ◌∙◌, ◌∷◌, ◌≡◌}
+use Rattle.node_core.proofs.Names.{◌≤◌}
 use Rattle.node_core.proofs.Named.{differ-before, none-named}
 
 -- the order of names is strict and total

@@ -1,20 +1,16 @@
 -- A transfer that goes to another phase, and the session with it.
 use Rattle.node_core.proofs.Names.{AllByRecursion, BeingProcessed, Cancel, Done, Extent, Found, Goal, Holding, IsCopied, IsCopiedIn}
 use Rattle.node_core.proofs.Names.{IsInOrder, IsJudged, IsPlaced, IsSound, List, None, Option, Phase, Refusal, Reply, Session}
-use Rattle.node_core.proofs.Names.{SessionOf, Some, State, StoredTransfer, Transfer, Transferred, ap, arith, arrived, cancel_refusals}
-use Rattle.node_core.proofs.Names.{false, first_refusal, found_of, header_of, if◌then◌else◌, in_phase, is_in, is_of, map, meaning}
-use Rattle.node_core.proofs.Names.{moved, node_of, not, option_map, option_or, package_reading, parts_read, paused, phase_code, phased}
-use Rattle.node_core.proofs.Names.{places_in, refl, refusal_by, session_meaning, session_refusals, slice_index_or, slots_differ}
-use Rattle.node_core.proofs.Names.{some_passes, status_table, stop_processing, stopped, stored_header, stored_of, sym, take}
-use Rattle.node_core.proofs.Names.{transfer_meaning, transfer_of, true, units_done, with_length, with_phase, [], ℕ, ◌==◌, ◌∙◌, ◌∷◌, ◌≡◌}
-use Rattle.transfer_blocks.proofs.Meanings.{header-means}
-use Rattle.node_laws.proofs.Lists.{found-has, both-none, is-processing, not-false, rows-clear}
+use Rattle.node_core.proofs.Names.{SessionOf, Some, State, StoredTransfer, Transfer, Transferred, ap, arith, arrived, both-none}
+use Rattle.node_core.proofs.Names.{cancel_refusals, false, first_refusal, found-has, found_of, header-means, header_of, if◌then◌else◌}
+use Rattle.node_core.proofs.Names.{in_phase, is-processing, is_in, is_of, map, meaning, moved, node_of, not, not-false, option_map}
+use Rattle.node_core.proofs.Names.{option_or, package_reading, parts_read, paused, phase_code, phased, places_in, refl, refusal_by}
+use Rattle.node_core.proofs.Names.{rows-clear, session_meaning, session_refusals, slice_index_or, slots_differ, some_passes}
+use Rattle.node_core.proofs.Names.{status_table, stop_processing, stopped, stored_header, stored_of, sym, take, transfer_meaning}
+use Rattle.node_core.proofs.Names.{transfer_of, true, units_done, with_length, with_phase, [], ℕ, ◌==◌, ◌∙◌, ◌∷◌, ◌≡◌}
 use Rattle.node_core.proofs.Arrived.{marked, copied-by, done-judged}
 use Rattle.node_core.proofs.Lists.{every, change-each}
 use Rattle.node_core.proofs.Stored.{found-header, rise, changed-means, only-has, some-stored}
-
-abbrev slot_of : StoredTransfer → ℕ
-slot_of t = t.slot
 
 -- the slots are as they were
 pub same-slots : (id : ℕ) (phase : Phase) (ts : List StoredTransfer) → map (λ t. t.slot) (phased id phase ts) ≡ map (λ t. t.slot) ts

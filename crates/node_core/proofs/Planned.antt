@@ -1,8 +1,8 @@
 -- What holds of planned clusters, and of their places.
 use Rattle.node_core.proofs.Names.{Action, AllByRecursion, Bool, Change, Cluster, Extent, Install, List, Part, Remove, Update, beq}
-use Rattle.node_core.proofs.Names.{brought, bytes_eq, change_place, changed_as, changed_by, cluster_place, list_all, map}
-use Rattle.node_core.proofs.Names.{names_fit_places, planned, true, with_cluster, [], ℕ, ◌++◌, ◌==◌, ◌∷◌, ◌≡◌}
-use Rattle.node_laws.proofs.Lists.{each-first, each-append, each-filter, each-imp, each-map, each-unmap}
+use Rattle.node_core.proofs.Names.{brought, bytes_eq, change_place, changed_as, changed_by, cluster_place, each-append, each-filter}
+use Rattle.node_core.proofs.Names.{each-first, each-imp, each-map, each-unmap, list_all, map, names_fit_places, planned, true}
+use Rattle.node_core.proofs.Names.{with_cluster, [], ℕ, ◌++◌, ◌==◌, ◌∷◌, ◌≡◌}
 use Rattle.node_core.proofs.Lists.{all-each, each-all, each-second}
 
 -- what holds of each cluster, and of each that a change brings, holds of each planned one

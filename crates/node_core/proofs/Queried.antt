@@ -1,12 +1,11 @@
 -- A query is answered over the stored lists as of the node that they stand for.
 use Rattle.node_core.proofs.Names.{Answer, ChangeInfo, ClusterInfo, EachIsUnfinished, Extent, GetSwClusterChangeInfo, GetSwClusterInfo}
 use Rattle.node_core.proofs.Names.{GetSwPackages, GetSwProcessProgress, Holding, IsSound, List, Option, PackageInfo, Query, Refusal}
-use Rattle.node_core.proofs.Names.{Result, SessionOf, StoredTransfer, answer, ap, ap₂, changes_planned, filter, find, is_of, map}
-use Rattle.node_core.proofs.Names.{node_of, package_reading, progress_answer, progress_at, shown_change, shown_cluster, shown_transfer}
-use Rattle.node_core.proofs.Names.{subst, sym, ℕ, ◌==◌, ◌∙◌, ◌≡◌}
+use Rattle.node_core.proofs.Names.{Result, SessionOf, StoredTransfer, answer, ap, ap₂, changes-answered, changes_planned}
+use Rattle.node_core.proofs.Names.{clusters-answered, each-unfinished, filter, find, is_of, map, node_of, package_reading}
+use Rattle.node_core.proofs.Names.{packages-answered, progress-answered, progress_answer, progress_at, shown_change, shown_cluster}
+use Rattle.node_core.proofs.Names.{shown_transfer, subst, sym, ℕ, ◌==◌, ◌∙◌, ◌≡◌}
 use Rattle.pm_types.specs.declared.queries.Answer.TheVariants.{Clusters, Changes, Packages}
-use Rattle.history_query.proofs.Answered.{clusters-answered, changes-answered, packages-answered, progress-answered}
-use Rattle.history_query.proofs.Valid.{each-unfinished}
 
 -- an answer of an equal node to an equal query
 pub answered : {v w : Holding} → v ≡ w → (client : ℕ) {p q : Query} → q ≡ p → {a : Answer} → a ≡ answer (node_of v) client p → a ≡ answer (node_of w) client q

@@ -1,11 +1,10 @@
 -- A package that removes a cluster has no payload.
 use Rattle.node_core.proofs.Names.{Bool, Bytes, List, Manifest, None, Ok, Option, Package, PackageFault, Remove, Some, and_parts, ap}
 use Rattle.node_core.proofs.Names.{arith, bytes_eq, content_faults, false, field_faults, first_fault, is_payload_of, is_remove, length}
-use Rattle.node_core.proofs.Names.{ltb-true, manifest_of, nat_lt, not, payload_in, payload_place, refl, sha256, sym, text_in, true}
-use Rattle.node_core.proofs.Names.{unless, [], ℕ, ◌++◌, ◌+◌, ◌||◌, ◌∙◌, ◌∷◌, ◌≡◌}
+use Rattle.node_core.proofs.Names.{ltb-true, manifest_of, nat_lt, not, not-false, payload_in, payload_place, refl, sha256, sym, text_in}
+use Rattle.node_core.proofs.Names.{true, unless, [], ℕ, ◌++◌, ◌+◌, ◌||◌, ◌∙◌, ◌∷◌, ◌≡◌}
 use Rattle.package_reader.specs.declared.fault.PackageFault.TheVariants.{PackageInconsistent, InvalidManifest}
 use Rattle.package_reader.specs.Reading.{fault, reading}
-use Rattle.node_laws.proofs.Lists.{not-false}
 
 -- no row of a second table holds where none of both does
 behind-none : (rows more : List (Bool × PackageFault)) → first_fault (rows ++ more) ≡ None → first_fault more ≡ None

@@ -2,13 +2,11 @@
 use Rattle.node_core.proofs.Names.{Action, AllByRecursion, Area, Areas, AreasFit, Bool, Bytes, Change, Cluster, Extent, Holding}
 use Rattle.node_core.proofs.Names.{Install, IsArea, IsExtent, IsInOrder, IsSound, LeavesOutside, List, Remove, SessionOf, Side, Some}
 use Rattle.node_core.proofs.Names.{StoredTransfer, Update, ap, arith, bytes_eq, change_meaning, change_place, cluster_at}
-use Rattle.node_core.proofs.Names.{cluster_meaning, cluster_of, cluster_place, cond, eq-eqb, false, goes_to, has_cluster, length}
-use Rattle.node_core.proofs.Names.{lowest_free, map, map-map, meaning, name_lt, names_rise, node_of, on_side, option_map_or}
-use Rattle.node_core.proofs.Names.{package_reading, refl, session_meaning, subst, suits, sym, take, transfer_meaning, true, [], ℕ, ◌++◌}
-use Rattle.node_core.proofs.Names.{◌+◌, ◌-◌, ◌==◌, ◌∙◌, ◌∷◌, ◌≡◌, ◌≢◌}
-use Rattle.transfer_blocks.proofs.Areas.{elsewhere-stands}
-use Rattle.node_laws.proofs.Lists.{each-both, each-first, each-imp, each-unmap, found-has, not-true}
-use Rattle.node_laws.proofs.NameLists.{name-eq, name-swap, names-behind, names-tail}
+use Rattle.node_core.proofs.Names.{cluster_meaning, cluster_of, cluster_place, cond, each-both, each-first, each-imp, each-unmap}
+use Rattle.node_core.proofs.Names.{elsewhere-stands, eq-eqb, false, found-has, goes_to, has_cluster, length, lowest_free, map, map-map}
+use Rattle.node_core.proofs.Names.{meaning, name-eq, name-swap, name_lt, names-behind, names-tail, names_rise, node_of, not-true}
+use Rattle.node_core.proofs.Names.{on_side, option_map_or, package_reading, refl, session_meaning, subst, suits, sym, take}
+use Rattle.node_core.proofs.Names.{transfer_meaning, true, [], ℕ, ◌++◌, ◌+◌, ◌-◌, ◌==◌, ◌∙◌, ◌∷◌, ◌≡◌, ◌≢◌}
 use Rattle.node_core.proofs.Stored.{read-order}
 use Rattle.node_core.proofs.Lists.{each-second, every, map-same, none-any}
 use Rattle.node_core.proofs.Ordered.{lt-self}

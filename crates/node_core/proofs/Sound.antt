@@ -2,17 +2,14 @@
 use Rattle.node_core.proofs.Names.{Bytes, Call, CallNo, Err, Extent, Holding, IsBounded, IsFit, IsReading, IsSound, IsTable, IsTrue}
 use Rattle.node_core.proofs.Names.{List, NodeState, None, Ok, Option, Package, PackageFault, Part, Reply, Result, SessionMark}
 use Rattle.node_core.proofs.Names.{SessionOf, Some, Transfer, Verdict, after_call, all_differ, ap, arith, both_true, client_limit}
-use Rattle.node_core.proofs.Names.{cluster_of, ids_of, length, length-map, map, mark_of, nat_tests, node_of, not, numbers_rise}
-use Rattle.node_core.proofs.Names.{of_client, option_map, package_limit, package_reading, refl, repeat_of, reply_by, reply_to}
-use Rattle.node_core.proofs.Names.{session_meaning, slice_index_or, slots_differ, step, step_by, stored_ids, subst, sym, synced}
-use Rattle.node_core.proofs.Names.{table_of, transfer_limit, transfer_meaning, true, verdict_of, verdict_on, [], ℕ, ◌<◌, ◌==◌, ◌∙◌, ◌∷◌}
-use Rattle.node_core.proofs.Names.{◌≡◌, ◌≤◌}
+use Rattle.node_core.proofs.Names.{cluster_of, each-both, each-imp, each-unmap, ids-mean, ids_of, keeps-fit, length, length-map, map}
+use Rattle.node_core.proofs.Names.{mark_of, nat_tests, node_of, not, numbers_rise, of_client, option_map, package_limit}
+use Rattle.node_core.proofs.Names.{package_reading, refl, repeat_of, reply_by, reply_to, rise-above, rise-tail, session_meaning}
+use Rattle.node_core.proofs.Names.{slice_index_or, slots_differ, step, step_by, stored_ids, subst, sym, synced, table_of}
+use Rattle.node_core.proofs.Names.{transfer_limit, transfer_meaning, true, verdict_of, verdict_on, [], ℕ, ◌<◌, ◌==◌, ◌∙◌, ◌∷◌, ◌≡◌, ◌≤◌}
 use Rattle.package_reader.specs.Reading.{reading}
 use Rattle.pm_types.specs.declared.replies.Reached.TheVariants.{Done as Answered}
 use Rattle.pm_types.specs.Validity.{IsSound as IsSoundTransfer}
-use Rattle.node_laws.proofs.Lists.{each-imp, each-both, each-unmap, rise-above, rise-tail}
-use Rattle.transfer_blocks.proofs.Meanings.{ids-mean}
-use Rattle.node_laws.proofs.Kept.{keeps-fit}
 use Rattle.node_core.proofs.Lists.{each-all}
 use Rattle.node_core.proofs.Stored.{rise, ids}
 

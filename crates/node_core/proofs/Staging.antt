@@ -2,18 +2,16 @@
 use Rattle.node_core.proofs.Names.{Action, AllByRecursion, Areas, AreasFit, Bool, Bytes, ExitVerdict, Found, Holding, Install, IsBehind}
 use Rattle.node_core.proofs.Names.{IsCopiedIn, IsKept, IsPartCopied, IsReady, IsSound, IsVerdict, LeavesOutside, List, Manifest, None}
 use Rattle.node_core.proofs.Names.{Option, Prepared, Remove, Some, StoredTransfer, Transfer as NodeTransfer, TransferData, TransferExit}
-use Rattle.node_core.proofs.Names.{Update, and_parts, ap, arith, block_limit, cond, content_of, eqb-false, exit_refusals, false, find}
-use Rattle.node_core.proofs.Names.{first_refusal, found_of, goes_to, inl, inr, is_of, length, length-take, map, nat_tests, node_of, not}
-use Rattle.node_core.proofs.Names.{option_map, option_map_or, overwritten, package_limit, package_reading, refl, slice_range}
-use Rattle.node_core.proofs.Names.{slots_differ, slots_of, stored_of, subst, sym, take, transfer_limit, transfer_meaning, true}
-use Rattle.node_core.proofs.Names.{units_done, with_content, zero-add, [], ℕ, ◌*◌, ◌+◌, ◌<◌, ◌==◌, ◌∙◌, ◌∷◌, ◌≡◌, ◌≢◌, ◌≤◌, ◌⊎◌}
+use Rattle.node_core.proofs.Names.{Update, and_parts, ap, arith, block_limit, cond, content-here, content_of, each-both, each-imp}
+use Rattle.node_core.proofs.Names.{each-unmap, eqb-false, exit_refusals, false, find, first_refusal, found-has, found_of, front_slice}
+use Rattle.node_core.proofs.Names.{goes_to, header-means, inl, inr, is_of, length, length-take, map, nat_tests, node_of, not, not-true}
+use Rattle.node_core.proofs.Names.{option_map, option_map_or, overwritten, package_limit, package_reading, put-leaves, refl}
+use Rattle.node_core.proofs.Names.{slice-overwritten, slice_range, slots_differ, slots_of, stored_of, subst, sym, take, transfer-stands}
+use Rattle.node_core.proofs.Names.{transfer_limit, transfer_meaning, true, units_done, with_content, zero-add, [], ℕ, ◌*◌, ◌+◌, ◌<◌}
+use Rattle.node_core.proofs.Names.{◌==◌, ◌∙◌, ◌∷◌, ◌≡◌, ◌≢◌, ◌≤◌, ◌⊎◌}
 use Rattle.pm_types.specs.Validity.{IsSound as IsSoundTransfer}
 use Rattle.transfer_blocks.specs.declared.area.Area.TheVariants.{Transfer}
 use Rattle.node_core.specs.declared.prepared.Prepared.TheVariants.{Verdict as Judged}
-use Rattle.transfer_blocks.proofs.Areas.{put-leaves, content-here}
-use Rattle.node_laws.proofs.Lists.{each-unmap, each-both, each-imp, found-has, not-true}
-use Rattle.transfer_blocks.proofs.Meanings.{header-means, transfer-stands}
-use Rattle.transfer_blocks.proofs.Bytes.{front_slice, slice-overwritten}
 use Rattle.node_core.proofs.Stored.{read-order, copied-when, found-means, only-has, rise}
 use Rattle.node_core.proofs.Lists.{all-each, map-same}
 use Rattle.node_core.proofs.Judged.{block_refusal, exit_refusal, data-same}

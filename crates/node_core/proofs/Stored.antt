@@ -1,11 +1,11 @@
 -- What stored transfers mean, and what a change of one of them changes of that.
 use Rattle.node_core.proofs.Names.{AllByRecursion, Areas, BeingProcessed, Bool, Found, Holding, IsCopiedIn, IsInOrder, IsPartCopied}
 use Rattle.node_core.proofs.Names.{IsSound, List, None, Option, Phase, Processed, Reading, Some, State, StoredTransfer, Transfer}
-use Rattle.node_core.proofs.Names.{Transferred, Transferring, and_parts, ap, arith, cond, drop, eqb-true, false, find, found_of}
-use Rattle.node_core.proofs.Names.{if◌then◌else◌, is_none, is_of, map, map-map, numbers_rise, option_map, package_reading, refl}
-use Rattle.node_core.proofs.Names.{slice_range, stored_header, stored_of, subst, sym, take, take-add, transfer_meaning, true}
-use Rattle.node_core.proofs.Names.{with_length, [], ℕ, ◌++◌, ◌+◌, ◌-◌, ◌<◌, ◌==◌, ◌∙◌, ◌∷◌, ◌≡◌}
-use Rattle.node_laws.proofs.Lists.{each-both, each-imp, each-unmap, found-has, rise-above, rise-tail}
+use Rattle.node_core.proofs.Names.{Transferred, Transferring, and_parts, ap, arith, cond, drop, each-both, each-imp, each-unmap}
+use Rattle.node_core.proofs.Names.{eqb-true, false, find, found-has, found_of, if◌then◌else◌, is_none, is_of, map, map-map}
+use Rattle.node_core.proofs.Names.{numbers_rise, option_map, package_reading, refl, rise-above, rise-tail, slice_range, stored_header}
+use Rattle.node_core.proofs.Names.{stored_of, subst, sym, take, take-add, transfer_meaning, true, with_length, [], ℕ, ◌++◌, ◌+◌, ◌-◌}
+use Rattle.node_core.proofs.Names.{◌<◌, ◌==◌, ◌∙◌, ◌∷◌, ◌≡◌}
 use Rattle.node_core.proofs.Lists.{every, find-map, change-map}
 
 abbrev pub ids : List StoredTransfer → List ℕ

@@ -3,14 +3,12 @@ use Rattle.node_core.proofs.Names.{Activated, Activating, AllByRecursion, Areas,
 use Rattle.node_core.proofs.Names.{Extent, Holding, Idle, IsCopied, IsExtent, IsFit, IsPlaced, IsReservedWork, IsSound, IsTable, IsUnit}
 use Rattle.node_core.proofs.Names.{IsUnitReady, List, None, Option, Outcome, Prepared, Processed, Processing, RolledBack, RollingBack}
 use Rattle.node_core.proofs.Names.{SessionIsDue, SessionOf, Some, State, Status, StoredTransfer, Table, Transfer, Verifying, after_work}
-use Rattle.node_core.proofs.Names.{ap, change_meaning, change_place, cleaned, cluster_place, clusters_kept, end_mark, false, has_status}
-use Rattle.node_core.proofs.Names.{id_in_processing, if◌then◌else◌, is_in, is_some, length, length-map, map, nat_lt, node_of, not}
-use Rattle.node_core.proofs.Names.{option_map, package_reading, phase_code, planned, refl, session_meaning, should_run, slice_set}
-use Rattle.node_core.proofs.Names.{some_passes, subst, sym, table_of, transfer_meaning, true, unit, unit_passes, with_table, [], ℕ}
-use Rattle.node_core.proofs.Names.{◌++◌, ◌+◌, ◌<◌, ◌==◌, ◌||◌, ◌∙◌, ◌≡◌}
-use Rattle.transfer_blocks.proofs.Meanings.{filter-means}
-use Rattle.node_laws.proofs.Lists.{each-append, each-filter, each-first, each-imp, each-unmap}
-use Rattle.node_laws.proofs.Kept.{keeps-fit}
+use Rattle.node_core.proofs.Names.{ap, change_meaning, change_place, cleaned, cluster_place, clusters_kept, each-append, each-filter}
+use Rattle.node_core.proofs.Names.{each-first, each-imp, each-unmap, end_mark, false, filter-means, has_status, id_in_processing}
+use Rattle.node_core.proofs.Names.{if◌then◌else◌, is_in, is_some, keeps-fit, length, length-map, map, nat_lt, node_of, not, option_map}
+use Rattle.node_core.proofs.Names.{package_reading, phase_code, planned, refl, session_meaning, should_run, slice_set, some_passes}
+use Rattle.node_core.proofs.Names.{subst, sym, table_of, transfer_meaning, true, unit, unit_passes, with_table, [], ℕ, ◌++◌, ◌+◌, ◌<◌}
+use Rattle.node_core.proofs.Names.{◌==◌, ◌||◌, ◌∙◌, ◌≡◌}
 use Rattle.node_core.proofs.Stored.{copied-when}
 use Rattle.node_core.proofs.Lists.{each-second}
 use Rattle.node_core.proofs.Arrived.{marked-order}

@@ -1,6 +1,5 @@
-use Rattle.node_core.proofs.Names.{ap, append_assoc, arith, into_iter_items, length, name_lt, named_before, sym, [], ◌++◌, ◌∙◌, ◌∷◌}
-use Rattle.node_core.proofs.Names.{◌≡◌}
-use Rattle.node_laws.proofs.Lists.{length-filter}
+use Rattle.node_core.proofs.Names.{ap, append_assoc, arith, into_iter_items, length, length-filter, name_lt, named_before, sym, []}
+use Rattle.node_core.proofs.Names.{◌++◌, ◌∙◌, ◌∷◌, ◌≡◌}
 use Rattle.node_core.proofs.Ordered.{next-ordered, next-length}
 use Rattle.node_core.proofs.format.in_order.Goals as goal
 

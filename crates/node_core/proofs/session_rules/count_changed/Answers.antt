@@ -1,5 +1,5 @@
 use Rattle.node_core.proofs.Names.{Change, Extent, added, ap, arith, cluster_of, count_of, [], ◌+◌, ◌∙◌}
-use Rattle.node_core.proofs.Counted.{change-more, counted-on, fewer-on, one-at-most, rest_of}
+use Rattle.node_core.proofs.Named.{change-more, counted-on, fewer-on, one-at-most, rest_of}
 use Rattle.node_core.proofs.session_rules.count_changed.Goals as goal
 
 pub loop-rest-preserved : goal.loop-rest-preserved

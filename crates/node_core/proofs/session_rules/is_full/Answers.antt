@@ -1,5 +1,5 @@
 use Rattle.node_core.proofs.Names.{Cluster, Extent, added, ap, arith, count_of, ◌+◌, ◌∙◌}
-use Rattle.node_core.proofs.Counted.{cluster-more, counted-on, fewer-on, one-at-most, rest_of}
+use Rattle.node_core.proofs.Named.{cluster-more, counted-on, fewer-on, one-at-most, rest_of}
 use Rattle.node_core.proofs.session_rules.is_full.Goals as goal
 
 pub loop-rest-preserved : goal.loop-rest-preserved

@@ -1,5 +1,5 @@
 use Rattle.node_core.proofs.Names.{Holding, ap, false, refl, session_takes, sym, true, ◌∙◌}
-use Rattle.node_core.proofs.Taken.{taken-of}
+use Rattle.node_core.proofs.Free.{taken-of}
 use Rattle.node_core.proofs.held.Held.is_taken.Goals as goal
 
 pub returns-then-has_place : goal.returns-then-has_place

@@ -1,6 +1,5 @@
-use Rattle.node_core.proofs.Names.{Bool, ap, arith, cluster_limit, false, not, sym, true, unwrap_or, ℕ, ◌∙◌, ◌≡◌}
+use Rattle.node_core.proofs.Names.{Bool, ap, arith, cluster_limit, false, not, scan-here, scan-next, sym, true, unwrap_or, ℕ, ◌∙◌, ◌≡◌}
 use Rattle.node_core.specs.Units.{is_taken}
-use Rattle.transfer_blocks.proofs.Slots.{scan-next, scan-here}
 use Rattle.node_core.proofs.held.Held.lowest_free.Goals as goal
 
 pub returns-then-not-is_taken : goal.returns-then-not-is_taken
