@@ -1,16 +1,17 @@
 -- What a unit of a package leaves of a sound node.
 use Rattle.node_core.proofs.Names.{AllByRecursion, Areas, BeingProcessed, Bool, Bytes, Err, Extent, Holding, IfSome, IsCopiedIn}
-use Rattle.node_core.proofs.Names.{IsPackageReady, IsPartCopied, IsPartReady, IsRead, IsSomeAnd, IsSound, IsUnit, IsUnitReady}
+use Rattle.node_core.proofs.Names.{IsPackageReady, IsPartCopied, IsPartReady, IsPlaced, IsRead, IsSomeAnd, IsSound, IsUnit, IsUnitReady}
 use Rattle.node_core.proofs.Names.{IsWholeFromTransferred, List, Manifest, NodeState, None, Ok, Option, Package, PackageFault, Part}
 use Rattle.node_core.proofs.Names.{Prepared, Processing, Result, SessionOf, Some, State, StoredTransfer, Transfer, all_units, ap, arith}
-use Rattle.node_core.proofs.Names.{block_limit, content_of, drop, each-both, each-imp, each-unmap, eq-eqb, found-has, goes_to}
-use Rattle.node_core.proofs.Names.{if◌then◌else◌, is-processing, is_in, is_of, length, length-drop, length-take, ltb-true, map, nat_lt}
-use Rattle.node_core.proofs.Names.{nat_tests, node_of, number_at, option_map, package_reading, parts_of, parts_read, payload_in}
-use Rattle.node_core.proofs.Names.{payload_place, phase_code, processed, refl, session_meaning, slice_index_or, stored_of, stored_units}
-use Rattle.node_core.proofs.Names.{subst, sum_by-cons, sym, take, transfer_meaning, transfer_of, true, unit, unit_end, units_of, unless}
-use Rattle.node_core.proofs.Names.{verdict_of, with_length, [], ℕ, ◌*◌, ◌+◌, ◌<◌, ◌==◌, ◌∙◌, ◌∷◌, ◌≡◌, ◌≤◌}
+use Rattle.node_core.proofs.Names.{block_limit, content_of, drop, each-both, each-unmap, eq-eqb, found-has, goes_to, if◌then◌else◌}
+use Rattle.node_core.proofs.Names.{is-processing, is_in, length, length-drop, length-take, ltb-true, map, nat_lt, nat_tests, node_of}
+use Rattle.node_core.proofs.Names.{number_at, option_map, package_reading, parts_of, parts_read, payload_in, payload_place, phase_code}
+use Rattle.node_core.proofs.Names.{processed, refl, session_meaning, slice_index_or, stored_of, stored_units, subst, sum_by-cons, sym}
+use Rattle.node_core.proofs.Names.{take, transfer_meaning, transfer_of, true, unit, unit_end, units_of, unless, verdict_of, with_length}
+use Rattle.node_core.proofs.Names.{[], ℕ, ◌*◌, ◌+◌, ◌<◌, ◌==◌, ◌∙◌, ◌∷◌, ◌≡◌, ◌≤◌}
+use Rattle.pm_types.specs.Validity.{IsSound as IsSoundTransfer}
 use Rattle.package_reader.specs.Reading.{reading}
-use Rattle.node_core.proofs.Stored.{copied-when, rise, found-is, found-means, only}
+use Rattle.node_core.proofs.Stored.{found-fact, copied-when, rise, found-is, found-means, only}
 use Rattle.node_core.proofs.Arrived.{goes-by, marked-order}
 use Rattle.node_core.proofs.Worked.{at_work, moved}
 
@@ -65,13 +66,13 @@ payload-fits bytes p e =
 
 pub in-hand : (v : Holding) (x : SessionOf Extent) (id : ℕ) → IsSound (at_process v x id) → InHand v x id
 in-hand v x id sound = go (stored_of v.state.transfers x.owner id) refl
-    (subst (λ o. IsSomeAnd o (λ (t : Transfer). x.units_done < all_units t.parts)) (found-means package_reading v.areas x.owner id v.state.transfers) sound.fit.consistent.processing.unfinished)
+    (subst (λ o. IsSomeAnd o (λ (t : Transfer). x.units_done < all_units t.parts)) (found-means package_reading v.areas x.owner id v.state.transfers)
+    sound.fit.consistent.processing.unfinished)
   where
-    means : StoredTransfer → Transfer
-    means t = transfer_meaning package_reading v.areas t
-
-    read : (u : StoredTransfer) → stored_of v.state.transfers x.owner id ≡ Some u → u.header.phase ≡ BeingProcessed → x.units_done < all_units (transfer_meaning package_reading v.areas u).parts
-        → (r : Result Package PackageFault) → reading (bytes_of v.areas u) ≡ r → (transfer_meaning package_reading v.areas u).parts ≡ parts_read (verdict_of r) → 0 < length (transfer_meaning package_reading v.areas u).parts → InHand v x id
+    read : (u : StoredTransfer) → stored_of v.state.transfers x.owner id ≡ Some u → u.header.phase ≡ BeingProcessed
+        → x.units_done < all_units (transfer_meaning package_reading v.areas u).parts → (r : Result Package PackageFault)
+        → reading (bytes_of v.areas u) ≡ r → (transfer_meaning package_reading v.areas u).parts ≡ parts_read (verdict_of r)
+        → 0 < length (transfer_meaning package_reading v.areas u).parts → InHand v x id
     read u e phase left (Ok p) q parts some = record {
       transfer = u;
       is = e;
@@ -79,21 +80,23 @@ in-hand v x id sound = go (stored_of v.state.transfers x.owner id) refl
       pack = p;
       reads = q;
       parts = parts;
-      contents = (found-has _ (λ t. t.contents ≡ map with_length (transfer_meaning package_reading v.areas t).parts) v.state.transfers u (each-imp _ _ (λ t placed. placed.contents) v.state.transfers sound.order.transfers) e).1 ∙ ap (map with_length) parts;
+      contents = (found-has _ (IsPlaced package_reading v.areas) v.state.transfers u sound.order.transfers e).1.contents ∙ ap (map with_length) parts;
       unfinished = subst (λ n. x.units_done < n) (ap all_units parts ∙ one-unit (part_of p)) left;
     }
     read u e phase left (Err f) q parts some = absurd (let f : ⊥ = omega (arith, some, ap length parts) in f)
 
-    go : (o : Option StoredTransfer) → stored_of v.state.transfers x.owner id ≡ o → IsSomeAnd (option_map (transfer_meaning package_reading v.areas) o) (λ (t : Transfer). x.units_done < all_units t.parts) → InHand v x id
+    go : (o : Option StoredTransfer) → stored_of v.state.transfers x.owner id ≡ o
+        → IsSomeAnd (option_map (transfer_meaning package_reading v.areas) o) (λ (t : Transfer). x.units_done < all_units t.parts) → InHand v x id
     go None e left = absurd left
     go (Some u) e left =
-        let each = each-unmap (λ (t : Transfer). is_in BeingProcessed t.header ≡ (id == t.header.id)) (transfer_meaning package_reading v.areas) v.state.transfers sound.fit.consistent.processing.each in
-        let phase = is-processing u.header ((found-has (λ t. is_of x.owner id t.header) (λ t. is_in BeingProcessed t.header ≡ (id == t.header.id)) v.state.transfers u each e).1 ∙ eq-eqb _ _ (sym (found-is x.owner id v.state.transfers u e).0)) in
-        let reads = each-unmap (λ (t : Transfer). IsRead package_reading t t.header.phase) (transfer_meaning package_reading v.areas) v.state.transfers sound.fit.read_parts in
-        let whole = each-unmap (λ (t : Transfer). IsWholeFromTransferred t t.header.phase) (transfer_meaning package_reading v.areas) v.state.transfers (each-imp _ _ (λ t k. k.whole) (map (transfer_meaning package_reading v.areas) v.state.transfers) sound.fit.consistent.transfers.each) in
-        let own = found-has (λ t. is_of x.owner id t.header) (λ t. IsRead package_reading (transfer_meaning package_reading v.areas t) t.header.phase) v.state.transfers u reads e in
-        let all = found-has (λ t. is_of x.owner id t.header) (λ t. IsWholeFromTransferred (transfer_meaning package_reading v.areas t) t.header.phase) v.state.transfers u whole e in
-        read u e phase left (reading (bytes_of v.areas u)) refl (subst (IsRead package_reading (transfer_meaning package_reading v.areas u)) phase own.1) (subst (IsWholeFromTransferred (transfer_meaning package_reading v.areas u)) phase all.1).1
+        let ts = v.state.transfers in
+        let due = found-fact (λ t. is_in BeingProcessed t.header ≡ (id == t.header.id)) v.areas x.owner id ts u sound.fit.consistent.processing.each e in
+        let phase = is-processing u.header (due ∙ eq-eqb _ _ (sym (found-is x.owner id ts u e).0)) in
+        let own = found-fact (λ t. IsRead package_reading t t.header.phase) v.areas x.owner id ts u sound.fit.read_parts e in
+        let all = (found-fact (IsSoundTransfer v.state.next_id) v.areas x.owner id ts u sound.fit.consistent.transfers.each e).whole in
+        read u e phase left (reading (bytes_of v.areas u)) refl
+        (subst (IsRead package_reading (transfer_meaning package_reading v.areas u)) phase own)
+        (subst (IsWholeFromTransferred (transfer_meaning package_reading v.areas u)) phase all).1
 
 -- where a unit ends that isn't the last
 pub end-within : (done size : ℕ) → done + 1 < units_of size → (done + 1) * block_limit ≤ size

@@ -32,6 +32,10 @@ goes-lies areas s m Install n = refl
 goes-lies areas s m Update n = refl
 goes-lies areas s m Remove n = refl
 
+-- where a cluster lies that is found, or isn't
+abbrev lies : Option (Cluster Extent) → Extent
+lies found = option_map_or (λ c. c.content) found (record { place = 0; side = 0; length = 0 })
+
 module _ (v : Holding) (x : SessionOf Extent) (id : ℕ) (sound : IsSound (at_process v x id)) (h : InHand v x id) where
   abbrev pub state : State
   state = (at_process v x id).state
@@ -154,26 +158,36 @@ module _ (v : Holding) (x : SessionOf Extent) (id : ℕ) (sound : IsSound (at_pr
   ran-there there =
       any-found (λ (c : Cluster Extent). bytes_eq c.name name) v.state.running (ap (λ (cs : List (Cluster Extent)). has_cluster cs name) runs ∙ there)
 
+  -- what holds of each place holds of what runs, of what was saved and of what is planned
+  pub each-place : (P : Pair → Type 0) → AllByRecursion P pairs → AllByRecursion (λ c. P (cluster_place c)) v.state.running
+      × AllByRecursion (λ c. P (cluster_place c)) x.saved × AllByRecursion (λ c. P (change_place c)) x.changes
+  each-place P each =
+      let run = map cluster_place v.state.running in
+      let saved = map cluster_place x.saved in
+      let plan = map change_place x.changes in
+      let rest = each-second P run (saved ++ plan) each in (
+        each-unmap P cluster_place v.state.running (each-first P run (saved ++ plan) each),
+        each-unmap P cluster_place x.saved (each-first P saved plan rest),
+        each-unmap P change_place x.changes (each-second P saved plan rest),
+      )
+
   -- the places with the change's
   abbrev later : Action → List Pair
   later a = map cluster_place v.state.running ++ (map cluster_place x.saved ++ map change_place (x.changes ++ change_at a ∷ []))
 
   later-among : (a : Action) (P : Pair → Type 0) → P (change_place (change_at a)) → AllByRecursion P pairs → AllByRecursion P (later a)
   later-among a P own each =
-      let run = map cluster_place v.state.running in
-      let saved = map cluster_place x.saved in
-      let plan = map change_place x.changes in
-      let rest = each-second P run (saved ++ plan) each in
-      each-append P run _ (each-first P run (saved ++ plan) each) (each-append P saved _ (each-first P saved plan rest)
-      (subst (AllByRecursion P) (sym (map-append change_place x.changes (change_at a ∷ []))) (each-append P plan _ (each-second P saved plan rest) (own, tt))))
+      let k = each-place P each in
+      each-append P (map cluster_place v.state.running) _ (each-map P cluster_place v.state.running k.0)
+      (each-append P (map cluster_place x.saved) _ (each-map P cluster_place x.saved k.1)
+      (each-map P change_place (x.changes ++ change_at a ∷ []) (each-append (λ c. P (change_place c)) x.changes _ k.2 (own, tt))))
 
   -- a change of a running cluster has its place
   own-place : (c : Cluster Extent) → cluster_at v.state.running name ≡ Some c
       → (P : Pair → Type 0) → AllByRecursion P pairs → P (name, (running_at state name).place)
   own-place c e P each =
-      let own = found-has (λ (d : Cluster Extent). bytes_eq d.name name) (λ d. P (cluster_place d)) v.state.running c
-      (each-unmap P cluster_place v.state.running (each-first P (map cluster_place v.state.running) _ each)) e in
-      subst P (λ i. (name-eq c.name name own.0 i, (option_map_or (λ (d : Cluster Extent). d.content) (sym e i) (record { place = 0; side = 0; length = 0 })).place)) own.1
+      let own = found-has (λ (d : Cluster Extent). bytes_eq d.name name) (λ d. P (cluster_place d)) v.state.running c (each-place P each).0 e in
+      subst P (λ i. (name-eq c.name name own.0 i, (lies (sym e i)).place)) own.1
 
   pub later-fits : (a : Action) → suits a (has_cluster x.saved name) ≡ true → names_fit_places (later a) ≡ true
   later-fits Install s =
@@ -186,9 +200,10 @@ module _ (v : Holding) (x : SessionOf Extent) (id : ℕ) (sound : IsSound (at_pr
   run-extent : IsExtent (running_at state name)
   run-extent = go (cluster_at v.state.running name) refl
     where
-      go : (o : Option (Cluster Extent)) → cluster_at v.state.running name ≡ o → IsExtent (option_map_or (λ (c : Cluster Extent). c.content) o (record { place = 0; side = 0; length = 0 }))
+      go : (o : Option (Cluster Extent)) → cluster_at v.state.running name ≡ o → IsExtent (lies o)
       go None e = (omega arith, omega arith, omega arith)
-      go (Some c) e = (found-has (λ (d : Cluster Extent). bytes_eq d.name name) (λ d. IsExtent d.content) v.state.running c sound.order.clusters e).1
+      go (Some c) e =
+          (found-has (λ (d : Cluster Extent). bytes_eq d.name name) (λ d. IsExtent d.content) v.state.running c sound.order.clusters e).1
 
   pub change-extent : (a : Action) → suits a (has_cluster x.saved name) ≡ true → size ≤ package_limit → IsExtent (change_at a).part.payload
   change-extent Install s short = ((free (not-true _ s)).1, omega arith, short)
@@ -196,19 +211,21 @@ module _ (v : Holding) (x : SessionOf Extent) (id : ℕ) (sound : IsSound (at_pr
   change-extent Remove s short = (run-extent.0, run-extent.1, short)
 
   -- and on its side
-  pub change-side : (a : Action) → takes_side a (change_at a).part.payload.side (cluster_at x.saved name) ≡ true
+  change-side : (a : Action) → takes_side a (change_at a).part.payload.side (cluster_at x.saved name) ≡ true
   change-side Install = refl
-  change-side Update = ap (λ cs. takes_side Update (1 - (option_map_or (λ (c : Cluster Extent). c.content) (cluster_at cs name) (record { place = 0; side = 0; length = 0 })).side) (cluster_at x.saved name)) runs ∙ go (cluster_at x.saved name)
+  change-side Update =
+      ap (λ cs. takes_side Update (1 - (lies (cluster_at cs name)).side) (cluster_at x.saved name)) runs ∙ go (cluster_at x.saved name)
     where
       other : (n : ℕ) → not (n == 1 - n) ≡ true
       other n = grind (arith, nat_tests)
 
-      go : (o : Option (Cluster Extent)) → takes_side Update (1 - (option_map_or (λ (c : Cluster Extent). c.content) o (record { place = 0; side = 0; length = 0 })).side) o ≡ true
+      go : (o : Option (Cluster Extent)) → takes_side Update (1 - (lies o).side) o ≡ true
       go None = refl
       go (Some c) = other c.content.side
-  change-side Remove = ap (λ cs. takes_side Remove (option_map_or (λ (c : Cluster Extent). c.content) (cluster_at cs name) (record { place = 0; side = 0; length = 0 })).side (cluster_at x.saved name)) runs ∙ go (cluster_at x.saved name)
+  change-side Remove =
+      ap (λ cs. takes_side Remove (lies (cluster_at cs name)).side (cluster_at x.saved name)) runs ∙ go (cluster_at x.saved name)
     where
-      go : (o : Option (Cluster Extent)) → takes_side Remove (option_map_or (λ (c : Cluster Extent). c.content) o (record { place = 0; side = 0; length = 0 })).side o ≡ true
+      go : (o : Option (Cluster Extent)) → takes_side Remove (lies o).side o ≡ true
       go None = refl
       go (Some c) = eq-eqb c.content.side c.content.side refl
 
@@ -223,7 +240,8 @@ module _ (v : Holding) (x : SessionOf Extent) (id : ℕ) (sound : IsSound (at_pr
   m = h.pack.manifest
 
   -- what the change brings is the payload
-  brings : IsUnitReady Processing (at_process v x id) (busy x id) → nat_lt (x.units_done + 1) (units_of size) ≡ false → on_side v.areas (extent_in (goes_to state m m.action) size) ≡ h.pack.payload
+  brings : IsUnitReady Processing (at_process v x id) (busy x id) → nat_lt (x.units_done + 1) (units_of size) ≡ false
+      → on_side v.areas (extent_in (goes_to state m m.action) size) ≡ h.pack.payload
   brings ready last =
       let enough = end-last x.units_done size (ltb-false _ _ last) in
       let ends : unit_end x.units_done size ≡ size = omega (arith, enough) in

@@ -1,32 +1,39 @@
 -- What a put on the side that a package goes to leaves of a sound node.
 use Rattle.node_core.proofs.Names.{Action, AllByRecursion, Area, Areas, AreasFit, Bool, Bytes, Change, Cluster, Extent, Holding}
 use Rattle.node_core.proofs.Names.{Install, IsArea, IsExtent, IsInOrder, IsSound, LeavesOutside, List, Remove, SessionOf, Side, Some}
-use Rattle.node_core.proofs.Names.{StoredTransfer, Update, ap, arith, bytes_eq, change_meaning, change_place, cluster_at}
-use Rattle.node_core.proofs.Names.{cluster_meaning, cluster_of, cluster_place, cond, each-both, each-first, each-imp, each-unmap}
-use Rattle.node_core.proofs.Names.{elsewhere-stands, eq-eqb, false, found-has, goes_to, has_cluster, length, lowest_free, map, map-map}
-use Rattle.node_core.proofs.Names.{meaning, name-eq, name-swap, name_lt, names-behind, names-tail, names_rise, node_of, not-true}
-use Rattle.node_core.proofs.Names.{on_side, option_map_or, package_reading, refl, session_meaning, subst, suits, sym, take}
-use Rattle.node_core.proofs.Names.{transfer_meaning, true, [], ℕ, ◌++◌, ◌+◌, ◌-◌, ◌==◌, ◌∙◌, ◌∷◌, ◌≡◌, ◌≢◌}
+use Rattle.node_core.proofs.Names.{StoredTransfer, Update, ap, arith, bytes_eq, change_meaning, cluster_at, cluster_meaning, cluster_of}
+use Rattle.node_core.proofs.Names.{cluster_place, cond, each-both, each-imp, each-unmap, elsewhere-stands, eq-eqb, false, found-has}
+use Rattle.node_core.proofs.Names.{goes_to, has_cluster, length, lowest_free, map, map-map, meaning, name-eq, name-swap, name_lt}
+use Rattle.node_core.proofs.Names.{names-behind, names-tail, names_rise, node_of, not-true, on_side, option_map_or, package_reading}
+use Rattle.node_core.proofs.Names.{refl, session_meaning, subst, suits, sym, take, transfer_meaning, true, [], ℕ, ◌-◌, ◌==◌, ◌∙◌, ◌∷◌}
+use Rattle.node_core.proofs.Names.{◌≡◌, ◌≢◌}
+use Rattle.node_core.proofs.Lastly.{each-place, free, new-change, pairs, ran-there, runs, state}
 use Rattle.node_core.proofs.Stored.{read-order}
-use Rattle.node_core.proofs.Lists.{each-second, every, map-same, none-any}
+use Rattle.node_core.proofs.Lists.{every, map-same, none-any}
 use Rattle.node_core.proofs.Ordered.{lt-self}
 use Rattle.node_core.proofs.Named.{none-named}
 use Rattle.node_core.proofs.Free.{FitsAll, Pair, each-fits}
 use Rattle.node_core.proofs.Handled.{InHand, at_process, busy}
-use Rattle.node_core.proofs.Lastly.{free, new-change, pairs, ran-there, runs, state}
 
 -- of clusters in order one has the name
-only-named : (cs : List (Cluster Extent)) (name : List ℕ) (c : Cluster Extent) → names_rise (map (λ (d : Cluster Extent). d.name) cs) ≡ true → cluster_at cs name ≡ Some c → AllByRecursion (λ d. bytes_eq d.name name ≡ true → d ≡ c) cs
+only-named : (cs : List (Cluster Extent)) (name : List ℕ) (c : Cluster Extent) → names_rise (map (λ (d : Cluster Extent). d.name) cs) ≡ true
+    → cluster_at cs name ≡ Some c → AllByRecursion (λ d. bytes_eq d.name name ≡ true → d ≡ c) cs
 only-named [] name c r e = tt
-only-named (d ∷ cs) name c r e = go (bytes_eq d.name name) refl e (only-named cs name c (names-tail d.name (map (λ (b : Cluster Extent). b.name) cs) r))
+only-named (d ∷ cs) name c r e =
+    go (bytes_eq d.name name) refl e (only-named cs name c (names-tail d.name (map (λ (b : Cluster Extent). b.name) cs) r))
   where
     later : AllByRecursion (λ (b : Cluster Extent). name_lt d.name b.name ≡ true) cs
-    later = each-unmap (λ n. name_lt d.name n ≡ true) (λ (b : Cluster Extent). b.name) cs (names-behind d.name (map (λ (b : Cluster Extent). b.name) cs) r)
+    later =
+        each-unmap (λ n. name_lt d.name n ≡ true) (λ (b : Cluster Extent). b.name) cs
+        (names-behind d.name (map (λ (b : Cluster Extent). b.name) cs) r)
 
-    go : (b : Bool) → bytes_eq d.name name ≡ b → cond b (Some d) (cluster_at cs name) ≡ Some c → (cluster_at cs name ≡ Some c → AllByRecursion (λ k. bytes_eq k.name name ≡ true → k ≡ c) cs) → AllByRecursion (λ k. bytes_eq k.name name ≡ true → k ≡ c) (d ∷ cs)
+    go : (b : Bool) → bytes_eq d.name name ≡ b → cond b (Some d) (cluster_at cs name) ≡ Some c
+        → (cluster_at cs name ≡ Some c → AllByRecursion (λ k. bytes_eq k.name name ≡ true → k ≡ c) cs)
+        → AllByRecursion (λ k. bytes_eq k.name name ≡ true → k ≡ c) (d ∷ cs)
     go true q k rec = (
       λ _. let same : d ≡ c = cc k in same,
-      each-imp _ _ (λ b lt same. absurd (lt-self d.name (subst (λ n. name_lt d.name n ≡ true) (name-eq b.name name same ∙ sym (name-eq d.name name q)) lt))) cs later,
+      each-imp _ _ (λ b lt same. absurd (lt-self d.name
+          (subst (λ n. name_lt d.name n ≡ true) (name-eq b.name name same ∙ sym (name-eq d.name name q)) lt))) cs later,
     )
     go false q k rec = (λ same. absurd (let z = sym q ∙ same in let f : ⊥ = cc in f), rec k)
 
@@ -47,21 +54,17 @@ module _ (v : Holding) (x : SessionOf Extent) (id : ℕ) (sound : IsSound (at_pr
   differs : (p q : ℕ) → (p == q) ≡ false → p ≢ q
   differs p q e same = let z = sym e ∙ eq-eqb p q same in let f : ⊥ = cc in f
 
-  by-place : (place side : ℕ) (cs : List Pair) → AllByRecursion (λ a. (a.1 == place) ≡ false) cs → AllByRecursion (λ a. (n : ℕ) → Side a.1 n ≢ Side place side) cs
-  by-place place side cs each = each-imp _ _ (λ a other n same. differs a.1 place other cc) cs each
-
-  abbrev fresh : Area
-  fresh = Side (lowest_free (state v x id sound h)) 0
-
   -- a new place
-  install-apart : has_cluster x.saved name ≡ false → AreApart fresh v x
+  install-apart : has_cluster x.saved name ≡ false → AreApart (Side (lowest_free (state v x id sound h)) 0) v x
   install-apart other =
-      let each = by-place (lowest_free (state v x id sound h)) 0 (pairs v x id sound h) (none-any (λ (a : Pair). a.1 == lowest_free (state v x id sound h)) (pairs v x id sound h) (free v x id sound h other).0) in
-      let rest = each-second (λ (a : Pair). (n : ℕ) → Side a.1 n ≢ fresh) (map cluster_place v.state.running) (map cluster_place x.saved ++ map change_place x.changes) each in
-      record {
-        running = each-imp _ _ (λ c k. k c.content.side) v.state.running (each-unmap (λ (a : Pair). (n : ℕ) → Side a.1 n ≢ fresh) cluster_place v.state.running (each-first _ (map cluster_place v.state.running) (map cluster_place x.saved ++ map change_place x.changes) each));
-        saved = each-imp _ _ (λ c k. k c.content.side) x.saved (each-unmap (λ (a : Pair). (n : ℕ) → Side a.1 n ≢ fresh) cluster_place x.saved (each-first _ (map cluster_place x.saved) (map change_place x.changes) rest));
-        changes = each-imp _ _ (λ c k. k c.part.payload.side) x.changes (each-unmap (λ (a : Pair). (n : ℕ) → Side a.1 n ≢ fresh) change_place x.changes (each-second _ (map cluster_place x.saved) (map change_place x.changes) rest));
+      let place = lowest_free (state v x id sound h) in
+      let all = pairs v x id sound h in
+      let apart = each-imp _ (λ (a : Pair). (n : ℕ) → Side a.1 n ≢ Side place 0) (λ a differ n same. differs a.1 place differ cc) all
+      (none-any (λ (a : Pair). a.1 == place) all (free v x id sound h other).0) in
+      let k = each-place v x id sound h (λ (a : Pair). (n : ℕ) → Side a.1 n ≢ Side place 0) apart in record {
+        running = each-imp _ _ (λ c f. f c.content.side) v.state.running k.0;
+        saved = each-imp _ _ (λ c f. f c.content.side) x.saved k.1;
+        changes = each-imp _ _ (λ c f. f c.part.payload.side) x.changes k.2;
       }
 
   -- the other side of a running cluster
@@ -69,38 +72,41 @@ module _ (v : Holding) (x : SessionOf Extent) (id : ℕ) (sound : IsSound (at_pr
   update-apart c e =
       let area = Side c.content.place (1 - c.content.side) in
       let all = pairs v x id sound h in
-      let each = each-fits all sound.order.places in
       let found = found-has (λ (d : Cluster Extent). bytes_eq d.name name) (λ d. FitsAll all (cluster_place d)) v.state.running c
-      (each-unmap (FitsAll all) cluster_place v.state.running (each-first (FitsAll all) (map cluster_place v.state.running) (map cluster_place x.saved ++ map change_place x.changes) each)) e in
+      (each-place v x id sound h (FitsAll all) (each-fits all sound.order.places)).0 e in
       let named = name-eq c.name name found.0 in
-      let rest = each-second (λ (b : Pair). bytes_eq c.name b.0 ≡ (c.content.place == b.1)) (map cluster_place v.state.running) (map cluster_place x.saved ++ map change_place x.changes) found.1 in
-      let ran = each-unmap (λ (b : Pair). bytes_eq c.name b.0 ≡ (c.content.place == b.1)) cluster_place v.state.running (each-first _ (map cluster_place v.state.running) (map cluster_place x.saved ++ map change_place x.changes) found.1) in
-      let plan = each-unmap (λ (b : Pair). bytes_eq c.name b.0 ≡ (c.content.place == b.1)) change_place x.changes (each-second _ (map cluster_place x.saved) (map change_place x.changes) rest) in
-      let only = only-named v.state.running name c rise e in
-      let running = each-both _ _ (λ (d : Cluster Extent). Apart area d.content) (λ d same one. cluster-apart named d same one) v.state.running ran only in
-      record {
+      let k = each-place v x id sound h (λ (b : Pair). bytes_eq c.name b.0 ≡ (c.content.place == b.1)) found.1 in
+      let running = each-both _ _ (λ (d : Cluster Extent). Apart area d.content) (cluster-apart named) v.state.running k.0
+      (only-named v.state.running name c rise e) in record {
         running = running;
         saved = subst (AllByRecursion (λ d. Apart area d.content)) (runs v x id sound h) running;
-        changes = each-both _ _ (λ (d : Change Extent). Apart area d.part.payload) (λ d same other. change-apart named d same other) x.changes plan (none-named (λ (d : Change Extent). cluster_of d.part) x.changes name (new-change v x id sound h));
+        changes = each-both _ _ (λ (d : Change Extent). Apart area d.part.payload) (change-apart named) x.changes k.2
+            (none-named (λ (d : Change Extent). cluster_of d.part) x.changes name (new-change v x id sound h));
       }
     where
       rise : names_rise (map (λ (d : Cluster Extent). d.name) v.state.running) ≡ true
-      rise = ap names_rise (sym (map-map (λ (d : Cluster Bytes). d.name) (cluster_meaning v.areas) v.state.running)) ∙ sound.fit.consistent.limits.running
+      rise =
+          ap names_rise (sym (map-map (λ (d : Cluster Bytes). d.name) (cluster_meaning v.areas) v.state.running))
+          ∙ sound.fit.consistent.limits.running
 
       other-side : (n : ℕ) → n ≡ 1 - n → ⊥
       other-side n e = let f : ⊥ = omega (arith, e) in f
 
-      cluster-apart : c.name ≡ name → (d : Cluster Extent) → bytes_eq c.name d.name ≡ (c.content.place == d.content.place) → (bytes_eq d.name name ≡ true → d ≡ c) → Apart (Side c.content.place (1 - c.content.side)) d.content
+      cluster-apart : c.name ≡ name → (d : Cluster Extent) → bytes_eq c.name d.name ≡ (c.content.place == d.content.place)
+          → (bytes_eq d.name name ≡ true → d ≡ c) → Apart (Side c.content.place (1 - c.content.side)) d.content
       cluster-apart named d same one q =
           let places : d.content.place ≡ c.content.place = cc in
           let sides : d.content.side ≡ 1 - c.content.side = cc in
-          let is : d ≡ c = one (ap (bytes_eq d.name) (sym named) ∙ name-swap d.name c.name ∙ same ∙ eq-eqb c.content.place d.content.place (sym places)) in
+          let is : d ≡ c = one (ap (bytes_eq d.name) (sym named) ∙ name-swap d.name c.name ∙ same
+          ∙ eq-eqb c.content.place d.content.place (sym places)) in
           other-side c.content.side (ap (λ (k : Cluster Extent). k.content.side) (sym is) ∙ sides)
 
-      change-apart : c.name ≡ name → (d : Change Extent) → bytes_eq c.name (cluster_of d.part) ≡ (c.content.place == d.part.payload.place) → bytes_eq name (cluster_of d.part) ≡ false → Apart (Side c.content.place (1 - c.content.side)) d.part.payload
+      change-apart : c.name ≡ name → (d : Change Extent) → bytes_eq c.name (cluster_of d.part) ≡ (c.content.place == d.part.payload.place)
+          → bytes_eq name (cluster_of d.part) ≡ false → Apart (Side c.content.place (1 - c.content.side)) d.part.payload
       change-apart named d same other q =
           let places : d.part.payload.place ≡ c.content.place = cc in
-          let z = sym other ∙ ap (λ n. bytes_eq n (cluster_of d.part)) (sym named) ∙ same ∙ eq-eqb c.content.place d.part.payload.place (sym places) in
+          let z = sym other ∙ ap (λ n. bytes_eq n (cluster_of d.part)) (sym named) ∙ same
+          ∙ eq-eqb c.content.place d.part.payload.place (sym places) in
           let f : ⊥ = cc in f
 
   -- what goes to a side goes to no extent that the state names

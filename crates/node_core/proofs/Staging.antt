@@ -12,7 +12,7 @@ use Rattle.node_core.proofs.Names.{◌==◌, ◌∙◌, ◌∷◌, ◌≡◌, �
 use Rattle.pm_types.specs.Validity.{IsSound as IsSoundTransfer}
 use Rattle.transfer_blocks.specs.declared.area.Area.TheVariants.{Transfer}
 use Rattle.node_core.specs.declared.prepared.Prepared.TheVariants.{Verdict as Judged}
-use Rattle.node_core.proofs.Stored.{read-order, copied-when, found-means, only-has, rise}
+use Rattle.node_core.proofs.Stored.{found-fact, read-order, copied-when, found-means, only-has, rise}
 use Rattle.node_core.proofs.Lists.{all-each, map-same}
 use Rattle.node_core.proofs.Judged.{block_refusal, exit_refusal, data-same}
 use Rattle.node_core.proofs.Sound.{table-is}
@@ -77,9 +77,7 @@ module _ (v : Holding) (sound : IsSound v) (client id : ℕ) (u : StoredTransfer
   -- its bytes lie there
   pub came-lies : u.header.received ≤ length (content_of (Transfer u.slot) v.areas)
   came-lies =
-      let means = transfer_meaning package_reading v.areas in
-      let each = each-unmap (IsSoundTransfer v.state.next_id) means v.state.transfers sound.fit.consistent.transfers.each in
-      let own = (found-has (λ t. is_of client id t.header) (λ t. IsSoundTransfer v.state.next_id (means t)) v.state.transfers u each e).1 in
+      let own = found-fact (IsSoundTransfer v.state.next_id) v.areas client id v.state.transfers u sound.fit.consistent.transfers.each e in
       let width = length-take u.header.received (content_of (Transfer u.slot) v.areas) in
       omega (arith, own.bytes, width)
 

@@ -73,6 +73,14 @@ module _ (read : Reading) (areas : Areas) where
       change-map (transfer_meaning read areas) (λ t. t.header.id == id) g h ts
       (only-has (λ t. transfer_meaning read areas (g t) ≡ h (transfer_meaning read areas t)) client id ts u r e same)
 
+-- a fact of what each transfer means is one of what the one that is found means
+pub found-fact : (P : Transfer → Type 0) (areas : Areas) (client id : ℕ) (ts : List StoredTransfer) (u : StoredTransfer)
+    → AllByRecursion P (map (transfer_meaning package_reading areas) ts) → stored_of ts client id ≡ Some u
+    → P (transfer_meaning package_reading areas u)
+found-fact P areas client id ts u each e =
+    let means = transfer_meaning package_reading areas in
+    (found-has (λ t. is_of client id t.header) (λ t. P (means t)) ts u (each-unmap P means ts each) e).1
+
 -- only of a transfer in processing need anything be copied
 pub copied-when : (areas : Areas) (s : State) (t : StoredTransfer) (phase : Phase)
     → (phase ≡ BeingProcessed → AllByRecursion (IsPartCopied areas s) (transfer_meaning package_reading areas t).parts)
