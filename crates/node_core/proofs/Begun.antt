@@ -4,7 +4,7 @@ use Rattle.node_core.proofs.Names.{Idle, InvalidTransferId, IsCopied, IsInOrder,
 use Rattle.node_core.proofs.Names.{OperationNotPermitted, Option, Part, ProcessSwPackage, Refusal, Refused, Reply, Session, SessionOf}
 use Rattle.node_core.proofs.Names.{Some, State, StoredTransfer, Transfer, Transferred, activate_refusal, ap, arrived, begin_processing}
 use Rattle.node_core.proofs.Names.{begun, both-none, change_meaning, changes_in, changes_kept, cluster_place, contents_of, each-append}
-use Rattle.node_core.proofs.Names.{each-first, false, first_refusal, found-has, found_of, free-of, if◌then◌else◌, is-transferred, is_in}
+use Rattle.node_core.proofs.Names.{each-first, false, first_refusal, found-has, found_of, free-of, is-transferred, is_in}
 use Rattle.node_core.proofs.Names.{is_none, is_wrong_tag, map, meaning, missing_dependencies, names_fit_places, new_session, node_of}
 use Rattle.node_core.proofs.Names.{not, not-false, opened, option_map, option_map_or, option_or, package_reading, package_refusals}
 use Rattle.node_core.proofs.Names.{parts_of, parts_refusal, phase_code, planned, process_refusal, refl, refusal_by, rows-clear}
