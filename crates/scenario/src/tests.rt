@@ -144,9 +144,8 @@ work 1 31\nask 1 2 progress 9\ncall 1 1 1.1 sync\nend\nabc\nend";
 #[test]
 fn words_are_read(rt: HostRuntime) -> Result<(), Fail> {
     let alloc = rt.alloc();
-    let block = plain_block(alloc, b"hex:0aff");
     assert!(rt;
-        matches!(block, Ok(BlockSource::Bytes(bytes)) if bytes.as_slice() == [10, 255].as_slice())
+        matches!(plain_block(alloc, b"hex:0aff"), Ok(BlockSource::Bytes(bytes)) if bytes.as_slice() == [10, 255].as_slice())
     );
     assert!(rt; plain_block(alloc, b"block:p:1").is_err());
     assert!(rt;
