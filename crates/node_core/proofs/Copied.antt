@@ -6,13 +6,13 @@ use Rattle.node_core.proofs.Names.{Remove, Result, SessionOf, Side, Some, State,
 use Rattle.node_core.proofs.Names.{arith, before-stands, block_limit, change_due, change_kept, change_next, content-here, content_of}
 use Rattle.node_core.proofs.Names.{drop, drop-drop, drop-take, extent_in, extent_next, found-has, from_be_bytes, goes_to, has_cluster}
 use Rattle.node_core.proofs.Names.{if◌then◌else◌, is_of, length, length-drop, length-take, min, number_at, overwritten, package_limit}
-use Rattle.node_core.proofs.Names.{package_reading, payload_place, payload_start, refl, slice_range, stored_of, subst, suits, sym, take}
-use Rattle.node_core.proofs.Names.{take-add, take-overwritten, take-take, take_min, transfer_meaning, true, unit_end, w32, with_content}
+use Rattle.node_core.proofs.Names.{package_reading, payload_place, payload_start, refl, slice_range, subst, suits, sym, take, take-add}
+use Rattle.node_core.proofs.Names.{take-overwritten, take-take, take_min, transfer_meaning, true, unit_end, w32, with_content}
 use Rattle.node_core.proofs.Names.{with_length, [], ℕ, ◌*◌, ◌++◌, ◌+◌, ◌-◌, ◌<◌, ◌∙◌, ◌≡◌, ◌≢◌, ◌≤◌}
 use Rattle.package_reader.specs.Reading.{reading}
 use Rattle.transfer_blocks.specs.declared.area.Area.TheVariants.{Transfer}
 use Rattle.node_core.proofs.Handled.{hand-copied, InHand, at_process, begin-within, busy, bytes_of, in-hand, part_of, payload-is}
-use Rattle.node_core.proofs.Worked.{at-work, sound-at}
+use Rattle.node_core.proofs.Worked.{at-work}
 use Rattle.node_core.proofs.Staging.{came-lies, slot-is}
 use Rattle.node_core.proofs.Lastly.{change-extent, short, there-is}
 use Rattle.node_core.proofs.Removal.{removal-empty}
@@ -243,16 +243,6 @@ module _ (v : Holding) (x : SessionOf Extent) (id : ℕ) (sound : IsSound (at_pr
 
       wide : at + len ≡ at + length piece
       wide = let w = within in omega (arith, w, length-take len (drop at payload), length-drop at payload)
-
--- the package in processing has a part
-pub some-part : {v w : Holding} → v ≡ w → (x : SessionOf Extent) (id : ℕ) → x.processing ≡ Some id → v.state.session ≡ Some x
-    → IsSound w → w.state.status ≡ Processing
-    → (u : StoredTransfer) → stored_of v.state.transfers x.owner id ≡ Some u → u.contents ≡ [] → ⊥
-some-part {v = v} {w = w} e x id is there sound q u found none =
-    let hand = in-hand v x id (sound-at v w Processing (busy x id) e q (there ∙ ap (λ o. Some (record x { processing = o })) is) sound) in
-    let same : hand.transfer ≡ u = let z = sym hand.is ∙ found in cc in
-    let z = sym none ∙ ap (λ (t : StoredTransfer). t.contents) (sym same) ∙ hand.contents in
-    let f : ⊥ = cc in f
 
 -- what is needed of a node in processing, and of its next unit
 pub needs : {v w : Holding} → v ≡ w → IsSound w → w.state.status ≡ Processing → {o : Option NextUnit} {n : NextUnit} → IsNextUnit w o → o ≡ Some n

@@ -2,10 +2,10 @@
 use Rattle.node_core.proofs.Names.{AllByRecursion, Bool, Cluster, Extent, Holding, List, None, Option, SessionOf, Some, State, Within}
 use Rattle.node_core.proofs.Names.{all_differ, all_places, and_parts, ap, arith, beq, booleans_Decides, both_true, bytes_eq}
 use Rattle.node_core.proofs.Names.{change_place, cluster_limit, cluster_place, different_names, each-both, each-imp, each-map}
-use Rattle.node_core.proofs.Names.{each-unmap, eq-eqb, eq-name, eqb-true, false, find, found-has, has-within, has_name}
-use Rattle.node_core.proofs.Names.{length, list_all, list_any, list_any-append, list_any-map, map, name-swap, names_fit_places}
-use Rattle.node_core.proofs.Names.{nat_tests, none-passes, not, not-false, not-true, option_map_or, places_in, refl, session_takes}
-use Rattle.node_core.proofs.Names.{slots_differ, sym, true, within-self, within-trans, [], ℕ, ◌++◌, ◌==◌, ◌||◌, ◌∙◌, ◌∷◌, ◌≡◌, ◌≤◌}
+use Rattle.node_core.proofs.Names.{each-unmap, eq-eqb, eq-name, eqb-true, false, find, found-has, has-within, has_name, length}
+use Rattle.node_core.proofs.Names.{list_all, list_any, list_any-append, list_any-map, map, name-swap, names_fit_places, nat_tests}
+use Rattle.node_core.proofs.Names.{none-passes, not, not-false, not-true, option_map_or, places_in, refl, session_takes, slots_differ}
+use Rattle.node_core.proofs.Names.{sym, true, within-self, within-trans, [], ℕ, ◌++◌, ◌==◌, ◌||◌, ◌∙◌, ◌∷◌, ◌≡◌, ◌≤◌}
 use Rattle.node_core.proofs.Lists.{all-each, each-all, any-found, none-any}
 use Rattle.node_core.proofs.Named.{differ-few, none-named}
 

@@ -251,7 +251,8 @@ module _ (v : Holding) (x : SessionOf Extent) (id : ℕ) (sound : IsSound (at_pr
   -- the node after the last unit
   abbrev pub processed_with : Prepared → Table → List (Change Extent) → Holding
   processed_with p table changes =
-      record v { state = record (with_table table v.state) { status = Ready; session = Some (record x { changes = changes; processing = None; units_done = x.units_done + 1 }) }; prepared = p }
+      let y = record x { changes = changes; processing = None; units_done = x.units_done + 1 } in
+      record v { state = record (with_table table v.state) { status = Ready; session = Some y }; prepared = p }
 
   abbrev after : Table
   after = with_stored id (moved_to Processed) (table_of v.state)
@@ -266,29 +267,34 @@ module _ (v : Holding) (x : SessionOf Extent) (id : ℕ) (sound : IsSound (at_pr
   none-in-processing =
       each-map (λ t. is_in BeingProcessed t.header ≡ false) (λ t. if t.header.id == id then moved_to Processed t else t) v.state.transfers
       (each-imp _ _ (λ t due. by t (t.header.id == id) refl due) v.state.transfers
-      (each-unmap (λ (t : Transfer). is_in BeingProcessed t.header ≡ (id == t.header.id)) (transfer_meaning package_reading v.areas) v.state.transfers sound.fit.consistent.processing.each))
+      (each-unmap (λ (t : Transfer). is_in BeingProcessed t.header ≡ (id == t.header.id)) (transfer_meaning package_reading v.areas)
+      v.state.transfers sound.fit.consistent.processing.each))
     where
       flip : (n : ℕ) → (n == id) ≡ false → (id == n) ≡ false
       flip n e = grind (arith, nat_tests, e)
 
-      by : (t : StoredTransfer) (b : Bool) → (t.header.id == id) ≡ b → is_in BeingProcessed t.header ≡ (id == t.header.id) → is_in BeingProcessed (if b then moved_to Processed t else t).header ≡ false
+      by : (t : StoredTransfer) (b : Bool) → (t.header.id == id) ≡ b → is_in BeingProcessed t.header ≡ (id == t.header.id)
+          → is_in BeingProcessed (if b then moved_to Processed t else t).header ≡ false
       by t true e due = refl
       by t false e due = due ∙ flip t.header.id e
 
   -- the last unit
-  pub last-unit : (passed : Bool) (p : Prepared) → IsUnitReady Processing (at_process v x id) (busy x id) → nat_lt (x.units_done + 1) (units_of size) ≡ false → IsUnit (at_process v x id) passed (processed_with p after changes_then)
+  pub last-unit : (passed : Bool) (p : Prepared) → IsUnitReady Processing (at_process v x id) (busy x id)
+      → nat_lt (x.units_done + 1) (units_of size) ≡ false → IsUnit (at_process v x id) passed (processed_with p after changes_then)
   last-unit passed p ready last = record {
     node = unit-done v x id v.prepared sound h passed false last
         ∙ (λ i. Some (record (node_of (processed_with p after changes_then)) {
           transfers = sym (phased-means (at_process v x id) sound x.owner id h.transfer h.is Processed was-whole refl) i;
-          session = Some (record (session_meaning v.areas x) { changes = sym (map-append (change_meaning v.areas) x.changes (change_at m.action ∷ []) ∙ (λ j. map (change_meaning v.areas) x.changes ++ record { transfer = id; part = record { manifest = m; payload = brings ready last j } } ∷ [])) i; processing = None; units_done = x.units_done + 1 });
+          session = Some (record (session_meaning v.areas x) { changes = sym changes-mean i; processing = None; units_done = x.units_done + 1 });
         }));
     order = record {
       clusters = sound.order.clusters;
       session = (
         sound.order.session.0,
-        each-append (λ c. IsExtent c.part.payload) x.changes (change_at m.action ∷ []) sound.order.session.1 (change-extent m.action there-is short, tt),
-        each-all _ changes_then (each-append _ x.changes (change_at m.action ∷ []) (all-each _ x.changes sound.order.session.2) (change-side m.action, tt)),
+        each-append (λ c. IsExtent c.part.payload) x.changes (change_at m.action ∷ []) sound.order.session.1
+            (change-extent m.action there-is short, tt),
+        each-all _ changes_then (each-append _ x.changes (change_at m.action ∷ []) (all-each _ x.changes sound.order.session.2)
+            (change-side m.action, tt)),
       );
       transfers = phased-placed (at_process v x id) sound x.owner id h.transfer h.is Processed was-whole refl;
       slots = phased-slots (at_process v x id) sound x.owner id h.transfer h.is Processed was-whole refl;
@@ -298,9 +304,17 @@ module _ (v : Holding) (x : SessionOf Extent) (id : ℕ) (sound : IsSound (at_pr
     copied = none-copied v.areas (processed_with p after changes_then).state none-in-processing;
     entries = refl;
   }
+    where
+      changes-mean : map (change_meaning v.areas) changes_then
+          ≡ map (change_meaning v.areas) x.changes ++ record { transfer = id; part = part_of h.pack } ∷ []
+      changes-mean =
+          map-append (change_meaning v.areas) x.changes (change_at m.action ∷ [])
+          ∙ ap (λ b. map (change_meaning v.areas) x.changes ++ record { transfer = id; part = record { manifest = m; payload = b } } ∷ [])
+          (brings ready last)
 
 -- the same, told of a node by its parts
-module _ {v w : Holding} (e : v ≡ w) (x : SessionOf Extent) (id : ℕ) (is : x.processing ≡ Some id) (there : v.state.session ≡ Some x) (sound : IsSound w) (q : w.state.status ≡ Processing) where
+module _ {v w : Holding} (e : v ≡ w) (x : SessionOf Extent) (id : ℕ) (is : x.processing ≡ Some id) (there : v.state.session ≡ Some x)
+    (sound : IsSound w) (q : w.state.status ≡ Processing) where
   at : v.state.session ≡ Some (busy x id)
   at = there ∙ ap (λ o. Some (record x { processing = o })) is
 
@@ -313,37 +327,63 @@ module _ {v w : Holding} (e : v ≡ w) (x : SessionOf Extent) (id : ℕ) (is : x
   pub not-lost : stored_of v.state.transfers x.owner id ≡ None → ⊥
   not-lost none = let z = sym none ∙ hand.is in let f : ⊥ = cc in f
 
-  same-transfer : (u : StoredTransfer) → stored_of v.state.transfers x.owner id ≡ Some u → stored_units u.contents ≡ units_of (length hand.pack.payload)
-  same-transfer u found =
-      let same : hand.transfer ≡ u = let z = sym hand.is ∙ found in cc in
-      ap (λ (t : StoredTransfer). stored_units t.contents) (sym same) ∙ ap stored_units hand.contents ∙ stored-one (with_length (part_of hand.pack))
-
   pub next-fits : x.units_done + 1 < 2 ^ 32
   next-fits = let left = hand.unfinished in let low = short v x id whole hand in omega (arith, left, low)
 
   pub has-room : length x.changes < cluster_limit
   has-room = room v x id whole hand
 
-  pub more-done : IsReservedWork w → (passed : Bool) (p : Prepared) (u : StoredTransfer) → stored_of v.state.transfers x.owner id ≡ Some u → x.units_done + 1 < stored_units u.contents → (status : Status) → status ≡ Processing
-      → IsUnit w passed (record v { state = record v.state { status = status; session = Some (record x { units_done = x.units_done + 1 }) }; prepared = p })
-  more-done ready passed p u found more status stays =
-      subst (IsUnit w passed) (λ i. record v { state = record v.state { status = sym stays i; session = Some (record x { processing = sym is i; units_done = x.units_done + 1 }) }; prepared = p })
-      (unit-at v w Processing (busy x id) e q at passed _
-      (more-unit v x id p whole hand passed (ready-at v w Processing (busy x id) e q at ready) (lt-ltb (x.units_done + 1) (units_of (length hand.pack.payload)) (subst (λ n. x.units_done + 1 < n) (same-transfer u found) more))))
+  -- the transfer that is looked up
+  module _ (u : StoredTransfer) (found : stored_of v.state.transfers x.owner id ≡ Some u) where
+    is-hand : hand.transfer ≡ u
+    is-hand = let z = sym hand.is ∙ found in cc
 
-  last-is : (u : StoredTransfer) → stored_of v.state.transfers x.owner id ≡ Some u → stored_units u.contents ≤ x.units_done + 1 → nat_lt (x.units_done + 1) (units_of (length hand.pack.payload)) ≡ false
-  last-is u found last = le-ltb (x.units_done + 1) (units_of (length hand.pack.payload)) (subst (λ n. n ≤ x.units_done + 1) (same-transfer u found) last)
+    pub some-part : u.contents ≡ [] → ⊥
+    some-part none =
+        let z = sym none ∙ ap (λ (t : StoredTransfer). t.contents) (sym is-hand) ∙ hand.contents in let f : ⊥ = cc in f
 
-  change-ready : IsReservedWork w → (u : StoredTransfer) → stored_of v.state.transfers x.owner id ≡ Some u → stored_units u.contents ≤ x.units_done + 1 → change_kept v.prepared ≡ Some (change_at v x id whole hand hand.pack.manifest.action)
-  change-ready ready u found last = (part-ready v x id v.prepared whole hand (ready-at v w Processing (busy x id) e q at ready)).change (last-is u found last)
+    same-units : stored_units u.contents ≡ units_of (length hand.pack.payload)
+    same-units =
+        ap (λ (t : StoredTransfer). stored_units t.contents) (sym is-hand) ∙ ap stored_units hand.contents
+        ∙ stored-one (with_length (part_of hand.pack))
 
-  pub some-change : IsReservedWork w → (u : StoredTransfer) → stored_of v.state.transfers x.owner id ≡ Some u → stored_units u.contents ≤ x.units_done + 1 → change_kept v.prepared ≡ None → ⊥
-  some-change ready u found last none = let z = sym none ∙ change-ready ready u found last in let f : ⊥ = cc in f
+    -- what is ready for its unit
+    module _ (ready : IsReservedWork w) where
+      ready-now : IsUnitReady Processing (at_process v x id) (busy x id)
+      ready-now = ready-at v w Processing (busy x id) e q at ready
 
-  pub last-done : IsReservedWork w → (passed : Bool) (p : Prepared) (u : StoredTransfer) → stored_of v.state.transfers x.owner id ≡ Some u → stored_units u.contents ≤ x.units_done + 1 → (change : Change Extent) → change_kept v.prepared ≡ Some change
-      → (table : Table) → table ≡ with_stored id (moved_to Processed) (table_of v.state) → (changes : List (Change Extent)) → changes ≡ x.changes ++ change ∷ []
-      → IsUnit w passed (record v { state = record (with_table table v.state) { status = Ready; session = Some (record x { changes = changes; processing = None; units_done = x.units_done + 1 }) }; prepared = p })
-  last-done ready passed p u found last change kept table tables changes longer =
-      let same : change_at v x id whole hand hand.pack.manifest.action ≡ change = let z = sym (change-ready ready u found last) ∙ kept in cc in
-      subst (IsUnit w passed) (λ i. processed_with v x id whole hand p (sym tables i) ((ap (λ c. x.changes ++ c ∷ []) same ∙ sym longer) i))
-      (unit-at v w Processing (busy x id) e q at passed _ (last-unit v x id whole hand passed p (ready-at v w Processing (busy x id) e q at ready) (last-is u found last)))
+      pub more-done : x.units_done + 1 < stored_units u.contents → (passed : Bool) (p : Prepared) (status : Status) → status ≡ Processing
+          → IsUnit w passed (record v { state = record v.state { status = status; session = Some (record x { units_done = x.units_done + 1 }) }; prepared = p })
+      more-done more passed p status stays =
+          subst (IsUnit w passed) (λ i. record v {
+            state = record v.state { status = sym stays i; session = Some (record x { processing = sym is i; units_done = x.units_done + 1 }) };
+            prepared = p;
+          })
+          (unit-at v w Processing (busy x id) e q at passed _ (more-unit v x id p whole hand passed ready-now
+          (lt-ltb (x.units_done + 1) (units_of (length hand.pack.payload)) (subst (λ n. x.units_done + 1 < n) same-units more))))
+
+      -- the last unit
+      module _ (last : stored_units u.contents ≤ x.units_done + 1) where
+        last-is : nat_lt (x.units_done + 1) (units_of (length hand.pack.payload)) ≡ false
+        last-is = le-ltb (x.units_done + 1) (units_of (length hand.pack.payload)) (subst (λ n. n ≤ x.units_done + 1) same-units last)
+
+        change-ready : change_kept v.prepared ≡ Some (change_at v x id whole hand hand.pack.manifest.action)
+        change-ready = (part-ready v x id v.prepared whole hand ready-now).change last-is
+
+        pub some-change : change_kept v.prepared ≡ None → ⊥
+        some-change none = let z = sym none ∙ change-ready in let f : ⊥ = cc in f
+
+        pub last-done : (passed : Bool) (p : Prepared) (change : Change Extent) → change_kept v.prepared ≡ Some change
+            → (table : Table) → table ≡ with_stored id (moved_to Processed) (table_of v.state)
+            → (changes : List (Change Extent)) → changes ≡ x.changes ++ change ∷ []
+            → IsUnit w passed (record v {
+              state = record (with_table table v.state) {
+                status = Ready;
+                session = Some (record x { changes = changes; processing = None; units_done = x.units_done + 1 });
+              };
+              prepared = p;
+            })
+        last-done passed p change kept table tables changes longer =
+            let same : change_at v x id whole hand hand.pack.manifest.action ≡ change = let z = sym change-ready ∙ kept in cc in
+            subst (IsUnit w passed) (λ i. processed_with v x id whole hand p (sym tables i) ((ap (λ c. x.changes ++ c ∷ []) same ∙ sym longer) i))
+            (unit-at v w Processing (busy x id) e q at passed _ (last-unit v x id whole hand passed p ready-now last-is))

@@ -3,10 +3,10 @@ use Rattle.node_core.proofs.Names.{Action, AllByRecursion, Area, Areas, AreasFit
 use Rattle.node_core.proofs.Names.{Install, IsArea, IsExtent, IsInOrder, IsSound, LeavesOutside, List, Remove, SessionOf, Side, Some}
 use Rattle.node_core.proofs.Names.{StoredTransfer, Update, ap, arith, bytes_eq, change_meaning, cluster_at, cluster_meaning, cluster_of}
 use Rattle.node_core.proofs.Names.{cluster_place, cond, each-both, each-imp, each-unmap, elsewhere-stands, eq-eqb, false, found-has}
-use Rattle.node_core.proofs.Names.{goes_to, has_cluster, lowest_free, map, map-map, meaning, name-eq, name-swap, name_lt}
-use Rattle.node_core.proofs.Names.{names-behind, names-tail, names_rise, node_of, not-true, on_side, option_map_or, package_reading}
-use Rattle.node_core.proofs.Names.{refl, session_meaning, subst, suits, sym, take, transfer_meaning, true, [], ℕ, ◌-◌, ◌==◌, ◌∙◌, ◌∷◌}
-use Rattle.node_core.proofs.Names.{◌≡◌, ◌≢◌}
+use Rattle.node_core.proofs.Names.{goes_to, has_cluster, lowest_free, map, map-map, meaning, name-eq, name-swap, name_lt, names-behind}
+use Rattle.node_core.proofs.Names.{names-tail, names_rise, node_of, not-true, on_side, option_map_or, package_reading, refl}
+use Rattle.node_core.proofs.Names.{session_meaning, subst, suits, sym, take, transfer_meaning, true, [], ℕ, ◌-◌, ◌==◌, ◌∙◌, ◌∷◌, ◌≡◌}
+use Rattle.node_core.proofs.Names.{◌≢◌}
 use Rattle.node_core.proofs.Lastly.{each-place, free, new-change, pairs, ran-there, runs, state}
 use Rattle.node_core.proofs.Stored.{read-order}
 use Rattle.node_core.proofs.Lists.{every, map-same, none-any}
