@@ -1,13 +1,13 @@
 -- Where a call leads, a stored node stands for the node there, and stays in order.
-use Rattle.node_core.proofs.Names.{Action, Activated, AllByRecursion, Area, Areas, Bytes, Call, Change, CleanUp, CleaningUp, Cluster}
-use Rattle.node_core.proofs.Names.{Done, Extent, Goal, Holding, Idle, IfSome, Install, IsCopied, IsCopiedIn, IsInOrder, IsJudged}
-use Rattle.node_core.proofs.Names.{IsSound, List, Manifest, NodeState, None, Old, OnlyLeads, Option, Outcome, Part, Prepared}
-use Rattle.node_core.proofs.Names.{Processing, Ready, Refusal, Refused, Remove, Reply, Resume, RolledBack, RunsWhatItShould, SessionOf}
-use Rattle.node_core.proofs.Names.{Side, Some, State, Status, StoredTransfer, To, Update, Verifying, acceptance, accepted, all_places}
-use Rattle.node_core.proofs.Names.{ap, arrive, arrived, block_limit, cleaning_up, cluster_at, content_of, each-imp, find, first_refusal}
-use Rattle.node_core.proofs.Names.{goes_to, led_by, list_any, meaning, node_of, not, option_map_or, package_reading, places_in, refl}
-use Rattle.node_core.proofs.Names.{refusal_by, refused_or, running_at, session_refusals, should_run, status_table, subst, sym, take}
-use Rattle.node_core.proofs.Names.{units_done, unwrap_or, verdict_on, [], ℕ, ◌*◌, ◌-◌, ◌==◌, ◌∙◌, ◌∷◌, ◌≡◌}
+use Rattle.node_core.proofs.Names.{Action, AllByRecursion, Area, Areas, Bytes, Call, Change, CleanUp, CleaningUp, Cluster, Done, Extent}
+use Rattle.node_core.proofs.Names.{Goal, Holding, IfSome, Install, IsCopied, IsCopiedIn, IsInOrder, IsJudged, IsSound, List, Manifest}
+use Rattle.node_core.proofs.Names.{NodeState, None, Old, OnlyLeads, Option, Outcome, Part, Prepared, Ready, Refusal, Refused, Remove}
+use Rattle.node_core.proofs.Names.{Reply, Resume, RunsWhatItShould, SessionOf, Side, Some, State, Status, StoredTransfer, To, Update}
+use Rattle.node_core.proofs.Names.{acceptance, accepted, all_places, ap, arith, arrive, arrived, block_limit, cleaning_up, cluster_at}
+use Rattle.node_core.proofs.Names.{content_of, each-imp, find, first_refusal, goes_to, led_by, list_any, meaning, node_of, not}
+use Rattle.node_core.proofs.Names.{option_map_or, package_reading, places_in, refl, refusal_by, refused_or, running_at}
+use Rattle.node_core.proofs.Names.{session_refusals, should_run, status_table, subst, sym, take, units_done, unwrap_or, verdict_on, []}
+use Rattle.node_core.proofs.Names.{ℕ, ◌*◌, ◌-◌, ◌==◌, ◌∙◌, ◌∷◌, ◌≡◌}
 use Rattle.pm_types.specs.declared.calls.Call.TheVariants as call
 use Rattle.node_core.proofs.Stored.{copied-when}
 
@@ -69,16 +69,7 @@ runs-at x Resume = x.saved
 
 -- it is what should run before the call
 same-runs : (x : SessionOf Extent) (a : Status) (c : Call) → IfSome (status_table a c) (λ goal. should_run x a x.outcome ≡ runs-at x goal)
-same-runs x Idle (call.ProcessSwPackage id tag) = refl
-same-runs x Ready (call.ProcessSwPackage id tag) = refl
-same-runs x Ready call.Activate = refl
-same-runs x Ready call.RevertProcessedSwPackages = refl
-same-runs x Processing (call.Cancel id) = refl
-same-runs x Verifying call.Rollback = refl
-same-runs x Activated call.Finish = refl
-same-runs x Activated call.Rollback = refl
-same-runs x RolledBack call.Finish = refl
-same-runs x _ _ = tt
+same-runs x a c = grind arith
 
 -- going somewhere leaves the node there, in order, with what is copied and as many entries
 record IsThere (areas : Areas) (s n : State) (there : NodeState) : Type 0 where

@@ -2,15 +2,15 @@
 use Rattle.node_core.proofs.Names.{Activate, AllByRecursion, BeingProcessed, Bool, Bytes, Cluster, Done, Extent, Found, Goal, Holding}
 use Rattle.node_core.proofs.Names.{Idle, InvalidTransferId, IsCopied, IsInOrder, IsJudged, IsPlaced, IsReady, IsSound, List, None}
 use Rattle.node_core.proofs.Names.{OperationNotPermitted, Option, Part, ProcessSwPackage, Refusal, Refused, Reply, Session, SessionOf}
-use Rattle.node_core.proofs.Names.{Some, State, StoredTransfer, Transfer, Transferred, activate_refusal, ap, arrived, begin_processing}
-use Rattle.node_core.proofs.Names.{begun, both-none, change_meaning, changes_in, changes_kept, cluster_place, contents_of, each-append}
-use Rattle.node_core.proofs.Names.{each-first, false, first_refusal, found-has, found_of, free-of, is-transferred, is_in, is_none}
-use Rattle.node_core.proofs.Names.{is_wrong_tag, map, meaning, missing_dependencies, names_fit_places, new_session, node_of, not}
-use Rattle.node_core.proofs.Names.{not-false, opened, option_map, option_map_or, option_or, package_reading, package_refusals, parts_of}
-use Rattle.node_core.proofs.Names.{parts_refusal, phase_code, planned, process_refusal, refl, refusal_by, rows-clear, session_kept}
-use Rattle.node_core.proofs.Names.{session_meaning, session_refusals, should_run, some_passes, status_table, stored_header, stored_of}
-use Rattle.node_core.proofs.Names.{subst, sym, taken_up, transfer_meaning, transfer_of, true, unmet_among, unmet_kept, unwrap_or}
-use Rattle.node_core.proofs.Names.{with_length, [], ℕ, ◌++◌, ◌==◌, ◌∙◌, ◌∷◌, ◌≡◌}
+use Rattle.node_core.proofs.Names.{Some, State, StoredTransfer, Transfer, Transferred, activate_refusal, ap, arith, arrived}
+use Rattle.node_core.proofs.Names.{begin_processing, begun, both-none, change_meaning, changes_in, changes_kept, cluster_place}
+use Rattle.node_core.proofs.Names.{contents_of, each-append, each-first, false, first_refusal, found-has, found_of, free-of}
+use Rattle.node_core.proofs.Names.{is-transferred, is_in, is_none, is_wrong_tag, map, meaning, missing_dependencies, names_fit_places}
+use Rattle.node_core.proofs.Names.{new_session, node_of, not, not-false, opened, option_map, option_map_or, option_or, package_reading}
+use Rattle.node_core.proofs.Names.{package_refusals, parts_of, parts_refusal, phase_code, planned, process_refusal, refl, refusal_by}
+use Rattle.node_core.proofs.Names.{rows-clear, session_kept, session_meaning, session_refusals, should_run, some_passes, status_table}
+use Rattle.node_core.proofs.Names.{stored_header, stored_of, subst, sym, taken_up, transfer_meaning, transfer_of, true, unmet_among}
+use Rattle.node_core.proofs.Names.{unmet_kept, unwrap_or, with_length, [], ℕ, ◌++◌, ◌==◌, ◌∙◌, ◌∷◌, ◌≡◌}
 use Rattle.node_core.proofs.Phased.{phased-order, phased-means, phased-placed, phased-slots}
 use Rattle.node_core.proofs.Stored.{copied-when, found-header, found-means, some-stored}
 use Rattle.node_core.proofs.Planned.{among-fit}
@@ -46,10 +46,7 @@ rows-mean v client id tag =
     go : (x : Option (SessionOf Extent)) (o : Option StoredTransfer)
         → first_refusal (rows_of (record v { state = record v.state { session = x } }) client tag (option_map (transfer_meaning package_reading v.areas) o))
         ≡ first_refusal (package_refusals x client tag (option_map (λ t. t.header) o))
-    go None None = refl
-    go None (Some u) = refl
-    go (Some x) None = refl
-    go (Some x) (Some u) = refl
+    go x o = grind arith
 
 -- the parts are refused as what is stored of them
 parts-refused : (v : Holding) → IsSound v → (client id : ℕ)

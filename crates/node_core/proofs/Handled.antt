@@ -48,9 +48,7 @@ pub stored-one : (part : Part ℕ) → stored_units (part ∷ []) ≡ units_of p
 stored-one part = sum_by-cons (λ (q : Part ℕ). units_of q.payload) part [] ∙ omega arith
 
 unless-payload : (f : Option PackageFault) (m : Option Manifest) (y : Bytes) (p : Package) → unless f m y ≡ Ok p → y ≡ p.payload
-unless-payload (Some f) m y p e = absurd (cc)
-unless-payload None (Some m) y p e = let same : record { manifest = m; payload = y } ≡ p = cc in ap (λ (q : Package). q.payload) same
-unless-payload None None y p e = absurd (cc)
+unless-payload f m y p e = grind arith
 
 -- a package's payload lies in its bytes
 pub payload-is : (bytes : Bytes) (p : Package) → reading bytes ≡ Ok p → payload_in bytes ≡ p.payload

@@ -15,11 +15,7 @@ pub lt-self : (a : List ℕ) → name_lt a a ≡ true → ⊥
 lt-self a h = let z = sym h ∙ lt-not a a h in let f : ⊥ = cc in f
 
 pub lt-differ : (a b : List ℕ) → name_lt a b ≡ true → bytes_eq a b ≡ false
-lt-differ a b h = go (bytes_eq a b) refl
-  where
-    go : (x : Bool) → bytes_eq a b ≡ x → bytes_eq a b ≡ false
-    go false e = e
-    go true e = absurd (lt-self a (ap (name_lt a) (name-eq a b e) ∙ h))
+lt-differ a b h = grind (arith, lt-self a, name-eq a b)
 
 lt-other : (a b : List ℕ) → name_lt a b ≡ false → bytes_eq a b ≡ false → name_lt b a ≡ true
 lt-other a b h differ = grind (arith, nat_list_cmp_total.antisymm b a, texts_ties a b)

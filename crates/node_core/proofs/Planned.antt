@@ -1,8 +1,8 @@
 -- What holds of planned clusters, and of their places.
-use Rattle.node_core.proofs.Names.{Action, AllByRecursion, Bool, Change, Cluster, Extent, Install, List, Part, Remove, Update, beq}
-use Rattle.node_core.proofs.Names.{brought, bytes_eq, change_place, changed_as, changed_by, cluster_place, each-append, each-filter}
-use Rattle.node_core.proofs.Names.{each-first, each-imp, each-map, each-unmap, list_all, map, names_fit_places, planned, true}
-use Rattle.node_core.proofs.Names.{with_cluster, [], ℕ, ◌++◌, ◌==◌, ◌∷◌, ◌≡◌}
+use Rattle.node_core.proofs.Names.{AllByRecursion, Bool, Change, Cluster, Extent, List, Part, arith, beq, brought, bytes_eq}
+use Rattle.node_core.proofs.Names.{change_place, changed_by, cluster_place, each-append, each-filter, each-first, each-imp, each-map}
+use Rattle.node_core.proofs.Names.{each-unmap, list_all, map, names_fit_places, planned, true, with_cluster, [], ℕ, ◌++◌, ◌==◌, ◌∷◌}
+use Rattle.node_core.proofs.Names.{◌≡◌}
 use Rattle.node_core.proofs.Lists.{all-each, each-all, each-second}
 
 -- what holds of each cluster, and of each that a change brings, holds of each planned one
@@ -11,12 +11,7 @@ module _ {C : Type 0} (P : Cluster C → Type 0) where
   with-each c cs own each = each-append P _ _ (each-filter P _ cs each) (own, each-filter P _ cs each)
 
   changed-each : (part : Part C) (cs : List (Cluster C)) → P (brought part) → AllByRecursion P cs → AllByRecursion P (changed_by part cs)
-  changed-each part cs own each = go part.manifest.action
-    where
-      go : (a : Action) → AllByRecursion P (changed_as a (brought part) cs)
-      go Install = with-each (brought part) cs own each
-      go Update = with-each (brought part) cs own each
-      go Remove = each-filter P _ cs each
+  changed-each part cs own each = grind (arith, with-each, each-filter)
 
   pub planned-each : (changes : List (Change C)) (cs : List (Cluster C)) → AllByRecursion (λ change. P (brought change.part)) changes → AllByRecursion P cs → AllByRecursion P (planned changes cs)
   planned-each [] cs own each = each

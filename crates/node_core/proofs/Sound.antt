@@ -17,11 +17,9 @@ use Rattle.node_core.proofs.Stored.{rise, ids}
 pub reading-is : IsReading package_reading
 reading-is = record { parts_of = λ bytes parts e. of (reading bytes) parts e }
   where
-    one : (part : Part Bytes) (parts : List (Part Bytes)) → part ∷ [] ≡ parts → (0 < length parts) × IsTrue (all_differ (map cluster_of parts))
-    one part parts e = subst (λ l. (0 < length l) × IsTrue (all_differ (map cluster_of l))) e (omega arith, refl)
-
-    of : (r : Result Package PackageFault) (parts : List (Part Bytes)) → verdict_of r ≡ Ok parts → (0 < length parts) × IsTrue (all_differ (map cluster_of parts))
-    of (Ok p) parts e = one (record { manifest = p.manifest; payload = p.payload }) parts cc
+    of : (r : Result Package PackageFault) (parts : List (Part Bytes)) → verdict_of r ≡ Ok parts
+        → (0 < length parts) × IsTrue (all_differ (map cluster_of parts))
+    of (Ok p) parts e = grind arith
     of (Err f) parts e = absurd (cc)
 
 -- rising numbers differ

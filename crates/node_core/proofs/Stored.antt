@@ -1,11 +1,10 @@
 -- What stored transfers mean, and what a change of one of them changes of that.
-use Rattle.node_core.proofs.Names.{AllByRecursion, Areas, BeingProcessed, Bool, Found, Holding, IsCopiedIn, IsInOrder, IsPartCopied}
-use Rattle.node_core.proofs.Names.{IsSound, List, None, Option, Phase, Processed, Reading, Some, State, StoredTransfer, Transfer}
-use Rattle.node_core.proofs.Names.{Transferred, Transferring, and_parts, ap, arith, cond, drop, each-both, each-imp, each-unmap}
-use Rattle.node_core.proofs.Names.{eqb-true, false, find, found-has, found_of, if◌then◌else◌, is_none, is_of, map, map-map}
-use Rattle.node_core.proofs.Names.{numbers_rise, option_map, package_reading, refl, rise-above, rise-tail, slice_range, stored_header}
-use Rattle.node_core.proofs.Names.{stored_of, subst, sym, take, take-add, transfer_meaning, true, with_length, [], ℕ, ◌++◌, ◌+◌, ◌-◌}
-use Rattle.node_core.proofs.Names.{◌<◌, ◌==◌, ◌∙◌, ◌∷◌, ◌≡◌}
+use Rattle.node_core.proofs.Names.{AllByRecursion, Areas, BeingProcessed, Found, Holding, IsCopiedIn, IsInOrder, IsPartCopied, IsSound}
+use Rattle.node_core.proofs.Names.{List, None, Option, Phase, Processed, Reading, Some, State, StoredTransfer, Transfer, Transferred}
+use Rattle.node_core.proofs.Names.{Transferring, and_parts, ap, arith, drop, each-both, each-imp, each-unmap, eqb-true, false, find}
+use Rattle.node_core.proofs.Names.{found-has, found_of, if◌then◌else◌, is_none, is_of, map, map-map, numbers_rise, option_map}
+use Rattle.node_core.proofs.Names.{package_reading, refl, rise-above, rise-tail, slice_range, stored_header, stored_of, subst, sym}
+use Rattle.node_core.proofs.Names.{take, take-add, transfer_meaning, true, with_length, [], ℕ, ◌++◌, ◌+◌, ◌-◌, ◌<◌, ◌==◌, ◌∙◌, ◌∷◌, ◌≡◌}
 use Rattle.node_core.proofs.Lists.{every, find-map, change-map}
 
 abbrev pub ids : List StoredTransfer → List ℕ
@@ -23,19 +22,16 @@ found-is client id ts u e =
 -- and is the only one of its id
 pub only : (client id : ℕ) (ts : List StoredTransfer) (u : StoredTransfer) → numbers_rise (ids ts) ≡ true → found client id ts ≡ Some u → AllByRecursion (λ t. (t.header.id == id) ≡ true → t ≡ u) ts
 only client id [] u r e = tt
-only client id (t ∷ ts) u r e = go (is_of client id t.header) refl e (only client id ts u (rise-tail t.header.id (ids ts) r))
-  where
-    above : AllByRecursion (λ v. t.header.id < v.header.id) ts
-    above = each-unmap (λ n. t.header.id < n) (λ (v : StoredTransfer). v.header.id) ts (rise-above t.header.id (ids ts) r)
-
-    go : (b : Bool) → is_of client id t.header ≡ b → cond b (Some t) (found client id ts) ≡ Some u → (found client id ts ≡ Some u → AllByRecursion (λ v. (v.header.id == id) ≡ true → v ≡ u) ts) → AllByRecursion (λ v. (v.header.id == id) ≡ true → v ≡ u) (t ∷ ts)
-    go true q k rec =
-        let same : t.header.id ≡ id = eqb-true _ _ (and_parts (t.header.id == id) (t.header.client == client) q).0 in
-        (λ _. cc, each-imp _ _ (λ v m w. absurd (let z = eqb-true _ _ w in let f : ⊥ = omega (arith, m) in f)) ts above)
-    go false q k rec =
-        let there = found-has (λ v. is_of client id v.header) (λ v. t.header.id < v.header.id) ts u above k in
-        let same : u.header.id ≡ id = (found-is client id ts u k).0 in
-        (λ w. absurd (let z = eqb-true _ _ w in let f : ⊥ = omega (arith, there.1) in f), rec k)
+only client id (t ∷ ts) u r e =
+    let above = each-unmap (λ n. t.header.id < n) (λ (v : StoredTransfer). v.header.id) ts (rise-above t.header.id (ids ts) r) in
+    grind (
+      arith,
+      only client id ts u (rise-tail t.header.id (ids ts) r),
+      found-is client id ts u,
+      above,
+      found-has (λ v. is_of client id v.header) (λ v. t.header.id < v.header.id) ts u above,
+      each-imp,
+    )
 
 -- a fact of the one that is found is one of all of its id
 pub only-has : (P : StoredTransfer → Type 0) (client id : ℕ) (ts : List StoredTransfer) (u : StoredTransfer) → numbers_rise (ids ts) ≡ true → found client id ts ≡ Some u → P u → AllByRecursion (λ t. (t.header.id == id) ≡ true → P t) ts
