@@ -173,10 +173,7 @@ module _ (v : Holding) (client : ℕ) (c : Call) (sound : IsSound v) (only : Onl
       by : (d : Call) → OnlyLeads d → (refusal_by v client d ≡ first_refusal (session_refusals (node_of v) client d))
           × (acceptance (node_of v) client d ≡ Done)
           × (accepted (node_of v) client d (verdict_on v client d) ≡ led_by d (node_of v))
-      by call.Finish o = (refl, refl, refl)
-      by call.Rollback o = (refl, refl, refl)
-      by call.RevertProcessedSwPackages o = (refl, refl, refl)
-      by _ o = elim o [ ]
+      by d o = grind arith
 
   pub only-refused : (why : Refusal) (p : Prepared) → first_refusal (session_refusals (node_of v) client c) ≡ Some why
       → IsJudged v client c (Refused why) (record v { prepared = p })

@@ -60,8 +60,7 @@ parts-refused v sound client id =
   where
     changes-mean : (o : Option (SessionOf Extent)) → option_map_or (λ (x : Session). x.changes) (option_map (session_meaning v.areas) o) []
         ≡ map (change_meaning v.areas) (option_map_or (λ (x : SessionOf Extent). x.changes) o [])
-    changes-mean None = refl
-    changes-mean (Some x) = refl
+    changes-mean o = grind arith
 
 -- ProcessSwPackage is refused by what is stored
 pub process-by : {v w : Holding} → v ≡ w → IsSound w → (client id tag : ℕ) (found : Option Found) (o q : Option Refusal) → found ≡ found_of v.state.transfers client id
@@ -139,8 +138,7 @@ module _ (v : Holding) (sound : IsSound v) (client id tag : ℕ) (u : StoredTran
 
 -- the session that was taken: the node's own, or the one that is ready
 taken-is : (o kept : Option (SessionOf Extent)) (x : SessionOf Extent) → (o ≡ None → kept ≡ Some x) → option_or o kept ≡ Some (unwrap_or o x)
-taken-is None kept x ready = ready refl
-taken-is (Some y) kept x ready = refl
+taken-is o kept x ready = grind arith
 
 -- ProcessSwPackage
 pub process-judged : (v : Holding) (client id tag : ℕ) (reply : Reply) (goal : Goal) (w new : Holding)

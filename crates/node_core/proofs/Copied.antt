@@ -1,10 +1,10 @@
 -- What copying the next unit of a package leaves, and makes ready.
-use Rattle.node_core.proofs.Names.{Action, AllByRecursion, Area, Areas, AreasFit, Bytes, Err, Extent, Holding, IfSome, Install, IsArea}
+use Rattle.node_core.proofs.Names.{Action, AllByRecursion, Area, Areas, AreasFit, Bytes, Err, Extent, Holding, IfSome, IsArea}
 use Rattle.node_core.proofs.Names.{IsCopiedIn, IsKept, IsNextUnit, IsPackageReady, IsPartCopied, IsPartReady, IsReservedWork, IsSound}
 use Rattle.node_core.proofs.Names.{IsUnitOf, LeavesOutside, Manifest, NextUnit, None, Ok, OnOk, Option, Package, Part, Processing}
-use Rattle.node_core.proofs.Names.{Remove, Result, SessionOf, Side, Some, State, StoredTransfer, Transfer as MeantTransfer, Update, ap}
-use Rattle.node_core.proofs.Names.{arith, before-stands, block_limit, change_due, change_kept, change_next, content-here, content_of}
-use Rattle.node_core.proofs.Names.{drop, drop-drop, drop-take, extent_in, extent_next, found-has, from_be_bytes, goes_to, has_cluster}
+use Rattle.node_core.proofs.Names.{Remove, Result, SessionOf, Side, Some, State, StoredTransfer, Transfer as MeantTransfer, ap, arith}
+use Rattle.node_core.proofs.Names.{before-stands, block_limit, change_due, change_kept, change_next, content-here, content_of, drop}
+use Rattle.node_core.proofs.Names.{drop-drop, drop-take, extent_in, extent_next, found-has, from_be_bytes, goes_to, has_cluster}
 use Rattle.node_core.proofs.Names.{if◌then◌else◌, is_of, length, length-drop, length-take, min, number_at, overwritten, package_limit}
 use Rattle.node_core.proofs.Names.{package_reading, payload_place, payload_start, refl, slice_range, subst, suits, sym, take, take-add}
 use Rattle.node_core.proofs.Names.{take-overwritten, take-take, take_min, transfer_meaning, true, unit_end, w32, with_content}
@@ -74,9 +74,7 @@ side_of e = Side e.place e.side
 
 -- where a payload goes is a side
 goes-side : (s : State) (m : Manifest) (a : Action) (size : ℕ) → side_of (extent_in (goes_to s m a) size) ≡ goes_to s m a
-goes-side s m Install size = refl
-goes-side s m Update size = refl
-goes-side s m Remove size = refl
+goes-side s m a size = grind arith
 
 -- what a next unit needs of the area that it goes to, and what copying it there leaves and makes ready
 pub record Needs (v : Holding) (n : NextUnit) (side : Area) : Type 0 where

@@ -4,8 +4,8 @@ use Rattle.node_core.proofs.Names.{all_differ, all_places, and_parts, ap, arith,
 use Rattle.node_core.proofs.Names.{change_place, cluster_limit, cluster_place, different_names, each-both, each-imp, each-map}
 use Rattle.node_core.proofs.Names.{each-unmap, eq-eqb, eq-name, eqb-true, false, find, found-has, has-within, has_name, length}
 use Rattle.node_core.proofs.Names.{list_all, list_any, list_any-append, list_any-map, map, name-swap, names_fit_places, nat_tests}
-use Rattle.node_core.proofs.Names.{none-passes, not, not-false, not-true, option_map_or, places_in, refl, session_takes, slots_differ}
-use Rattle.node_core.proofs.Names.{sym, true, within-self, within-trans, [], ℕ, ◌++◌, ◌==◌, ◌||◌, ◌∙◌, ◌∷◌, ◌≡◌, ◌≤◌}
+use Rattle.node_core.proofs.Names.{none-passes, not, not-false, option_map_or, places_in, refl, session_takes, slots_differ, sym, true}
+use Rattle.node_core.proofs.Names.{within-self, within-trans, [], ℕ, ◌++◌, ◌==◌, ◌||◌, ◌∙◌, ◌∷◌, ◌≡◌, ◌≤◌}
 use Rattle.node_core.proofs.Lists.{all-each, each-all, any-found, none-any}
 use Rattle.node_core.proofs.Named.{differ-few, none-named}
 
@@ -78,9 +78,7 @@ module _ (pairs : List Pair) (fit : AllByRecursion (FitsAll pairs) pairs) where
     where
       none : (qs : List ℕ) → AllByRecursion (λ q. is_taken pairs q ≡ true) qs → list_all (λ other. not (other == p)) qs ≡ true → has_name (map (name_at pairs) qs) (name_at pairs p) ≡ false
       none [] t e = refl
-      none (q ∷ qs) u e =
-          let parts = and_parts (not (q == p)) (list_all (λ other. not (other == p)) qs) e in
-          (λ i. (two-names p q t.0 u.0 ∙ flip q p (not-true _ parts.0)) i || none qs u.1 parts.1 i)
+      none (q ∷ qs) u e = grind (arith, nat_tests, two-names p q t.0, none qs u.1)
 
   -- a name that isn't there
   other-name : (n : List ℕ) → has_name (map (λ (a : Pair). a.0) pairs) n ≡ false

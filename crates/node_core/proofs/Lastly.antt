@@ -28,9 +28,7 @@ use Rattle.node_core.proofs.Planned.{among-fit}
 -- a payload goes to an area of a place
 goes-lies : (areas : Areas) (s : State) (m : Manifest) (a : Action) (n : ℕ)
     → on_side areas (extent_in (goes_to s m a) n) ≡ take n (content_of (goes_to s m a) areas)
-goes-lies areas s m Install n = refl
-goes-lies areas s m Update n = refl
-goes-lies areas s m Remove n = refl
+goes-lies areas s m a n = grind arith
 
 -- where a cluster lies that is found, or isn't
 abbrev lies : Option (Cluster Extent) → Extent

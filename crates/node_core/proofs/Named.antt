@@ -1,8 +1,8 @@
 -- Which names things have, and how many different ones there are.
-use Rattle.node_core.proofs.Names.{AllByRecursion, Change, Cluster, Extent, List, Within, added, all_differ, and_parts, ap, arith}
-use Rattle.node_core.proofs.Names.{bytes_eq, changed_names, cluster_of, count_of, different_names, drop, each-imp, false, fewer-within}
-use Rattle.node_core.proofs.Names.{get_or, has-append, has_name, if◌then◌else◌, length, list_any, map, name-swap, neither, not}
-use Rattle.node_core.proofs.Names.{not-true, refl, subst, sym, take, take_rest, true, [], ℕ, ◌++◌, ◌+◌, ◌-◌, ◌||◌, ◌∙◌, ◌∷◌, ◌≡◌, ◌≤◌}
+use Rattle.node_core.proofs.Names.{AllByRecursion, Change, Cluster, Extent, List, Within, added, all_differ, ap, arith, bytes_eq}
+use Rattle.node_core.proofs.Names.{changed_names, cluster_of, count_of, different_names, drop, each-imp, false, fewer-within, get_or}
+use Rattle.node_core.proofs.Names.{has-append, has_name, if◌then◌else◌, length, list_any, map, name-swap, refl, subst, sym, take}
+use Rattle.node_core.proofs.Names.{take_rest, true, [], ℕ, ◌++◌, ◌+◌, ◌-◌, ◌||◌, ◌∙◌, ◌∷◌, ◌≡◌, ◌≤◌}
 use Rattle.node_core.proofs.Lists.{none-any}
 
 -- a name is among others where one of what they name has it
@@ -20,18 +20,12 @@ none-named f xs n e =
 -- of different names, none is a later one
 pub differ-before : (ns : List (List ℕ)) (n : List ℕ) (rest : List (List ℕ)) → all_differ (ns ++ n ∷ rest) ≡ true → has_name ns n ≡ false
 differ-before [] n rest d = refl
-differ-before (m ∷ ns) n rest d =
-    let parts = and_parts (not (has_name (ns ++ n ∷ rest) m)) (all_differ (ns ++ n ∷ rest)) d in
-    let behind = neither (has_name ns m) (has_name (n ∷ rest) m) (sym (has-append ns (n ∷ rest) m) ∙ not-true _ parts.0) in
-    let own = neither (bytes_eq m n) (has_name rest m) behind.1 in
-    λ i. (name-swap n m ∙ own.0) i || differ-before ns n rest parts.1 i
+differ-before (m ∷ ns) n rest d = grind (arith, has-append ns (n ∷ rest) m, name-swap n m, differ-before ns n rest)
 
 -- different names, each once
 different-self : (ns : List (List ℕ)) → all_differ ns ≡ true → different_names ns ≡ ns
 different-self [] d = refl
-different-self (n ∷ ns) d =
-    let parts = and_parts (not (has_name ns n)) (all_differ ns) d in
-    ap (λ b. if b then different_names ns else n ∷ different_names ns) (not-true _ parts.0) ∙ ap (λ ms. n ∷ ms) (different-self ns parts.1)
+different-self (n ∷ ns) d = grind (arith, different-self ns)
 
 -- different names are no more than those that they are among
 pub differ-few : (ns zs : List (List ℕ)) → all_differ ns ≡ true → Within ns zs → length ns ≤ length (different_names zs)

@@ -29,7 +29,7 @@ pub use Rattle.node_laws.proofs.NameLists.{within-trans}
 pub use Rattle.node_laws.proofs.Sessions.{free-of}
 pub use Rattle.node_laws.specs.Fit.{IsFit, IsRead, IsReading}
 pub use Rattle.package_reader.specs.Fields.{number_at, payload_in, payload_place, text_in}
-pub use Rattle.package_reader.specs.Reading.{content_faults, field_faults, first_fault, is_payload_of, is_remove, unless}
+pub use Rattle.package_reader.specs.Reading.{content_faults, field_faults, first_fault, is_payload_of, unless}
 pub use Rattle.package_reader.specs.declared.fault.PackageFault.{PackageFault}
 pub use Rattle.package_reader.specs.declared.package.Package.{Package}
 pub use Rattle.pm_types.specs.Clusters.{all_units, brought, changed_as, changed_by, cluster_at, cluster_of, has_cluster, planned, units_of}
@@ -82,7 +82,6 @@ pub use Rattle.pm_types.specs.declared.status.Status.TheVariants.{Activated, Act
 pub use Rattle.pm_types.specs.declared.status.Status.TheVariants.{RollingBack, Verifying}
 pub use Rattle.pm_types.specs.declared.transfers.ExitVerdict.{ExitVerdict}
 pub use Rattle.pm_types.specs.declared.transfers.ExitVerdict.TheVariants.{Bad, Good}
-pub use Rattle.sha2.specs.Sha256.{sha256}
 pub use Rattle.std.proofs.Common.{Bool, Err, IfOk, IfSome, IsSomeAnd, IsTrue, List, None, Ok, OnOk, Option, Result, Some, ap, append-nil}
 pub use Rattle.std.proofs.Common.{append_assoc, ap₂, arith, cond, drop, drop-drop, false, filter, find, fold, get_or, if◌then◌else◌, inl}
 pub use Rattle.std.proofs.Common.{inr, is_none, is_some, length, length-append, length-drop, length-take, map, min, nat_le, nat_lt, not}

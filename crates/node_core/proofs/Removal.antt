@@ -1,8 +1,7 @@
 -- A package that removes a cluster has no payload.
-use Rattle.node_core.proofs.Names.{Bool, Bytes, List, Manifest, None, Ok, Option, Package, PackageFault, Remove, Some, and_parts, ap}
-use Rattle.node_core.proofs.Names.{arith, bytes_eq, content_faults, false, field_faults, first_fault, is_payload_of, is_remove, length}
-use Rattle.node_core.proofs.Names.{ltb-true, manifest_of, nat_lt, not, not-false, payload_in, payload_place, refl, sha256, sym, text_in}
-use Rattle.node_core.proofs.Names.{true, unless, [], ℕ, ◌++◌, ◌+◌, ◌||◌, ◌∙◌, ◌∷◌, ◌≡◌}
+use Rattle.node_core.proofs.Names.{Bool, Bytes, List, Manifest, None, Ok, Option, Package, PackageFault, Remove, Some, ap, arith}
+use Rattle.node_core.proofs.Names.{content_faults, false, field_faults, first_fault, is_payload_of, manifest_of, not, not-false}
+use Rattle.node_core.proofs.Names.{payload_in, payload_place, refl, sym, text_in, true, unless, [], ℕ, ◌++◌, ◌+◌, ◌∙◌, ◌∷◌, ◌≡◌}
 use Rattle.package_reader.specs.declared.fault.PackageFault.TheVariants.{PackageInconsistent, InvalidManifest}
 use Rattle.package_reader.specs.Reading.{fault, reading}
 
@@ -13,8 +12,7 @@ behind-none (row ∷ rows) more e = grind (arith, behind-none rows more)
 
 -- a second row that doesn't hold
 second-clear : (t : Bool) (f g : PackageFault) → first_fault ((false, f) ∷ (t, g) ∷ []) ≡ None → t ≡ false
-second-clear true f g e = absurd (cc)
-second-clear false f g e = refl
+second-clear t f g e = grind arith
 
 -- a payload that no row refuses is its manifest's
 belongs : (m : Manifest) (y : Bytes) (place : ℕ) → first_fault (content_faults (Some m) y place) ≡ None → is_payload_of m y ≡ true
@@ -23,10 +21,7 @@ belongs m y place e = not-false (is_payload_of m y) (second-clear (not (is_paylo
 -- and of a removal it is empty
 told-empty : (m : Manifest) (y : Bytes) → is_payload_of m y ≡ true → m.action ≡ Remove → y ≡ []
 told-empty m [] e r = refl
-told-empty m (b ∷ y) e r =
-    let both = and_parts (bytes_eq (sha256 (b ∷ y)) m.sha256) (not (is_remove m.action) || nat_lt (length (b ∷ y)) 1) e in
-    let none : (not (is_remove Remove) || nat_lt (length (b ∷ y)) 1) ≡ true = ap (λ a. not (is_remove a) || nat_lt (length (b ∷ y)) 1) (sym r) ∙ both.1 in
-    absurd (let short = ltb-true (length (b ∷ y)) 1 none in let f : ⊥ = omega (arith, short) in f)
+told-empty m (b ∷ y) e r = grind arith
 
 empty-of : (rows : List (Bool × PackageFault)) (m : Option Manifest) (y : Bytes) (place : ℕ) (f : Option PackageFault) (p : Package) → first_fault (rows ++ content_faults m y place) ≡ f → unless f m y ≡ Ok p → p.manifest.action ≡ Remove → p.payload ≡ []
 empty-of rows m y place (Some f) p q e r = absurd (cc)

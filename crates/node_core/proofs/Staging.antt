@@ -1,14 +1,14 @@
 -- What a put behind a transfer's bytes leaves of a node.
-use Rattle.node_core.proofs.Names.{Action, AllByRecursion, Areas, AreasFit, Bool, Bytes, ExitVerdict, Found, Holding, Install, IsBehind}
-use Rattle.node_core.proofs.Names.{IsCopiedIn, IsKept, IsPartCopied, IsReady, IsSound, IsVerdict, LeavesOutside, List, Manifest, None}
-use Rattle.node_core.proofs.Names.{Option, Prepared, Remove, Some, StoredTransfer, Transfer as NodeTransfer, TransferData, TransferExit}
-use Rattle.node_core.proofs.Names.{Update, and_parts, ap, arith, block_limit, cond, content-here, content_of, each-both, each-imp}
-use Rattle.node_core.proofs.Names.{each-unmap, eqb-false, exit_refusals, false, find, first_refusal, found-has, found_of, front_slice}
-use Rattle.node_core.proofs.Names.{goes_to, header-means, inl, inr, is_of, length, length-take, map, nat_tests, node_of, not, not-true}
-use Rattle.node_core.proofs.Names.{option_map, option_map_or, overwritten, package_limit, package_reading, put-leaves, refl}
-use Rattle.node_core.proofs.Names.{slice-overwritten, slice_range, slots_differ, slots_of, stored_of, subst, sym, take, transfer-stands}
-use Rattle.node_core.proofs.Names.{transfer_limit, transfer_meaning, true, units_done, with_content, zero-add, [], ℕ, ◌*◌, ◌+◌, ◌<◌}
-use Rattle.node_core.proofs.Names.{◌==◌, ◌∙◌, ◌∷◌, ◌≡◌, ◌≢◌, ◌≤◌, ◌⊎◌}
+use Rattle.node_core.proofs.Names.{Action, AllByRecursion, Areas, AreasFit, Bytes, ExitVerdict, Found, Holding, IsBehind, IsCopiedIn}
+use Rattle.node_core.proofs.Names.{IsKept, IsPartCopied, IsReady, IsSound, IsVerdict, LeavesOutside, List, Manifest, None, Option}
+use Rattle.node_core.proofs.Names.{Prepared, Some, StoredTransfer, Transfer as NodeTransfer, TransferData, TransferExit, and_parts, ap}
+use Rattle.node_core.proofs.Names.{arith, block_limit, content-here, content_of, each-both, each-imp, each-unmap, eqb-false}
+use Rattle.node_core.proofs.Names.{exit_refusals, find, first_refusal, found-has, found_of, front_slice, goes_to, header-means, inl}
+use Rattle.node_core.proofs.Names.{inr, is_of, length, length-take, map, nat_tests, node_of, not, not-true, option_map, option_map_or}
+use Rattle.node_core.proofs.Names.{overwritten, package_limit, package_reading, put-leaves, refl, slice-overwritten, slice_range}
+use Rattle.node_core.proofs.Names.{slots_differ, slots_of, stored_of, subst, sym, take, transfer-stands, transfer_limit}
+use Rattle.node_core.proofs.Names.{transfer_meaning, true, units_done, with_content, zero-add, [], ℕ, ◌*◌, ◌+◌, ◌<◌, ◌==◌, ◌∙◌, ◌∷◌}
+use Rattle.node_core.proofs.Names.{◌≡◌, ◌≢◌, ◌≤◌, ◌⊎◌}
 use Rattle.pm_types.specs.Validity.{IsSound as IsSoundTransfer}
 use Rattle.transfer_blocks.specs.declared.area.Area.TheVariants.{Transfer}
 use Rattle.node_core.specs.declared.prepared.Prepared.TheVariants.{Verdict as Judged}
@@ -21,28 +21,17 @@ use Rattle.node_core.proofs.Sound.{table-is}
 pub apart : (client id : ℕ) (ts : List StoredTransfer) (u : StoredTransfer) → slots_differ (slots_of ts) ≡ true
     → stored_of ts client id ≡ Some u → AllByRecursion (λ t. (t.slot ≢ u.slot) ⊎ (t ≡ u)) ts
 apart client id [] u d e = tt
-apart client id (t ∷ ts) u d e = go (is_of client id t.header) e (apart client id ts u (and_parts _ _ d).1)
-  where
-    rest : AllByRecursion (λ v. v.slot ≢ t.slot) ts
-    rest =
-        each-unmap (λ n. n ≢ t.slot) (λ (v : StoredTransfer). v.slot) ts
-        (each-imp _ _ (λ n k. eqb-false n t.slot (not-true _ k)) (slots_of ts) (all-each (λ n. not (n == t.slot)) (slots_of ts) (and_parts _ _ d).0))
-
-    go : (b : Bool) → cond b (Some t) (stored_of ts client id) ≡ Some u
-        → (stored_of ts client id ≡ Some u → AllByRecursion (λ v. (v.slot ≢ u.slot) ⊎ (v ≡ u)) ts)
-        → AllByRecursion (λ v. (v.slot ≢ u.slot) ⊎ (v ≡ u)) (t ∷ ts)
-    go true k rec =
-        let same : t ≡ u = cc in
-        (inr same, each-imp _ _ (λ v differ. inl (subst (λ w. v.slot ≢ w.slot) same differ)) ts rest)
-    go false k rec =
-        (inl (λ same. (found-has (λ v. is_of client id v.header) (λ v. v.slot ≢ t.slot) ts u rest k).1 (sym same)), rec k)
+apart client id (t ∷ ts) u d e =
+    let parts = and_parts _ _ d in
+    let free = all-each (λ n. not (n == t.slot)) (slots_of ts) parts.0 in
+    let differ = each-imp _ (λ n. n ≢ t.slot) (λ n k. eqb-false n t.slot (not-true _ k)) (slots_of ts) free in
+    let rest = each-unmap (λ n. n ≢ t.slot) (λ (v : StoredTransfer). v.slot) ts differ in
+    grind (arith, apart client id ts u parts.1, rest, found-has (λ v. is_of client id v.header) (λ v. v.slot ≢ t.slot) ts u rest, each-imp)
 
 -- areas with other slots hold the same on every side
 side-stands : (v : Holding) (slots : List Bytes) (m : Manifest) (a : Action)
     → content_of (goes_to v.state m a) (record v.areas { slots = slots }) ≡ content_of (goes_to v.state m a) v.areas
-side-stands v slots m Install = refl
-side-stands v slots m Update = refl
-side-stands v slots m Remove = refl
+side-stands v slots m a = grind arith
 
 -- where they hold the same of each transfer the node is kept
 same-kept : (v : Holding) (slots : List Bytes) (faults : ℕ) (p : Prepared) → IsSound v → v.faults ≤ faults

@@ -1,10 +1,10 @@
 -- What stored transfers mean, and what a change of one of them changes of that.
 use Rattle.node_core.proofs.Names.{AllByRecursion, Areas, BeingProcessed, Found, Holding, IsCopiedIn, IsInOrder, IsPartCopied, IsSound}
-use Rattle.node_core.proofs.Names.{List, None, Option, Phase, Processed, Reading, Some, State, StoredTransfer, Transfer, Transferred}
-use Rattle.node_core.proofs.Names.{Transferring, and_parts, ap, arith, drop, each-both, each-imp, each-unmap, eqb-true, false, find}
-use Rattle.node_core.proofs.Names.{found-has, found_of, if◌then◌else◌, is_none, is_of, map, map-map, numbers_rise, option_map}
-use Rattle.node_core.proofs.Names.{package_reading, refl, rise-above, rise-tail, slice_range, stored_header, stored_of, subst, sym}
-use Rattle.node_core.proofs.Names.{take, take-add, transfer_meaning, true, with_length, [], ℕ, ◌++◌, ◌+◌, ◌-◌, ◌<◌, ◌==◌, ◌∙◌, ◌∷◌, ◌≡◌}
+use Rattle.node_core.proofs.Names.{List, Option, Phase, Reading, Some, State, StoredTransfer, Transfer, ap, arith, drop, each-both}
+use Rattle.node_core.proofs.Names.{each-imp, each-unmap, false, find, found-has, found_of, if◌then◌else◌, is_none, is_of, map, map-map}
+use Rattle.node_core.proofs.Names.{numbers_rise, option_map, package_reading, rise-above, rise-tail, slice_range, stored_header}
+use Rattle.node_core.proofs.Names.{stored_of, subst, sym, take, take-add, transfer_meaning, true, with_length, [], ℕ, ◌++◌, ◌+◌, ◌-◌}
+use Rattle.node_core.proofs.Names.{◌<◌, ◌==◌, ◌∙◌, ◌∷◌, ◌≡◌}
 use Rattle.node_core.proofs.Lists.{every, find-map, change-map}
 
 abbrev pub ids : List StoredTransfer → List ℕ
@@ -16,8 +16,7 @@ found client id ts = find (λ t. is_of client id t.header) ts
 -- a transfer that is found has the id and the client
 pub found-is : (client id : ℕ) (ts : List StoredTransfer) (u : StoredTransfer) → found client id ts ≡ Some u → (u.header.id ≡ id) × (u.header.client ≡ client)
 found-is client id ts u e =
-    let own = and_parts (u.header.id == id) (u.header.client == client) (found-has (λ t. is_of client id t.header) (λ _. Unit {0}) ts u (every (λ _. tt) ts) e).0 in
-    (eqb-true _ _ own.0, eqb-true _ _ own.1)
+    grind (arith, found-has (λ t. is_of client id t.header) (λ _. Unit {0}) ts u (every (λ _. tt) ts))
 
 -- and is the only one of its id
 pub only : (client id : ℕ) (ts : List StoredTransfer) (u : StoredTransfer) → numbers_rise (ids ts) ≡ true → found client id ts ≡ Some u → AllByRecursion (λ t. (t.header.id == id) ≡ true → t ≡ u) ts
@@ -43,12 +42,7 @@ some-stored o e = grind arith
 
 -- the header of a look-up
 pub found-header : (ts : List StoredTransfer) (client id : ℕ) → stored_header ts client id ≡ option_map (λ (f : Found). f.header) (found_of ts client id)
-found-header ts client id = of (stored_of ts client id)
-  where
-    of : (o : Option StoredTransfer) → option_map (λ t. t.header) o
-        ≡ option_map (λ (f : Found). f.header) (option_map (λ t. record { header = t.header; slot = t.slot }) o)
-    of None = refl
-    of (Some t) = refl
+found-header ts client id = grind arith
 
 -- a part with its payload's length, of the bytes behind those that came
 pub staged-bytes : (came n : ℕ) (content block : List ℕ) → slice_range content came (came + n) ≡ block → take (came + n) content ≡ take came content ++ block
@@ -81,10 +75,7 @@ found-fact P areas client id ts u each e =
 pub copied-when : (areas : Areas) (s : State) (t : StoredTransfer) (phase : Phase)
     → (phase ≡ BeingProcessed → AllByRecursion (IsPartCopied areas s) (transfer_meaning package_reading areas t).parts)
     → IsCopiedIn package_reading areas s t phase
-copied-when areas s t BeingProcessed each = each refl
-copied-when areas s t Transferring each = tt
-copied-when areas s t Transferred each = tt
-copied-when areas s t Processed each = tt
+copied-when areas s t phase each = grind arith
 
 -- a state is in order by what its transfers mean
 pub read-order : (old new : Areas) (s : State)
