@@ -1,13 +1,12 @@
 -- Where a call leads, a stored node stands for the node there, and stays in order.
 use Rattle.node_core.proofs.Names.{Action, AllByRecursion, Area, Areas, Bytes, Call, Change, CleanUp, CleaningUp, Cluster, Done, Extent}
-use Rattle.node_core.proofs.Names.{Goal, Holding, IfSome, Install, IsCopied, IsCopiedIn, IsInOrder, IsJudged, IsSound, List, Manifest}
-use Rattle.node_core.proofs.Names.{NodeState, None, Old, OnlyLeads, Option, Outcome, Part, Prepared, Ready, Refusal, Refused, Remove}
-use Rattle.node_core.proofs.Names.{Reply, Resume, RunsWhatItShould, SessionOf, Side, Some, State, Status, StoredTransfer, To, Update}
-use Rattle.node_core.proofs.Names.{acceptance, accepted, all_places, ap, arith, arrive, arrived, block_limit, cleaning_up, cluster_at}
-use Rattle.node_core.proofs.Names.{content_of, each-imp, find, first_refusal, goes_to, led_by, list_any, meaning, node_of, not}
-use Rattle.node_core.proofs.Names.{option_map_or, package_reading, places_in, refl, refusal_by, refused_or, running_at}
-use Rattle.node_core.proofs.Names.{session_refusals, should_run, status_table, subst, sym, take, units_done, unwrap_or, verdict_on, []}
-use Rattle.node_core.proofs.Names.{ℕ, ◌*◌, ◌-◌, ◌==◌, ◌∙◌, ◌∷◌, ◌≡◌}
+use Rattle.node_core.proofs.Names.{Goal, Holding, IfSome, IsCopied, IsCopiedIn, IsInOrder, IsJudged, IsSound, List, Manifest, NodeState}
+use Rattle.node_core.proofs.Names.{None, Old, OnlyLeads, Option, Outcome, Part, Prepared, Ready, Refusal, Refused, Reply, Resume}
+use Rattle.node_core.proofs.Names.{RunsWhatItShould, SessionOf, Some, State, Status, StoredTransfer, To, acceptance, accepted, ap}
+use Rattle.node_core.proofs.Names.{arith, arrive, arrived, block_limit, cleaning_up, cluster_at, content_of, each-imp, first_refusal}
+use Rattle.node_core.proofs.Names.{goes_to, led_by, meaning, node_of, option_map_or, package_reading, places_in, refl, refusal_by}
+use Rattle.node_core.proofs.Names.{refused_or, running_at, session_refusals, should_run, status_table, subst, sym, take, units_done}
+use Rattle.node_core.proofs.Names.{verdict_on, [], ℕ, ◌*◌, ◌-◌, ◌∙◌, ◌∷◌, ◌≡◌}
 use Rattle.pm_types.specs.declared.calls.Call.TheVariants as call
 use Rattle.node_core.proofs.Stored.{copied-when}
 
@@ -28,10 +27,7 @@ running-by s n ran m =
 
 -- a payload goes to the same side by the same clusters and places
 pub goes-by : (s n : State) → n.running ≡ s.running → places_in n ≡ places_in s → (m : Manifest) (a : Action) → goes_to n m a ≡ goes_to s m a
-goes-by s n ran places m Install =
-    ap (λ pairs. Side (unwrap_or (find (λ place. not (list_any (λ taken. taken.1 == place) pairs)) all_places) 0) 0) places
-goes-by s n ran places m Update = ap (λ (e : Extent). Side e.place (1 - e.side)) (running-by s n ran m)
-goes-by s n ran places m Remove = ap (λ (e : Extent). Side e.place e.side) (running-by s n ran m)
+goes-by s n ran places m a = grind (arith, ran, places)
 
 -- so what is copied stays copied while as many units are done
 pub copied-by : (areas : Areas) (s n : State) → units_done n ≡ units_done s → n.running ≡ s.running → places_in n ≡ places_in s

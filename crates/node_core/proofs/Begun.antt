@@ -110,8 +110,7 @@ module _ (v : Holding) (sound : IsSound v) (client id tag : ℕ) (u : StoredTran
     where
       go : (o : Option (SessionOf Extent)) → session_meaning v.areas (taken_up id (takes_up o))
           ≡ record (unwrap_or (option_map (session_meaning v.areas) o) (new_session (node_of v) client tag)) { processing = Some id; units_done = 0 }
-      go None = refl
-      go (Some x) = refl
+      go o = grind arith
 
   begun-order : IsInOrder package_reading v.areas next
   begun-order = go v.state.session refl sound.order

@@ -66,7 +66,7 @@ stand old new limit k (c ∷ cs) same few =
 
 placed-append : (k : ℕ) (cs : List (Cluster Bytes)) (c : Cluster Bytes) → placed_from k (cs ++ c ∷ []) ≡ placed_from k cs ++ placed (k + length cs) c ∷ []
 placed-append k [] c = ap (λ n. placed n c ∷ []) (omega arith)
-placed-append k (d ∷ cs) c = ap (λ l. placed k d ∷ l) (placed-append (k + 1) cs c ∙ ap (λ n. placed_from (k + 1) cs ++ placed n c ∷ []) (omega arith))
+placed-append k (d ∷ cs) c = grind (arith, placed-append (k + 1) cs c)
 
 -- one cluster more
 module _ (areas : Areas) (fit : AreasFit areas) (stored : List (Cluster Extent)) (cs : List (Cluster Bytes)) (c : Cluster Bytes) (is : AreInstalled areas stored cs) (few : length cs < cluster_limit) where

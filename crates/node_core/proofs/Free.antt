@@ -2,10 +2,10 @@
 use Rattle.node_core.proofs.Names.{AllByRecursion, Bool, Cluster, Extent, Holding, List, None, Option, SessionOf, Some, State, Within}
 use Rattle.node_core.proofs.Names.{all_differ, all_places, and_parts, ap, arith, beq, booleans_Decides, both_true, bytes_eq}
 use Rattle.node_core.proofs.Names.{change_place, cluster_limit, cluster_place, different_names, each-both, each-imp, each-map}
-use Rattle.node_core.proofs.Names.{each-unmap, eq-eqb, eq-name, eqb-true, false, find, found-has, has-within, has_name, length}
-use Rattle.node_core.proofs.Names.{list_all, list_any, list_any-append, list_any-map, map, name-swap, names_fit_places, nat_tests}
-use Rattle.node_core.proofs.Names.{none-passes, not, not-false, option_map_or, places_in, refl, session_takes, slots_differ, sym, true}
-use Rattle.node_core.proofs.Names.{within-self, within-trans, [], ℕ, ◌++◌, ◌==◌, ◌||◌, ◌∙◌, ◌∷◌, ◌≡◌, ◌≤◌}
+use Rattle.node_core.proofs.Names.{each-unmap, eq-eqb, eq-name, false, find, found-has, has-within, has_name, length, list_all}
+use Rattle.node_core.proofs.Names.{list_any, list_any-append, list_any-map, map, name-swap, names_fit_places, nat_tests, none-passes}
+use Rattle.node_core.proofs.Names.{not, not-false, option_map_or, places_in, refl, session_takes, slots_differ, sym, true, within-self}
+use Rattle.node_core.proofs.Names.{within-trans, [], ℕ, ◌++◌, ◌==◌, ◌||◌, ◌∙◌, ◌∷◌, ◌≡◌, ◌≤◌}
 use Rattle.node_core.proofs.Lists.{all-each, each-all, any-found, none-any}
 use Rattle.node_core.proofs.Named.{differ-few, none-named}
 
@@ -58,8 +58,7 @@ module _ (pairs : List Pair) (fit : AllByRecursion (FitsAll pairs) pairs) where
       let b = any-found (λ (x : Pair). x.1 == q) pairs t in
       let at-a = found-has (λ (x : Pair). x.1 == p) (FitsAll pairs) pairs a.0 fit a.1 in
       let at-b = found-has (λ (x : Pair). x.1 == q) (λ (x : Pair). bytes_eq a.0.0 x.0 ≡ (a.0.1 == x.1)) pairs b.0 at-a.1 b.1 in
-      (λ i. bytes_eq (option_map_or (λ (x : Pair). x.0) (a.1 i) []) (option_map_or (λ (x : Pair). x.0) (b.1 i) []))
-      ∙ at-b.1 ∙ (λ i. eqb-true _ _ at-a.0 i == eqb-true _ _ at-b.0 i)
+      grind (arith, nat_tests, a.1, b.1, at-a.0, at-b)
 
   name-in : (p : ℕ) → is_taken pairs p ≡ true → has_name (map (λ (a : Pair). a.0) pairs) (name_at pairs p) ≡ true
   name-in p t =

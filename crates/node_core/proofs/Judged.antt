@@ -1,17 +1,16 @@
 -- A call on the table of transfers is judged as the node's table says.
-use Rattle.node_core.proofs.Names.{AllByRecursion, Areas, Bad, Call, DeleteTransfer, Done, Err, ExitVerdict, Good, Holding, IsBehind}
-use Rattle.node_core.proofs.Names.{IsCopied, IsCopiedIn, IsInOrder, IsJudged, IsReady, IsSound, IsTable, IsVerdictKept, List, None, Ok}
-use Rattle.node_core.proofs.Names.{Option, Prepared, Refusal, Reply, Some, Started, StoredTransfer, Table, Transfer, TransferData}
-use Rattle.node_core.proofs.Names.{TransferExit, TransferStart, Transferred, Transferring, Verdict, acceptance, accepted, after_reply}
-use Rattle.node_core.proofs.Names.{ap, bad_refusal, both-none, data_refusals, delete_refusals, each-append, each-both, each-filter}
+use Rattle.node_core.proofs.Names.{AllByRecursion, Areas, Call, DeleteTransfer, Done, ExitVerdict, Holding, IsBehind, IsCopied}
+use Rattle.node_core.proofs.Names.{IsCopiedIn, IsInOrder, IsJudged, IsReady, IsSound, IsTable, IsVerdictKept, List, None, Option}
+use Rattle.node_core.proofs.Names.{Prepared, Refusal, Reply, Some, Started, StoredTransfer, Table, Transfer, TransferData, TransferExit}
+use Rattle.node_core.proofs.Names.{TransferStart, Transferred, Transferring, Verdict, acceptance, accepted, after_reply, ap, arith}
+use Rattle.node_core.proofs.Names.{bad_refusal, both-none, data_refusals, delete_refusals, each-append, each-both, each-filter}
 use Rattle.node_core.proofs.Names.{each-imp, exit_refusals, filter-means, first_refusal, found-has, good_parts, grown, header-means}
 use Rattle.node_core.proofs.Names.{header_of, if◌then◌else◌, in_phase, is-transferring, is_in, is_of, length, length-map, map}
 use Rattle.node_core.proofs.Names.{map-append, node_of, not, not-false, option_map, option_map_or, option_or, package_reading}
-use Rattle.node_core.proofs.Names.{parts_read, phase_code, received, refl, refusal_by, refused_or, rows-clear, slice_index_or}
-use Rattle.node_core.proofs.Names.{some_passes, start_refusals, stored_header, stored_of, subst, sym, table_of, take, transfer_meaning}
-use Rattle.node_core.proofs.Names.{transfer_of, unless_refused, verdict_in, verdict_kept, verdict_on, verdict_refusal, whole}
-use Rattle.node_core.proofs.Names.{with_fresh, with_length, with_stored, with_table, with_transfer, without, [], ℕ, ◌++◌, ◌+◌, ◌==◌}
-use Rattle.node_core.proofs.Names.{◌∙◌, ◌≡◌}
+use Rattle.node_core.proofs.Names.{parts_read, received, refl, refusal_by, refused_or, rows-clear, slice_index_or, some_passes}
+use Rattle.node_core.proofs.Names.{start_refusals, stored_header, stored_of, subst, sym, table_of, take, transfer_meaning, transfer_of}
+use Rattle.node_core.proofs.Names.{unless_refused, verdict_in, verdict_kept, verdict_on, verdict_refusal, whole, with_fresh}
+use Rattle.node_core.proofs.Names.{with_length, with_stored, with_table, with_transfer, without, [], ℕ, ◌++◌, ◌+◌, ◌==◌, ◌∙◌, ◌≡◌}
 use Rattle.node_core.proofs.Arrived.{refused-judged}
 use Rattle.node_core.proofs.Stored.{rise, found-is, only-has, changed-means, found-means, some-stored, staged-bytes}
 use Rattle.node_core.proofs.Lists.{change-each}
@@ -48,27 +47,17 @@ data-same v client id counter block =
 
 -- a transfer that isn't whole has no parts yet
 early : (areas : Areas) (t : StoredTransfer) → t.header.phase ≡ Transferring → (transfer_meaning package_reading areas t).parts ≡ []
-early areas t e =
-    let bytes = take t.header.received (slice_index_or areas.slots t.slot []) in
-    ap (λ p. if phase_code p == 0 then [] else parts_read (package_reading bytes)) e
+early areas t e = grind arith
 
 -- a verdict that is ready refuses as the bytes do
 same-verdict : (o : Option Refusal) (kept : Option ExitVerdict) (w : Verdict) → (o ≡ None → IsVerdictKept kept w)
     → option_or o (verdict_refusal w) ≡ option_or o (bad_refusal (verdict_in kept))
-same-verdict (Some r) kept w ready = refl
-same-verdict None kept w ready = of kept w (ready refl)
-  where
-    of : (kept : Option ExitVerdict) (w : Verdict) → IsVerdictKept kept w → verdict_refusal w ≡ bad_refusal (verdict_in kept)
-    of (Some (Good c)) (Ok parts) r = refl
-    of (Some (Bad r)) (Err why) e = ap Some (sym e)
-    of _ _ r = elim r [ ]
+same-verdict o kept w ready = grind arith
 
 -- the parts of a good verdict are those of the bytes
 good-parts-are : (kept : Option ExitVerdict) (w : Verdict) → IsVerdictKept kept w → bad_refusal (verdict_in kept) ≡ None
     → good_parts (verdict_in kept) ≡ map with_length (parts_read w)
-good-parts-are (Some (Good c)) (Ok parts) e k = sym e
-good-parts-are (Some (Bad r)) w e k = absurd (cc)
-good-parts-are _ _ e k = elim e [ ]
+good-parts-are kept w e k = grind arith
 
 -- a node by its parts, and a client
 module _ {v w : Holding} (e : v ≡ w) (sound : IsSound w) (client : ℕ) where

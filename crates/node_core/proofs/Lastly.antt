@@ -5,15 +5,14 @@ use Rattle.node_core.proofs.Names.{Prepared, Processed, Processing, Ready, Remov
 use Rattle.node_core.proofs.Names.{Table, Transfer, Update, Within, all_differ, all_places, ap, append-nil, applies, arith, block_limit}
 use Rattle.node_core.proofs.Names.{bytes_eq, change_kept, change_meaning, change_place, change_to, cluster_at, cluster_limit}
 use Rattle.node_core.proofs.Names.{cluster_meaning, cluster_of, cluster_place, content_of, different_names, each-append, each-first}
-use Rattle.node_core.proofs.Names.{each-imp, each-map, each-unmap, eq-eqb, extent_in, false, found-has, goes_to, has-append}
-use Rattle.node_core.proofs.Names.{has_cluster, has_name, if◌then◌else◌, is_in, is_of, le-ltb, length, length-append, length-map}
-use Rattle.node_core.proofs.Names.{length-take, lowest_free, lt-ltb, ltb-false, ltb-true, map, map-append, map-map, moved as moved_to}
-use Rattle.node_core.proofs.Names.{name-eq, names_fit_places, nat_lt, nat_tests, node_of, not, not-true, on_side, option_map_or}
-use Rattle.node_core.proofs.Names.{package_limit, package_reading, parts_in, phase_code, places_in, refl, running_at, session_meaning}
-use Rattle.node_core.proofs.Names.{slice_index_or, stored_of, stored_units, subst, suits, sym, table_of, take, take_all, takes_side}
-use Rattle.node_core.proofs.Names.{transfer_meaning, true, unit_end, units_of, unwrap_or, with_length, with_stored, with_table}
-use Rattle.node_core.proofs.Names.{within-left, within-right, within-self, [], ℕ, ◌*◌, ◌++◌, ◌+◌, ◌-◌, ◌<◌, ◌==◌, ◌^◌, ◌||◌, ◌∙◌, ◌∷◌}
-use Rattle.node_core.proofs.Names.{◌≡◌, ◌≤◌}
+use Rattle.node_core.proofs.Names.{each-imp, each-map, each-unmap, extent_in, false, found-has, goes_to, has-append, has_cluster}
+use Rattle.node_core.proofs.Names.{has_name, if◌then◌else◌, is_in, is_of, le-ltb, length, length-append, length-map, length-take}
+use Rattle.node_core.proofs.Names.{lowest_free, lt-ltb, ltb-false, ltb-true, map, map-append, map-map, moved as moved_to, name-eq}
+use Rattle.node_core.proofs.Names.{names_fit_places, nat_lt, nat_tests, node_of, not, not-true, on_side, option_map_or, package_limit}
+use Rattle.node_core.proofs.Names.{package_reading, parts_in, phase_code, places_in, refl, running_at, session_meaning, slice_index_or}
+use Rattle.node_core.proofs.Names.{stored_of, stored_units, subst, suits, sym, table_of, take, take_all, takes_side, transfer_meaning}
+use Rattle.node_core.proofs.Names.{true, unit_end, units_of, unwrap_or, with_length, with_stored, with_table, within-left, within-right}
+use Rattle.node_core.proofs.Names.{within-self, [], ℕ, ◌*◌, ◌++◌, ◌+◌, ◌-◌, ◌<◌, ◌==◌, ◌^◌, ◌||◌, ◌∙◌, ◌∷◌, ◌≡◌, ◌≤◌}
 use Rattle.node_core.proofs.Lists.{all-each, each-all, any-found, each-second}
 use Rattle.node_core.proofs.Named.{differ-before, has-named, differ-few}
 use Rattle.node_core.proofs.Phased.{phased-means, phased-placed, phased-slots}
@@ -211,21 +210,8 @@ module _ (v : Holding) (x : SessionOf Extent) (id : ℕ) (sound : IsSound (at_pr
   -- and on its side
   change-side : (a : Action) → takes_side a (change_at a).part.payload.side (cluster_at x.saved name) ≡ true
   change-side Install = refl
-  change-side Update =
-      ap (λ cs. takes_side Update (1 - (lies (cluster_at cs name)).side) (cluster_at x.saved name)) runs ∙ go (cluster_at x.saved name)
-    where
-      other : (n : ℕ) → not (n == 1 - n) ≡ true
-      other n = grind (arith, nat_tests)
-
-      go : (o : Option (Cluster Extent)) → takes_side Update (1 - (lies o).side) o ≡ true
-      go None = refl
-      go (Some c) = other c.content.side
-  change-side Remove =
-      ap (λ cs. takes_side Remove (lies (cluster_at cs name)).side (cluster_at x.saved name)) runs ∙ go (cluster_at x.saved name)
-    where
-      go : (o : Option (Cluster Extent)) → takes_side Remove (lies o).side o ≡ true
-      go None = refl
-      go (Some c) = eq-eqb c.content.side c.content.side refl
+  change-side Update = subst (λ cs. takes_side Update (1 - (lies (cluster_at cs name)).side) (cluster_at x.saved name) ≡ true) (sym runs) (grind (arith, nat_tests))
+  change-side Remove = subst (λ cs. takes_side Remove (lies (cluster_at cs name)).side (cluster_at x.saved name) ≡ true) (sym runs) (grind (arith, nat_tests))
 
   -- a payload is no longer than a package
   pub short : size ≤ package_limit
@@ -273,8 +259,7 @@ module _ (v : Holding) (x : SessionOf Extent) (id : ℕ) (sound : IsSound (at_pr
 
       by : (t : StoredTransfer) (b : Bool) → (t.header.id == id) ≡ b → is_in BeingProcessed t.header ≡ (id == t.header.id)
           → is_in BeingProcessed (if b then moved_to Processed t else t).header ≡ false
-      by t true e due = refl
-      by t false e due = due ∙ flip t.header.id e
+      by t b e due = grind (arith, nat_tests, flip)
 
   -- the last unit
   pub last-unit : (passed : Bool) (p : Prepared) → IsUnitReady Processing (at_process v x id) (busy x id)

@@ -54,8 +54,7 @@ cluster-more c cs changes =
 pub change-more : (change : Change Extent) (changes : List (Change Extent))
     → count_of [] (change ∷ changes) ≡ added [] changes (cluster_of change.part) + count_of [] changes
 change-more change changes =
-    one-named (changed_names changes) (cluster_of change.part)
-    ∙ ap (λ b. (if b then 0 else 1) + count_of [] changes) (has-named (λ (d : Change Extent). cluster_of d.part) changes (cluster_of change.part))
+    grind (arith, one-named (changed_names changes), has-named (λ (c : Change Extent). cluster_of c.part) changes (cluster_of change.part))
 
 pub one-at-most : (clusters : List (Cluster Extent)) (changes : List (Change Extent)) (name : List ℕ) → added clusters changes name ≤ 1
 one-at-most clusters changes name = grind arith
@@ -68,10 +67,7 @@ rest_of xs = take (length xs - 1) (drop 1 xs)
 module _ {X : Type 0} (total : List X → ℕ) (more : List X → X → ℕ) (step : (x : X) (xs : List X) → total (x ∷ xs) ≡ more xs x + total xs) where
   pub counted-on : (xs : List X) (x : X) (count n : ℕ) → 1 ≤ length xs → x ≡ get_or xs 0 x → count + total xs ≡ n → count + more (rest_of xs) x + total (rest_of xs) ≡ n
   counted-on [] x count n some is sum = absurd (omega (arith, some))
-  counted-on (y ∷ ys) x count n some is sum =
-      let next = step y ys in
-      let here : count + more ys y + total ys ≡ n = omega (arith, sum, next) in
-      subst (λ l. count + more l x + total l ≡ n) (sym (take_rest (y ∷ ys) 1)) (subst (λ z. count + more ys z + total ys ≡ n) (sym is) here)
+  counted-on (y ∷ ys) x count n some is sum = grind (arith, step y ys, take_rest (y ∷ ys) 1)
 
 pub fewer-on : {X : Type 0} (xs : List X) → 1 ≤ length xs → length (rest_of xs) + 1 ≡ length xs
 fewer-on [] some = absurd (omega (arith, some))

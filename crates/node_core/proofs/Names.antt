@@ -47,8 +47,7 @@ pub use Rattle.pm_types.specs.Stored.{cluster_place, fresh_state, meaning, names
 pub use Rattle.pm_types.specs.Stored.{slots_differ, takes_side, transfer_meaning}
 pub use Rattle.pm_types.specs.Transfers.{Verdict, data_refusals, delete_refusals, exit_refusals, grown, header_of, ids_of, in_phase, is_of}
 pub use Rattle.pm_types.specs.Transfers.{parts_of, parts_read, start_refusals, transfer_of, verdict_refusal, with_phase, with_transfer}
-pub use Rattle.pm_types.specs.Validity.{IsWholeFromTransferred, RunsWhatItShould, SessionIsDue, id_in_processing, numbers_rise, parts_in}
-pub use Rattle.pm_types.specs.Validity.{should_run}
+pub use Rattle.pm_types.specs.Validity.{IsWholeFromTransferred, RunsWhatItShould, id_in_processing, numbers_rise, parts_in, should_run}
 pub use Rattle.pm_types.specs.Work.{end_mark, processed, unit}
 pub use Rattle.pm_types.specs.declared.calls.Call.{Call}
 pub use Rattle.pm_types.specs.declared.calls.Call.TheVariants.{Activate, Cancel, DeleteTransfer, ProcessSwPackage, TransferData}
@@ -83,13 +82,13 @@ pub use Rattle.pm_types.specs.declared.status.Status.TheVariants.{RollingBack, V
 pub use Rattle.pm_types.specs.declared.transfers.ExitVerdict.{ExitVerdict}
 pub use Rattle.pm_types.specs.declared.transfers.ExitVerdict.TheVariants.{Bad, Good}
 pub use Rattle.std.proofs.Common.{Bool, Err, IfOk, IfSome, IsSomeAnd, IsTrue, List, None, Ok, OnOk, Option, Result, Some, ap, append-nil}
-pub use Rattle.std.proofs.Common.{append_assoc, ap₂, arith, cond, drop, drop-drop, false, filter, find, fold, get_or, if◌then◌else◌, inl}
-pub use Rattle.std.proofs.Common.{inr, is_none, is_some, length, length-append, length-drop, length-take, map, min, nat_le, nat_lt, not}
+pub use Rattle.std.proofs.Common.{append_assoc, ap₂, arith, cond, drop, drop-drop, false, filter, find, fold, get_or, if◌then◌else◌}
+pub use Rattle.std.proofs.Common.{is_none, is_some, length, length-append, length-drop, length-take, map, min, nat_le, nat_lt, not}
 pub use Rattle.std.proofs.Common.{option_map, refl, slice_index_or, slice_range, slice_set, subst, sym, take, take-take, take_all, true}
 pub use Rattle.std.proofs.Common.{unwrap_or, zero-add, [], ℕ, ⊎_elim, ◌&&◌, ◌*◌, ◌++◌, ◌+◌, ◌-◌, ◌<◌, ◌==◌, ◌^◌, ◌||◌, ◌∙◌, ◌∷◌, ◌≡◌, ◌≢◌}
 pub use Rattle.std.proofs.Common.{◌≤◌, ◌⊎◌}
 pub use Rattle.std.proofs.Math.Seq.{take-add}
-pub use Rattle.std.proofs.lemmas.Bool.{and_parts, eq-eqb, eqb-false, eqb-true, le-ltb, lt-ltb, ltb-false, ltb-true}
+pub use Rattle.std.proofs.lemmas.Bool.{and_parts, eq-eqb, eqb-false, le-ltb, lt-ltb, ltb-false, ltb-true}
 pub use Rattle.std.proofs.lemmas.Bool.Decides.{nat_tests}
 pub use Rattle.std.proofs.lemmas.Cmp.{nat_list_cmp_total}
 pub use Rattle.std.proofs.lemmas.List.{drop-take, length-map, map-append, take_min, take_rest}

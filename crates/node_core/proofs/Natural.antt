@@ -1,6 +1,6 @@
 -- What is said of names, versions and needs is the same of where contents lie as of the contents.
 use Rattle.node_core.proofs.Names.{Action, ActionNotApplicable, Areas, Bool, Bytes, Change, Cluster, ClusterAlreadyChanged, Extent}
-use Rattle.node_core.proofs.Names.{Install, List, None, OldVersion, Option, Part, Remove, Some, TooManyClusters, Update, ap, brought}
+use Rattle.node_core.proofs.Names.{Install, List, OldVersion, Option, Part, Remove, TooManyClusters, Update, ap, arith, brought}
 use Rattle.node_core.proofs.Names.{bytes_eq, change_meaning, changed_as, changed_by, cluster_at, cluster_limit, cluster_meaning}
 use Rattle.node_core.proofs.Names.{cluster_of, different_names, filter, first_refusal, has_cluster, is_install, is_newer, is_update}
 use Rattle.node_core.proofs.Names.{length, list_any-map, map, map-append, map-map, missing, name_lt, nat_le, not, option_map, option_or}
@@ -9,8 +9,7 @@ use Rattle.node_core.proofs.Names.{with_length, [], ℕ, ◌&&◌, ◌++◌, ◌
 use Rattle.node_core.proofs.Lists.{filter-map, find-map}
 
 passes-map : {X Y : Type 0} (p : Y → Bool) (f : X → Y) (o : Option X) → some_passes p (option_map f o) ≡ some_passes (λ x. p (f x)) o
-passes-map p f None = refl
-passes-map p f (Some x) = refl
+passes-map p f o = grind arith
 
 module _ (areas : Areas) where
   abbrev means : List (Cluster Extent) → List (Cluster Bytes)

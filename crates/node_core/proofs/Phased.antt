@@ -89,8 +89,7 @@ module _ (v : Holding) (sound : IsSound v) (client id : ℕ) (u : StoredTransfer
     where
       go : (o : Option (SessionOf Extent)) → option_map (session_meaning v.areas) (option_map paused o)
           ≡ option_map (λ (x : Session). record x { processing = None }) (option_map (session_meaning v.areas) o)
-      go None = refl
-      go (Some x) = refl
+      go o = grind arith
 
   stopped-order : (o : Option (SessionOf Extent)) → IsInOrder package_reading v.areas (with o) → IsInOrder package_reading v.areas (stopped id (with o))
   stopped-order None i = record {

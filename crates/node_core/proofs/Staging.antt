@@ -3,12 +3,11 @@ use Rattle.node_core.proofs.Names.{Action, AllByRecursion, Areas, AreasFit, Byte
 use Rattle.node_core.proofs.Names.{IsKept, IsPartCopied, IsReady, IsSound, IsVerdict, LeavesOutside, List, Manifest, None, Option}
 use Rattle.node_core.proofs.Names.{Prepared, Some, StoredTransfer, Transfer as NodeTransfer, TransferData, TransferExit, and_parts, ap}
 use Rattle.node_core.proofs.Names.{arith, block_limit, content-here, content_of, each-both, each-imp, each-unmap, eqb-false}
-use Rattle.node_core.proofs.Names.{exit_refusals, find, first_refusal, found-has, found_of, front_slice, goes_to, header-means, inl}
-use Rattle.node_core.proofs.Names.{inr, is_of, length, length-take, map, nat_tests, node_of, not, not-true, option_map, option_map_or}
-use Rattle.node_core.proofs.Names.{overwritten, package_limit, package_reading, put-leaves, refl, slice-overwritten, slice_range}
-use Rattle.node_core.proofs.Names.{slots_differ, slots_of, stored_of, subst, sym, take, transfer-stands, transfer_limit}
-use Rattle.node_core.proofs.Names.{transfer_meaning, true, units_done, with_content, zero-add, [], ℕ, ◌*◌, ◌+◌, ◌<◌, ◌==◌, ◌∙◌, ◌∷◌}
-use Rattle.node_core.proofs.Names.{◌≡◌, ◌≢◌, ◌≤◌, ◌⊎◌}
+use Rattle.node_core.proofs.Names.{exit_refusals, find, first_refusal, found-has, found_of, front_slice, goes_to, header-means, is_of}
+use Rattle.node_core.proofs.Names.{length, length-take, map, nat_tests, node_of, not, not-true, option_map, option_map_or, overwritten}
+use Rattle.node_core.proofs.Names.{package_limit, package_reading, put-leaves, refl, slice-overwritten, slice_range, slots_differ}
+use Rattle.node_core.proofs.Names.{slots_of, stored_of, subst, sym, take, transfer-stands, transfer_limit, transfer_meaning, true}
+use Rattle.node_core.proofs.Names.{units_done, with_content, zero-add, [], ℕ, ◌*◌, ◌+◌, ◌<◌, ◌==◌, ◌∙◌, ◌∷◌, ◌≡◌, ◌≢◌, ◌≤◌, ◌⊎◌}
 use Rattle.pm_types.specs.Validity.{IsSound as IsSoundTransfer}
 use Rattle.transfer_blocks.specs.declared.area.Area.TheVariants.{Transfer}
 use Rattle.node_core.specs.declared.prepared.Prepared.TheVariants.{Verdict as Judged}
@@ -78,8 +77,7 @@ module _ (v : Holding) (sound : IsSound v) (client id : ℕ) (u : StoredTransfer
       v.state.transfers sound.order.transfers (apart client id v.state.transfers u sound.order.slots e)
     where
       or-came : (t : StoredTransfer) → (t.slot ≢ u.slot) ⊎ (t ≡ u) → (t.slot ≢ u.slot) ⊎ (t.header.received ≤ u.header.received)
-      or-came t (inl differ) = inl differ
-      or-came t (inr same) = inr (omega (arith, ap (λ (x : StoredTransfer). x.header.received) same))
+      or-came t other = grind arith
 
 -- a call that is refused needs nothing
 pub refused-block : {v w : Holding} → v ≡ w → (client id counter : ℕ) (block : Bytes) → block_refusal v client id counter block ≢ None

@@ -1,7 +1,7 @@
 -- What stored transfers mean, and what a change of one of them changes of that.
 use Rattle.node_core.proofs.Names.{AllByRecursion, Areas, BeingProcessed, Found, Holding, IsCopiedIn, IsInOrder, IsPartCopied, IsSound}
-use Rattle.node_core.proofs.Names.{List, Option, Phase, Reading, Some, State, StoredTransfer, Transfer, ap, arith, drop, each-both}
-use Rattle.node_core.proofs.Names.{each-imp, each-unmap, false, find, found-has, found_of, if◌then◌else◌, is_none, is_of, map, map-map}
+use Rattle.node_core.proofs.Names.{List, Option, Phase, Reading, Some, State, StoredTransfer, Transfer, ap, arith, each-both, each-imp}
+use Rattle.node_core.proofs.Names.{each-unmap, false, find, found-has, found_of, if◌then◌else◌, is_none, is_of, map, map-map}
 use Rattle.node_core.proofs.Names.{numbers_rise, option_map, package_reading, rise-above, rise-tail, slice_range, stored_header}
 use Rattle.node_core.proofs.Names.{stored_of, subst, sym, take, take-add, transfer_meaning, true, with_length, [], ℕ, ◌++◌, ◌+◌, ◌-◌}
 use Rattle.node_core.proofs.Names.{◌<◌, ◌==◌, ◌∙◌, ◌∷◌, ◌≡◌}
@@ -46,9 +46,7 @@ found-header ts client id = grind arith
 
 -- a part with its payload's length, of the bytes behind those that came
 pub staged-bytes : (came n : ℕ) (content block : List ℕ) → slice_range content came (came + n) ≡ block → take (came + n) content ≡ take came content ++ block
-staged-bytes came n content block staged =
-    let width : came + n - came ≡ n = omega arith in
-    take-add came n content ∙ ap (λ l. take came content ++ l) (sym (ap (λ k. take k (drop came content)) width) ∙ staged)
+staged-bytes came n content block staged = grind (arith, take-add came n content)
 
 module _ (read : Reading) (areas : Areas) where
   -- what is found in what transfers mean is what the one that is found means

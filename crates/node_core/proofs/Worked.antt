@@ -2,8 +2,8 @@
 use Rattle.node_core.proofs.Names.{Activated, Activating, AllByRecursion, Areas, BeingProcessed, Bool, CleaningUp, Cluster, EndMark}
 use Rattle.node_core.proofs.Names.{Extent, Holding, Idle, IsCopied, IsExtent, IsFit, IsPlaced, IsReservedWork, IsSound, IsTable, IsUnit}
 use Rattle.node_core.proofs.Names.{IsUnitReady, List, None, Option, Outcome, Prepared, Processed, Processing, RolledBack, RollingBack}
-use Rattle.node_core.proofs.Names.{SessionIsDue, SessionOf, Some, State, Status, StoredTransfer, Table, Transfer, Verifying, after_work}
-use Rattle.node_core.proofs.Names.{ap, change_meaning, change_place, cleaned, cluster_place, clusters_kept, each-append, each-filter}
+use Rattle.node_core.proofs.Names.{SessionOf, Some, State, Status, StoredTransfer, Table, Transfer, Verifying, after_work, ap, arith}
+use Rattle.node_core.proofs.Names.{change_meaning, change_place, cleaned, cluster_place, clusters_kept, each-append, each-filter}
 use Rattle.node_core.proofs.Names.{each-first, each-imp, each-unmap, end_mark, false, filter-means, has_status, id_in_processing}
 use Rattle.node_core.proofs.Names.{if◌then◌else◌, is_in, is_some, keeps-fit, length, length-map, map, nat_lt, node_of, not, option_map}
 use Rattle.node_core.proofs.Names.{package_reading, phase_code, planned, refl, session_meaning, should_run, slice_set, some_passes}
@@ -36,8 +36,7 @@ none-processed v sound other =
     (each-unmap (λ (t : Transfer). is_in BeingProcessed t.header ≡ some_passes (λ id. id == t.header.id) (id_in_processing (node_of v))) (transfer_meaning package_reading v.areas) v.state.transfers due.each)
   where
     of : (o : Option ℕ) (t : StoredTransfer) → is_some o ≡ false → some_passes (λ id. id == t.header.id) o ≡ false
-    of None t e = refl
-    of (Some id) t e = absurd (cc)
+    of o t e = grind arith
 
 module _ (v w : Holding) (status : Status) (x : SessionOf Extent) (e : v ≡ w) (q : w.state.status ≡ status) (there : v.state.session ≡ Some x) where
   same-work : w ≡ at_work v status x
@@ -76,8 +75,7 @@ module _ (v : Holding) (x : SessionOf Extent) (p : Prepared) where
       after b = moved (if b then Verifying else Activated) (record x { verified = x.verified + 1 }) v.state.running
 
       runs : (more : Bool) → v.state.running ≡ should_run (record x { verified = x.verified + 1 }) (if more then Verifying else Activated) x.outcome
-      runs true = sound.order.running
-      runs false = sound.order.running
+      runs more = grind (arith, sound.order.running)
 
   -- other clusters run, with the places of those that were saved and of the changes
   rerun : (passed : Bool) (status next : Status) (verified : ℕ) (running : List (Cluster Extent)) → IsSound (at_work v status x)
@@ -131,14 +129,7 @@ module _ (v : Holding) (x : SessionOf Extent) (p : Prepared) where
 
 -- where a node rolls back it has a session
 session-there : (v : Holding) → IsSound v → v.state.status ≡ RollingBack → (x : SessionOf Extent) × (v.state.session ≡ Some x)
-session-there v sound q = of v.state.session refl
-  where
-    due : SessionIsDue RollingBack (option_map (session_meaning v.areas) v.state.session)
-    due = subst (λ st. SessionIsDue st (option_map (session_meaning v.areas) v.state.session)) q sound.fit.consistent.session
-
-    of : (o : Option (SessionOf Extent)) → v.state.session ≡ o → (x : SessionOf Extent) × (v.state.session ≡ Some x)
-    of (Some x) e = (x, e)
-    of None e = elim (subst (λ o. SessionIsDue RollingBack (option_map (session_meaning v.areas) o)) e due) [ ]
+session-there v sound q = grind (arith, sound.fit.consistent.session)
 
 -- the same, told of a node by its parts
 module _ {v w : Holding} (e : v ≡ w) (x : SessionOf Extent) (p : Prepared) (there : v.state.session ≡ Some x) (sound : IsSound w) where
@@ -178,8 +169,7 @@ module _ {v w : Holding} (e : v ≡ w) (x : SessionOf Extent) (p : Prepared) (th
       (unit-at v w CleaningUp x e q there passed _ (cleaned-unit v x p passed (sound-at v w CleaningUp x e q there sound) (subst IsTable is form)))
     where
       of : (o : Option Outcome) → option_map (λ (k : Outcome). record { tag = x.tag; outcome = k }) o ≡ end_mark (record (session_meaning v.areas x) { outcome = o })
-      of None = refl
-      of (Some k) = refl
+      of o = grind arith
 
 -- the saved clusters run again
 pub rolled_back : {v w : Holding} → v ≡ w → IsSound w → w.state.status ≡ RollingBack → IsReservedWork w
