@@ -3,10 +3,10 @@ use Rattle.node_core.proofs.Names.{Action, AllByRecursion, Area, Areas, Bytes, C
 use Rattle.node_core.proofs.Names.{Goal, Holding, IfSome, IsCopied, IsCopiedIn, IsInOrder, IsJudged, IsSound, List, Manifest, NodeState}
 use Rattle.node_core.proofs.Names.{None, Old, OnlyLeads, Option, Outcome, Part, Prepared, Ready, Refusal, Refused, Reply, Resume}
 use Rattle.node_core.proofs.Names.{RunsWhatItShould, SessionOf, Some, State, Status, StoredTransfer, To, acceptance, accepted, ap}
-use Rattle.node_core.proofs.Names.{arith, arrive, arrived, block_limit, cleaning_up, cluster_at, content_of, each-imp, first_refusal}
-use Rattle.node_core.proofs.Names.{goes_to, led_by, meaning, node_of, option_map_or, package_reading, places_in, refl, refusal_by}
-use Rattle.node_core.proofs.Names.{refused_or, running_at, session_refusals, should_run, status_table, subst, sym, take, units_done}
-use Rattle.node_core.proofs.Names.{verdict_on, [], ℕ, ◌*◌, ◌-◌, ◌∙◌, ◌∷◌, ◌≡◌}
+use Rattle.node_core.proofs.Names.{arith, arrive, arrived, block_limit, cleaning_up, content_of, each-imp, first_refusal, goes_to}
+use Rattle.node_core.proofs.Names.{led_by, meaning, node_of, option_map_or, package_reading, places_in, refl, refusal_by, refused_or}
+use Rattle.node_core.proofs.Names.{session_refusals, should_run, status_table, subst, sym, take, units_done, verdict_on, [], ℕ, ◌*◌}
+use Rattle.node_core.proofs.Names.{◌-◌, ◌∙◌, ◌∷◌, ◌≡◌}
 use Rattle.pm_types.specs.declared.calls.Call.TheVariants as call
 use Rattle.node_core.proofs.Stored.{copied-when}
 
@@ -19,11 +19,6 @@ refused-judged v client call why p sound refused = record {
   copied = sound.copied;
   entries = refl;
 }
-
--- the same cluster runs
-running-by : (s n : State) → n.running ≡ s.running → (m : Manifest) → running_at n m.name ≡ running_at s m.name
-running-by s n ran m =
-    ap (λ cs. option_map_or (λ (c : Cluster Extent). c.content) (cluster_at cs m.name) (record { place = 0; side = 0; length = 0 })) ran
 
 -- a payload goes to the same side by the same clusters and places
 pub goes-by : (s n : State) → n.running ≡ s.running → places_in n ≡ places_in s → (m : Manifest) (a : Action) → goes_to n m a ≡ goes_to s m a

@@ -254,12 +254,9 @@ module _ (v : Holding) (x : SessionOf Extent) (id : ℕ) (sound : IsSound (at_pr
       (each-unmap (λ (t : Transfer). is_in BeingProcessed t.header ≡ (id == t.header.id)) (transfer_meaning package_reading v.areas)
       v.state.transfers sound.fit.consistent.processing.each))
     where
-      flip : (n : ℕ) → (n == id) ≡ false → (id == n) ≡ false
-      flip n e = grind (arith, nat_tests, e)
-
       by : (t : StoredTransfer) (b : Bool) → (t.header.id == id) ≡ b → is_in BeingProcessed t.header ≡ (id == t.header.id)
           → is_in BeingProcessed (if b then moved_to Processed t else t).header ≡ false
-      by t b e due = grind (arith, nat_tests, flip)
+      by t b e due = grind (arith, nat_tests)
 
   -- the last unit
   pub last-unit : (passed : Bool) (p : Prepared) → IsUnitReady Processing (at_process v x id) (busy x id)

@@ -46,9 +46,9 @@ pub cluster-more : (c : Cluster Extent) (cs : List (Cluster Extent)) (changes : 
     → count_of (c ∷ cs) changes ≡ added cs changes c.name + count_of cs changes
 cluster-more c cs changes =
     let names = map (λ (d : Cluster Extent). d.name) cs in
-    one-named (names ++ changed_names changes) c.name
-    ∙ ap (λ b. (if b then 0 else 1) + count_of cs changes) (has-append names (changed_names changes) c.name
-    ∙ (λ i. has-named (λ (d : Cluster Extent). d.name) cs c.name i || has-named (λ (d : Change Extent). cluster_of d.part) changes c.name i))
+    let own = has-named (λ (d : Cluster Extent). d.name) cs c.name in
+    let planned = has-named (λ (d : Change Extent). cluster_of d.part) changes c.name in
+    grind (arith, one-named (names ++ changed_names changes) c.name, has-append names (changed_names changes) c.name, own, planned)
 
 -- a change more
 pub change-more : (change : Change Extent) (changes : List (Change Extent))

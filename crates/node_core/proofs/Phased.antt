@@ -109,8 +109,7 @@ module _ (v : Holding) (sound : IsSound v) (client id : ℕ) (u : StoredTransfer
       (copied-by v.areas (with o) (stopped id (with o)) (still o).0 refl (still o).1 v.state.transfers copied)
     where
       still : (o : Option (SessionOf Extent)) → (units_done (stopped id (with o)) ≡ units_done (with o)) × (places_in (stopped id (with o)) ≡ places_in (with o))
-      still None = (refl, refl)
-      still (Some x) = (refl, refl)
+      still o = grind arith
 
 -- Cancel
 pub cancel-judged : (v : Holding) (client id : ℕ) (reply : Reply) (goal : Goal) (w new : Holding) → IsSound v

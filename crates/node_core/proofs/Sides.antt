@@ -2,11 +2,11 @@
 use Rattle.node_core.proofs.Names.{Action, AllByRecursion, Area, Areas, AreasFit, Bool, Bytes, Change, Cluster, Extent, Holding}
 use Rattle.node_core.proofs.Names.{Install, IsArea, IsExtent, IsInOrder, IsSound, LeavesOutside, List, Remove, SessionOf, Side, Some}
 use Rattle.node_core.proofs.Names.{StoredTransfer, Update, ap, arith, bytes_eq, change_meaning, cluster_at, cluster_meaning, cluster_of}
-use Rattle.node_core.proofs.Names.{cluster_place, cond, each-both, each-imp, each-unmap, elsewhere-stands, eq-eqb, false, found-has}
-use Rattle.node_core.proofs.Names.{goes_to, has_cluster, lowest_free, map, map-map, meaning, name-eq, name-swap, name_lt, names-behind}
-use Rattle.node_core.proofs.Names.{names-tail, names_rise, node_of, not-true, on_side, option_map_or, package_reading, refl}
-use Rattle.node_core.proofs.Names.{session_meaning, subst, suits, sym, take, transfer_meaning, true, [], ℕ, ◌-◌, ◌==◌, ◌∙◌, ◌∷◌, ◌≡◌}
-use Rattle.node_core.proofs.Names.{◌≢◌}
+use Rattle.node_core.proofs.Names.{cluster_place, cond, each-both, each-imp, each-unmap, elsewhere-stands, eq-eqb, eqb-false, false}
+use Rattle.node_core.proofs.Names.{found-has, goes_to, has_cluster, lowest_free, map, map-map, meaning, name-eq, name-swap, name_lt}
+use Rattle.node_core.proofs.Names.{names-behind, names-tail, names_rise, node_of, not-true, on_side, option_map_or, package_reading}
+use Rattle.node_core.proofs.Names.{refl, session_meaning, subst, suits, sym, take, transfer_meaning, true, [], ℕ, ◌-◌, ◌==◌, ◌∙◌, ◌∷◌}
+use Rattle.node_core.proofs.Names.{◌≡◌, ◌≢◌}
 use Rattle.node_core.proofs.Lastly.{each-place, free, new-change, pairs, ran-there, runs, state}
 use Rattle.node_core.proofs.Stored.{read-order}
 use Rattle.node_core.proofs.Lists.{every, map-same, none-any}
@@ -51,15 +51,12 @@ module _ (v : Holding) (x : SessionOf Extent) (id : ℕ) (sound : IsSound (at_pr
   abbrev name : List ℕ
   name = h.pack.manifest.name
 
-  differs : (p q : ℕ) → (p == q) ≡ false → p ≢ q
-  differs p q e same = let z = sym e ∙ eq-eqb p q same in let f : ⊥ = cc in f
-
   -- a new place
   install-apart : has_cluster x.saved name ≡ false → AreApart (Side (lowest_free (state v x id sound h)) 0) v x
   install-apart other =
       let place = lowest_free (state v x id sound h) in
       let all = pairs v x id sound h in
-      let apart = each-imp _ (λ (a : Pair). (n : ℕ) → Side a.1 n ≢ Side place 0) (λ a differ n same. differs a.1 place differ cc) all
+      let apart = each-imp _ (λ (a : Pair). (n : ℕ) → Side a.1 n ≢ Side place 0) (λ a differ n same. eqb-false a.1 place differ cc) all
       (none-any (λ (a : Pair). a.1 == place) all (free v x id sound h other).0) in
       let k = each-place v x id sound h (λ (a : Pair). (n : ℕ) → Side a.1 n ≢ Side place 0) apart in record {
         running = each-imp _ _ (λ c f. f c.content.side) v.state.running k.0;

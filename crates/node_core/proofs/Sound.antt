@@ -1,12 +1,12 @@
 -- A sound node has a table, and each step leaves it sound.
-use Rattle.node_core.proofs.Names.{Bytes, Call, CallNo, Err, Extent, Holding, IsBounded, IsFit, IsReading, IsSound, IsTable, IsTrue}
-use Rattle.node_core.proofs.Names.{List, NodeState, None, Ok, Option, Package, PackageFault, Part, Reply, Result, SessionMark}
-use Rattle.node_core.proofs.Names.{SessionOf, Transfer, Verdict, after_call, all_differ, ap, arith, both_true, client_limit, cluster_of}
-use Rattle.node_core.proofs.Names.{each-both, each-imp, each-unmap, ids-mean, ids_of, keeps-fit, length, length-map, map, mark_of}
-use Rattle.node_core.proofs.Names.{nat_tests, node_of, not, numbers_rise, of_client, option_map, package_limit, package_reading, refl}
-use Rattle.node_core.proofs.Names.{repeat_of, reply_by, reply_to, rise-above, rise-tail, session_meaning, slice_index_or, slots_differ}
-use Rattle.node_core.proofs.Names.{step, step_by, stored_ids, subst, sym, synced, table_of, transfer_limit, transfer_meaning, true}
-use Rattle.node_core.proofs.Names.{verdict_of, verdict_on, [], ℕ, ◌<◌, ◌==◌, ◌∙◌, ◌∷◌, ◌≡◌, ◌≤◌}
+use Rattle.node_core.proofs.Names.{Bytes, Call, CallNo, Err, Holding, IsBounded, IsFit, IsReading, IsSound, IsTable, IsTrue, List}
+use Rattle.node_core.proofs.Names.{NodeState, None, Ok, Option, Package, PackageFault, Part, Reply, Result, SessionMark, Transfer}
+use Rattle.node_core.proofs.Names.{Verdict, after_call, all_differ, ap, arith, both_true, client_limit, cluster_of, each-both, each-imp}
+use Rattle.node_core.proofs.Names.{each-unmap, ids-mean, ids_of, keeps-fit, length, length-map, map, mark_of, nat_tests, node_of, not}
+use Rattle.node_core.proofs.Names.{numbers_rise, of_client, option_map, package_limit, package_reading, refl, repeat_of, reply_by}
+use Rattle.node_core.proofs.Names.{reply_to, rise-above, rise-tail, slice_index_or, slots_differ, step, step_by, stored_ids, subst, sym}
+use Rattle.node_core.proofs.Names.{synced, table_of, transfer_limit, transfer_meaning, true, verdict_of, verdict_on, [], ℕ, ◌<◌, ◌==◌}
+use Rattle.node_core.proofs.Names.{◌∙◌, ◌∷◌, ◌≡◌, ◌≤◌}
 use Rattle.package_reader.specs.Reading.{reading}
 use Rattle.pm_types.specs.declared.replies.Reached.TheVariants.{Done as Answered}
 use Rattle.pm_types.specs.Validity.{IsSound as IsSoundTransfer}
@@ -71,11 +71,4 @@ ids-shown v client = sym (ids-mean package_reading v.areas client v.state.transf
 -- what Sync shows of a node
 pub synced-shown : {v w : Holding} → v ≡ w → (client place : ℕ) (session : Option SessionMark) (ids : List ℕ) → session ≡ option_map (mark_of w.state.status) w.state.session → place ≡ client → ids ≡ stored_ids v.state.transfers client
     → record { session = session; ended = slice_index_or v.state.ended place None; transfers = ids } ≡ synced (node_of w) client
-synced-shown {v = v} {w = w} e client place session ids marks here shown =
-    ap (λ n. record { session = session; ended = slice_index_or v.state.ended n None; transfers = ids }) here
-    ∙ ap (λ l. record { session = session; ended = slice_index_or v.state.ended client None; transfers = l }) (shown ∙ ids-shown v client)
-    ∙ ap (λ (x : Holding). record { session = session; ended = slice_index_or x.state.ended client None; transfers = ids_of (node_of x) client }) e
-    ∙ ap (λ x. record { session = x; ended = slice_index_or w.state.ended client None; transfers = ids_of (node_of w) client }) (marks ∙ of w.state.session)
-  where
-    of : (o : Option (SessionOf Extent)) → option_map (mark_of w.state.status) o ≡ option_map (mark_of w.state.status) (option_map (session_meaning w.areas) o)
-    of o = grind arith
+synced-shown {v = v} {w = w} e client place session ids marks here shown = grind (arith, ids-shown v client)

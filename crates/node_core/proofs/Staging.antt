@@ -2,9 +2,9 @@
 use Rattle.node_core.proofs.Names.{Action, AllByRecursion, Areas, AreasFit, Bytes, ExitVerdict, Found, Holding, IsBehind, IsCopiedIn}
 use Rattle.node_core.proofs.Names.{IsKept, IsPartCopied, IsReady, IsSound, IsVerdict, LeavesOutside, List, Manifest, None, Option}
 use Rattle.node_core.proofs.Names.{Prepared, Some, StoredTransfer, Transfer as NodeTransfer, TransferData, TransferExit, and_parts, ap}
-use Rattle.node_core.proofs.Names.{arith, block_limit, content-here, content_of, each-both, each-imp, each-unmap, eqb-false}
+use Rattle.node_core.proofs.Names.{arith, block_limit, content-here, content_of, each-both, each-imp, each-unmap, eq-eqb, eqb-false}
 use Rattle.node_core.proofs.Names.{exit_refusals, find, first_refusal, found-has, found_of, front_slice, goes_to, header-means, is_of}
-use Rattle.node_core.proofs.Names.{length, length-take, map, nat_tests, node_of, not, not-true, option_map, option_map_or, overwritten}
+use Rattle.node_core.proofs.Names.{length, length-take, map, node_of, not, not-true, option_map, option_map_or, overwritten}
 use Rattle.node_core.proofs.Names.{package_limit, package_reading, put-leaves, refl, slice-overwritten, slice_range, slots_differ}
 use Rattle.node_core.proofs.Names.{slots_of, stored_of, subst, sym, take, transfer-stands, transfer_limit, transfer_meaning, true}
 use Rattle.node_core.proofs.Names.{units_done, with_content, zero-add, [], ℕ, ◌*◌, ◌+◌, ◌<◌, ◌==◌, ◌∙◌, ◌∷◌, ◌≡◌, ◌≢◌, ◌≤◌, ◌⊎◌}
@@ -143,15 +143,12 @@ module _ {v w : Holding} (view : v ≡ w) (sound : IsSound w) (client id : ℕ) 
   put-ready fit counter block areas faults p put none =
       let at = f.header.received in
       let area = Transfer f.slot in
-      each-imp _ _ (λ t behind same. behind (eqb-of t.header.id id same)) v.state.transfers
+      each-imp _ _ (λ t behind same. behind (eq-eqb t.header.id id same)) v.state.transfers
       (only-has (IsBehind areas block) client id v.state.transfers there.0 (rise v own) there.1
       (subst (λ (x : Found). slice_range (content_of (Transfer x.slot) areas) x.header.received (x.header.received + length block) ≡ block) there.2
       (ap (λ a. slice_range (content_of area a) at (at + length block)) put
       ∙ ap (λ c. slice_range c at (at + length block)) (content-here area v.areas found-slot fit _)
       ∙ slice-overwritten at block (content_of area v.areas) found-lies)))
-    where
-      eqb-of : (a b : ℕ) → a ≡ b → (a == b) ≡ true
-      eqb-of a b same = grind (arith, nat_tests, same)
 
   -- a verdict on the bytes that were got is ready
   pub got-ready : (bytes : Bytes) (verdict : ExitVerdict) (areas : Areas) (faults : ℕ) → areas ≡ v.areas
