@@ -2,11 +2,11 @@
 use Rattle.node_core.proofs.Names.{Action, AllByRecursion, Area, Areas, AreasFit, Bool, Bytes, Change, Cluster, Extent, Holding}
 use Rattle.node_core.proofs.Names.{Install, IsArea, IsExtent, IsInOrder, IsSound, LeavesOutside, List, Remove, SessionOf, Side, Some}
 use Rattle.node_core.proofs.Names.{StoredTransfer, Update, ap, arith, bytes_eq, change_meaning, cluster_at, cluster_meaning, cluster_of}
-use Rattle.node_core.proofs.Names.{cluster_place, cond, each-both, each-imp, each-unmap, elsewhere-stands, eq-eqb, eqb-false, false}
-use Rattle.node_core.proofs.Names.{found-has, goes_to, has_cluster, lowest_free, map, map-map, meaning, name-eq, name-swap, name_lt}
-use Rattle.node_core.proofs.Names.{names-behind, names-tail, names_rise, node_of, not-true, on_side, option_map_or, package_reading}
-use Rattle.node_core.proofs.Names.{refl, session_meaning, subst, suits, sym, take, transfer_meaning, true, [], ℕ, ◌-◌, ◌==◌, ◌∙◌, ◌∷◌}
-use Rattle.node_core.proofs.Names.{◌≡◌, ◌≢◌}
+use Rattle.node_core.proofs.Names.{cluster_place, cond, each-both, each-imp, each-unmap, elsewhere-stands, eqb-false, false, found-has}
+use Rattle.node_core.proofs.Names.{goes_to, has_cluster, lowest_free, map, map-map, meaning, name-eq, name-swap, name_lt, names-behind}
+use Rattle.node_core.proofs.Names.{names-tail, names_rise, nat_tests, node_of, not-true, on_side, option_map_or, package_reading, refl}
+use Rattle.node_core.proofs.Names.{session_meaning, subst, suits, sym, take, transfer_meaning, true, [], ℕ, ◌-◌, ◌==◌, ◌∙◌, ◌∷◌, ◌≡◌}
+use Rattle.node_core.proofs.Names.{◌≢◌}
 use Rattle.node_core.proofs.Lastly.{each-place, free, new-change, pairs, ran-there, runs, state}
 use Rattle.node_core.proofs.Stored.{read-order}
 use Rattle.node_core.proofs.Lists.{every, map-same, none-any}
@@ -91,20 +91,11 @@ module _ (v : Holding) (x : SessionOf Extent) (id : ℕ) (sound : IsSound (at_pr
 
       cluster-apart : c.name ≡ name → (d : Cluster Extent) → bytes_eq c.name d.name ≡ (c.content.place == d.content.place)
           → (bytes_eq d.name name ≡ true → d ≡ c) → Apart (Side c.content.place (1 - c.content.side)) d.content
-      cluster-apart named d same one q =
-          let places : d.content.place ≡ c.content.place = cc in
-          let sides : d.content.side ≡ 1 - c.content.side = cc in
-          let is : d ≡ c = one (ap (bytes_eq d.name) (sym named) ∙ name-swap d.name c.name ∙ same
-          ∙ eq-eqb c.content.place d.content.place (sym places)) in
-          other-side c.content.side (ap (λ (k : Cluster Extent). k.content.side) (sym is) ∙ sides)
+      cluster-apart named d same one q = grind (arith, nat_tests, name-swap d.name c.name, other-side)
 
       change-apart : c.name ≡ name → (d : Change Extent) → bytes_eq c.name (cluster_of d.part) ≡ (c.content.place == d.part.payload.place)
           → bytes_eq name (cluster_of d.part) ≡ false → Apart (Side c.content.place (1 - c.content.side)) d.part.payload
-      change-apart named d same other q =
-          let places : d.part.payload.place ≡ c.content.place = cc in
-          let z = sym other ∙ ap (λ n. bytes_eq n (cluster_of d.part)) (sym named) ∙ same
-          ∙ eq-eqb c.content.place d.part.payload.place (sym places) in
-          let f : ⊥ = cc in f
+      change-apart named d same other q = grind (arith, nat_tests)
 
   -- what goes to a side goes to no extent that the state names
   pub goes-apart : (a : Action) → suits a (has_cluster x.saved name) ≡ true → a ≢ Remove → AreApart (goes_to (state v x id sound h) h.pack.manifest a) v x

@@ -1,7 +1,7 @@
 -- A sound node has a table, and each step leaves it sound.
-use Rattle.node_core.proofs.Names.{Bytes, Call, CallNo, Err, Holding, IsBounded, IsFit, IsReading, IsSound, IsTable, IsTrue, List}
-use Rattle.node_core.proofs.Names.{NodeState, None, Ok, Option, Package, PackageFault, Part, Reply, Result, SessionMark, Transfer}
-use Rattle.node_core.proofs.Names.{Verdict, after_call, all_differ, ap, arith, both_true, client_limit, cluster_of, each-both, each-imp}
+use Rattle.node_core.proofs.Names.{Bytes, Call, CallNo, Holding, IsBounded, IsFit, IsReading, IsSound, IsTable, IsTrue, List, NodeState}
+use Rattle.node_core.proofs.Names.{None, Ok, Option, Package, PackageFault, Part, Reply, Result, SessionMark, Transfer, Verdict}
+use Rattle.node_core.proofs.Names.{after_call, all_differ, ap, arith, both_true, client_limit, cluster_of, each-both, each-imp}
 use Rattle.node_core.proofs.Names.{each-unmap, ids-mean, ids_of, keeps-fit, length, length-map, map, mark_of, nat_tests, node_of, not}
 use Rattle.node_core.proofs.Names.{numbers_rise, of_client, option_map, package_limit, package_reading, refl, repeat_of, reply_by}
 use Rattle.node_core.proofs.Names.{reply_to, rise-above, rise-tail, slice_index_or, slots_differ, step, step_by, stored_ids, subst, sym}
@@ -19,8 +19,7 @@ reading-is = record { parts_of = λ bytes parts e. of (reading bytes) parts e }
   where
     of : (r : Result Package PackageFault) (parts : List (Part Bytes)) → verdict_of r ≡ Ok parts
         → (0 < length parts) × IsTrue (all_differ (map cluster_of parts))
-    of (Ok p) parts e = grind arith
-    of (Err f) parts e = absurd (cc)
+    of r parts e = grind arith
 
 -- rising numbers differ
 pub rising-differ : (ns : List ℕ) → numbers_rise ns ≡ true → slots_differ ns ≡ true

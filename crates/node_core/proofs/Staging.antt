@@ -1,8 +1,8 @@
 -- What a put behind a transfer's bytes leaves of a node.
 use Rattle.node_core.proofs.Names.{Action, AllByRecursion, Areas, AreasFit, Bytes, ExitVerdict, Found, Holding, IsBehind, IsCopiedIn}
-use Rattle.node_core.proofs.Names.{IsKept, IsPartCopied, IsReady, IsSound, IsVerdict, LeavesOutside, List, Manifest, None, Option}
-use Rattle.node_core.proofs.Names.{Prepared, Some, StoredTransfer, Transfer as NodeTransfer, TransferData, TransferExit, and_parts, ap}
-use Rattle.node_core.proofs.Names.{arith, block_limit, content-here, content_of, each-both, each-imp, each-unmap, eq-eqb, eqb-false}
+use Rattle.node_core.proofs.Names.{IsKept, IsPartCopied, IsReady, IsSound, IsVerdict, LeavesOutside, List, Manifest, None, Prepared}
+use Rattle.node_core.proofs.Names.{Some, StoredTransfer, Transfer as NodeTransfer, TransferData, TransferExit, and_parts, ap, arith}
+use Rattle.node_core.proofs.Names.{block_limit, content-here, content_of, each-both, each-imp, each-unmap, eq-eqb, eqb-false}
 use Rattle.node_core.proofs.Names.{exit_refusals, find, first_refusal, found-has, found_of, front_slice, goes_to, header-means, is_of}
 use Rattle.node_core.proofs.Names.{length, length-take, map, node_of, not, not-true, option_map, option_map_or, overwritten}
 use Rattle.node_core.proofs.Names.{package_limit, package_reading, put-leaves, refl, slice-overwritten, slice_range, slots_differ}
@@ -97,11 +97,7 @@ module _ {v w : Holding} (view : v ≡ w) (sound : IsSound w) (client id : ℕ) 
 
   -- it is of a stored transfer
   there : (u : StoredTransfer) × (stored_of v.state.transfers client id ≡ Some u) × (f ≡ record { header = u.header; slot = u.slot })
-  there = stored-found (stored_of v.state.transfers client id) e
-    where
-      stored-found : (o : Option StoredTransfer) → option_map (λ t. record { header = t.header; slot = t.slot }) o ≡ Some f
-          → (u : StoredTransfer) × (o ≡ Some u) × (f ≡ record { header = u.header; slot = u.slot })
-      stored-found o is = grind arith
+  there = grind (arith, e)
 
   pub found-slot : f.slot < transfer_limit
   found-slot = subst (λ (x : Found). x.slot < transfer_limit) (sym there.2) (slot-is v own client id there.0 there.1)
