@@ -6,8 +6,7 @@ use Rattle.node_core.proofs.Names.{RunsWhatItShould, SessionOf, Some, State, Sta
 use Rattle.node_core.proofs.Names.{arith, arrive, arrived, block_limit, cleaning_up, content_of, each-imp, first_refusal, goes_to}
 use Rattle.node_core.proofs.Names.{led_by, meaning, node_of, option_map_or, package_reading, places_in, refl, refusal_by, refused_or}
 use Rattle.node_core.proofs.Names.{session_refusals, should_run, status_table, subst, sym, take, units_done, verdict_on, [], ℕ, ◌*◌}
-use Rattle.node_core.proofs.Names.{◌-◌, ◌∙◌, ◌∷◌, ◌≡◌}
-use Rattle.pm_types.specs.declared.calls.Call.TheVariants as call
+use Rattle.node_core.proofs.Names.{◌∙◌, ◌∷◌, ◌≡◌}
 use Rattle.node_core.proofs.Stored.{copied-when}
 
 -- a call that is refused is judged, whatever was ready for it

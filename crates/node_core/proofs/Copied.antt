@@ -8,7 +8,7 @@ use Rattle.node_core.proofs.Names.{drop-drop, drop-take, extent_in, extent_next,
 use Rattle.node_core.proofs.Names.{if◌then◌else◌, is_of, length, length-drop, length-take, min, number_at, overwritten, package_limit}
 use Rattle.node_core.proofs.Names.{package_reading, payload_place, payload_start, refl, slice_range, subst, suits, sym, take, take-add}
 use Rattle.node_core.proofs.Names.{take-overwritten, take-take, take_min, transfer_meaning, true, unit_end, w32, with_content}
-use Rattle.node_core.proofs.Names.{with_length, [], ℕ, ◌*◌, ◌++◌, ◌+◌, ◌-◌, ◌<◌, ◌∙◌, ◌≡◌, ◌≢◌, ◌≤◌}
+use Rattle.node_core.proofs.Names.{with_length, ℕ, ◌*◌, ◌++◌, ◌+◌, ◌-◌, ◌<◌, ◌∙◌, ◌≡◌, ◌≢◌, ◌≤◌}
 use Rattle.package_reader.specs.Reading.{reading}
 use Rattle.transfer_blocks.specs.declared.area.Area.TheVariants.{Transfer}
 use Rattle.node_core.proofs.Handled.{hand-copied, InHand, at_process, begin-within, busy, bytes_of, in-hand, part_of, payload-is}

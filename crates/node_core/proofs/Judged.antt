@@ -5,7 +5,7 @@ use Rattle.node_core.proofs.Names.{Prepared, Refusal, Reply, Some, Started, Stor
 use Rattle.node_core.proofs.Names.{TransferStart, Transferred, Transferring, Verdict, acceptance, accepted, after_reply, ap, arith}
 use Rattle.node_core.proofs.Names.{bad_refusal, both-none, data_refusals, delete_refusals, each-append, each-both, each-filter}
 use Rattle.node_core.proofs.Names.{each-imp, exit_refusals, filter-means, first_refusal, found-has, good_parts, grown, header-means}
-use Rattle.node_core.proofs.Names.{header_of, if◌then◌else◌, in_phase, is-transferring, is_in, is_of, length, length-map, map}
+use Rattle.node_core.proofs.Names.{header_of, in_phase, is-transferring, is_in, is_of, length, length-map, map}
 use Rattle.node_core.proofs.Names.{map-append, node_of, not, not-false, option_map, option_map_or, option_or, package_reading}
 use Rattle.node_core.proofs.Names.{parts_read, received, refl, refusal_by, refused_or, rows-clear, slice_index_or, some_passes}
 use Rattle.node_core.proofs.Names.{start_refusals, stored_header, stored_of, subst, sym, table_of, take, transfer_meaning, transfer_of}

@@ -3,7 +3,7 @@ use Rattle.node_core.proofs.Names.{AllByRecursion, Areas, BeingProcessed, Found,
 use Rattle.node_core.proofs.Names.{List, Option, Phase, Reading, Some, State, StoredTransfer, Transfer, ap, arith, each-both, each-imp}
 use Rattle.node_core.proofs.Names.{each-unmap, false, find, found-has, found_of, if◌then◌else◌, is_none, is_of, map, map-map}
 use Rattle.node_core.proofs.Names.{numbers_rise, option_map, package_reading, rise-above, rise-tail, slice_range, stored_header}
-use Rattle.node_core.proofs.Names.{stored_of, subst, sym, take, take-add, transfer_meaning, true, with_length, [], ℕ, ◌++◌, ◌+◌, ◌-◌}
+use Rattle.node_core.proofs.Names.{stored_of, subst, sym, take, take-add, transfer_meaning, true, with_length, [], ℕ, ◌++◌, ◌+◌}
 use Rattle.node_core.proofs.Names.{◌<◌, ◌==◌, ◌∙◌, ◌∷◌, ◌≡◌}
 use Rattle.node_core.proofs.Lists.{every, find-map, change-map}
 
