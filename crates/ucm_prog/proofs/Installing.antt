@@ -1,7 +1,7 @@
 -- The clusters that a script installs are allowed.
 use Rattle.std.proofs.Common.{◌≡◌, ℕ, ◌+◌, ◌-◌, ◌<◌, ◌≤◌, refl, sym, subst, ap, ◌∙◌, Bool, true, false, List, [], ◌∷◌, ◌++◌, length, map, Option, Some, None, Result, Ok, Err, IfOk, arith}
-use Rattle.std.specs.Prelude.{not, ◌&&◌, ◌||◌, ◌==◌, nat_le, nat_lt, if◌then◌else◌, IsTrue, is_some, is_none}
-use Rattle.std.specs.List.{list_any, AllByRecursion}
+use Rattle.std.specs.Prelude.{not, ◌&&◌, ◌||◌, ◌==◌, nat_le, nat_lt, if◌then◌else◌, is_some, is_none}
+use Rattle.std.specs.List.{AllByRecursion}
 use Rattle.std.specs.Str.{bytes_eq}
 use Rattle.std.specs.Cmp.Derive.{both_true}
 use Rattle.std.proofs.lemmas.Bool.{and_parts, leb-true}
@@ -20,7 +20,7 @@ use Rattle.scenario.specs.Readings.{◌>>=◌}
 use Rattle.scenario.specs.Attached.{attached_by}
 use Rattle.scenario.specs.Blocks.{length_meant}
 use Rattle.scenario.specs.Lines.{line_in}
-use Rattle.scenario.specs.Scripts.{Refused, added, attached_to, attached_with, finished, followed, has_installed, has_room, installed_added, is_end, is_passed_over, line_read, lines_of, nothing_above, read_from, script, script_of, words_of}
+use Rattle.scenario.specs.Scripts.{Refused, added, attached_to, attached_with, finished, followed, has_installed, has_room, is_end, is_passed_over, line_read, lines_of, nothing_above, read_from, script, script_of, words_of}
 use Rattle.ucm_prog.specs.Installed.{IsAllowed}
 
 each-append : {X : Type 0} (P : X → Type 0) (xs ys : List X) → AllByRecursion P xs → AllByRecursion P ys → AllByRecursion P (xs ++ ys)

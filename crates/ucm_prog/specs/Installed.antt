@@ -1,5 +1,5 @@
 -- The clusters that a script installs.
-use Rattle.std.specs.Prelude.{◌≤◌, ℕ, IsTrue, List, length, map}
+use Rattle.std.specs.Prelude.{◌≤◌, IsTrue, List, length, map}
 use Rattle.std.specs.List.{AllByRecursion}
 use Rattle.ucm_base.specs.Limits.{cluster_limit, package_limit}
 use Rattle.ucm_base.specs.Names.{all_differ}
