@@ -68,20 +68,20 @@ module _ {v w : Holding} (e : v ≡ w) (sound : IsSound w) (client : ℕ) where
   own = subst IsSound (sym e) sound
 
   -- a call is judged by what it is refused for, if anything, and by what it makes of the table
-  judged-by : (call : Call) (done : Reply) (o : Option Refusal) (reply : Reply) (table next : Table) (p : Prepared) → IsTable table
-      → refusal_by v client call ≡ o → acceptance (node_of v) client call ≡ done → unless_refused done old next ≡ next
-      → after_reply (node_of v) client call (verdict_on v client call) done ≡ accepted (node_of v) client call (verdict_on v client call)
-      → reply ≡ refused_or done o → table ≡ unless_refused reply old next
+  judged-by : (call : Call) (otherwise : Reply) (o : Option Refusal) (reply : Reply) (table next : Table) (p : Prepared) → IsTable table
+      → refusal_by v client call ≡ o → acceptance (node_of v) client call ≡ otherwise → unless_refused otherwise old next ≡ next
+      → after_reply (node_of v) client call (verdict_on v client call) otherwise ≡ accepted (node_of v) client call (verdict_on v client call)
+      → reply ≡ refused_or otherwise o → table ≡ unless_refused reply old next
       → (o ≡ None → IsTable next → IsAccepted v client call (tabled next p v)) → IsJudged w client call reply (tabled table p v)
-  judged-by call done (Some r) reply table next p form same gives kept leads answers tables accepts =
+  judged-by call otherwise (Some r) reply table next p form same gives kept leads answers tables accepts =
       let t : table ≡ old = tables ∙ ap (λ z. unless_refused z old next) answers in
       subst (λ (z : Holding × Table × Reply). IsJudged z.0 client call z.2 (tabled z.1 p v)) (λ i. (e i, sym t i, sym answers i))
       (refused-judged v client call r p own same)
-  judged-by call done None reply table next p form same gives kept leads answers tables accepts =
+  judged-by call otherwise None reply table next p form same gives kept leads answers tables accepts =
       let t : table ≡ next = tables ∙ ap (λ z. unless_refused z old next) answers ∙ kept in
       let a = accepts refl (subst IsTable t form) in
       subst (λ (z : Holding × Table). IsJudged z.0 client call reply (tabled z.1 p v)) (λ i. (e i, sym t i)) (record {
-        answer = answers ∙ ap (λ o. refused_or done o) (sym same) ∙ ap (λ d. refused_or d (refusal_by v client call)) (sym gives);
+        answer = answers ∙ ap (λ o. refused_or otherwise o) (sym same) ∙ ap (λ d. refused_or d (refusal_by v client call)) (sym gives);
         node = a.node ∙ sym leads ∙ ap (λ z. after_reply (node_of v) client call (verdict_on v client call) z) (sym answers);
         order = a.order;
         copied = a.copied;

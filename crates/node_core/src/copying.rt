@@ -1,5 +1,5 @@
 //! What the next unit of a package needs: its bytes behind the done ones, and the change that the last one plans.
-ghost use Rattle.std.specs.Prelude.{◌≡◌, ◌≤◌, ◌+◌, ◌<◌, IfOk, OnOk, IsErrOf, length, slice_range, take, drop};
+ghost use Rattle.std.specs.Prelude.{◌≡◌, ◌≤◌, ◌+◌, ◌<◌, IfOk, OnOk, IsErrOf, length, slice_range};
 ghost use Rattle.std.specs.Int.{from_be_bytes, w32};
 ghost use Rattle.ucm_base.specs.Limits.{package_limit};
 ghost use Rattle.pm_types.specs.declared.status.Status.TheVariants.{Processing};

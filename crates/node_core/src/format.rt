@@ -1,18 +1,18 @@
 //! A node that begins with installed clusters.
-ghost use Rattle.std.specs.Prelude.{◌≡◌, ◌≤◌, ◌<◌, ◌++◌, ◌∷◌, [], length, map, true, IfOk, OnOk, IsErrOf, IsTrue};
+ghost use Rattle.std.specs.Prelude.{◌≡◌, ◌≤◌, ◌<◌, ◌++◌, ◌∷◌, [], length, map, IfOk, OnOk, IsErrOf, IsTrue};
 ghost use Rattle.std.specs.List.{AllByRecursion};
 ghost use Rattle.ucm_base.specs.Limits.{cluster_limit, package_limit};
-ghost use Rattle.ucm_base.specs.Names.{all_differ, name_lt};
+ghost use Rattle.ucm_base.specs.Names.{all_differ};
 ghost use Rattle.pm_types.specs.Histories.{formatted};
-ghost use Rattle.pm_types.specs.Stored.{fresh_state, meaning};
+ghost use Rattle.pm_types.specs.Stored.{meaning};
 ghost use Rattle.transfer_blocks.specs.declared.area.Area.TheVariants.{Side};
 ghost use Rattle.transfer_blocks.specs.Areas.{content_of, no_contents, with_content};
 ghost use Rattle.transfer_blocks.specs.Faults.{HasRisen};
-ghost use Rattle.node_core.specs.Core.{IsSound, holding, node_of};
+ghost use Rattle.node_core.specs.Core.{IsSound, holding};
 ghost use Rattle.node_core.specs.Format.{AreInstalled, in_order, named_before, placed};
 ghost use Rattle.node_core.specs.Packages.{package_reading};
 
-use crate::node::{Core, Hold};
+use crate::node::Hold;
 use pm_types::{Cluster, Clusters, Extent, State};
 use std::alloc::{AllocError, Global};
 use transfer_blocks::{Area, Staging, StagingFault};
@@ -20,23 +20,6 @@ use ucm_base::{Block, ClusterName};
 
 /// A cluster that a node begins with, and its bytes.
 pub type Installed = Cluster<Block>;
-
-impl<S: Staging + Drop> Core<S> {
-    /// A node that begins with these clusters and has done nothing, over areas in which nothing lies.
-    pub fn format(alloc: Global, staging: S, installed: Vec<Installed>) -> Result<Core<S>, Hold>
-        requires empty { S.areas staging ≡ no_contents }
-        requires differ { IsTrue (all_differ (map (λ c. c.name) installed.items)) }
-        requires few { length installed.items ≤ cluster_limit }
-        requires short { AllByRecursion (λ c. length c.content ≤ package_limit) installed.items }
-        ensures node { IfOk result (λ v. node_of v ≡ formatted (in_order installed.items)) }
-        ensures entries { IfOk result (λ v. v.state.entries ≡ 0) }
-        ensures faults { IfOk result (λ v. S.fault_count staging ≤ v.faults) }
-    {
-        let mut staging = staging;
-        let state = format_areas(alloc, &mut staging, installed)?;
-        Ok(Core::new(staging, state))
-    }
-}
 
 /// The state of a node that begins with these clusters and has done nothing. Each one's bytes are put to the first side
 /// of its place; the places go from 0 up by rising names.

@@ -4,7 +4,7 @@ ghost use Rattle.ucm_base.specs.Limits.{entry_limit};
 ghost use Rattle.transfer_blocks.specs.Faults.{HasRisen};
 ghost use Rattle.node_laws.specs.Fit.{IsFit};
 ghost use Rattle.node_core.specs.Packages.{package_reading};
-ghost use Rattle.node_core.specs.Core.{IsReady, IsReserved, IsSound, holding, node_of, step_by};
+ghost use Rattle.node_core.specs.Core.{IsReserved, IsSound, holding, node_of, step_by};
 ghost use Rattle.node_core.specs.Units.{IsReservedWork, after_work, answer_to};
 
 use crate::held::Held;

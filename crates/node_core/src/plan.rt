@@ -1,5 +1,5 @@
 //! The clusters that would run after the planned changes.
-ghost use Rattle.std.specs.Prelude.{◌≡◌, ◌++◌, ◌∷◌, [], filter, IfOk, OnOk};
+ghost use Rattle.std.specs.Prelude.{◌≡◌, filter, IfOk};
 ghost use Rattle.pm_types.specs.Clusters.{brought, changed_by, planned, with_cluster};
 ghost use Rattle.node_core.specs.Units.{picks};
 
