@@ -16,7 +16,7 @@ use std::marker::Model;
 #[derive(Drop)]
 pub struct Campaign {
     fold: Fold,
-    // The earlier campaigns again, with room for one more, once they are reserved.
+    /// The earlier campaigns again, with room for one more, once they are reserved.
     next: Option<Vec<(u32, CampaignResult)>>,
 }
 
@@ -138,7 +138,7 @@ mod tests {
     use std::test::Fail;
     use ucm_base::{NodeId, NodeSet};
 
-    // A campaign of nodes 1 and 2 in which node 2 rolls back: each event with its answer.
+    /// A campaign of nodes 1 and 2 in which node 2 rolls back: each event with its answer.
     #[test]
     fn a_vote_of_no_aborts(rt: HostRuntime) -> Result<(), Fail> {
         let (Some(one), Some(two)) = (NodeId::of(1), NodeId::of(2)) else {

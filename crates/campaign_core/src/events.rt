@@ -3,8 +3,7 @@ ghost use Rattle.std.specs.Prelude.{◌≡◌};
 ghost use Rattle.campaign_core.specs.Campaign.{is_cancel, is_yes};
 
 use pm_types::{Outcome, Refusal};
-use std::marker::Model;
-use ucm_base::{CallNo, NodeId, NodeSet};
+use ucm_base::{CallNo, NodeId, NodeSet, Rows};
 
 /// A phase of a campaign's rounds, after the Sync.
 #[derive(Clone, Copy, Debug, PartialEq, Eq)]
@@ -82,36 +81,8 @@ pub enum MasterEvent {
     Enter { result: CampaignResult },
 }
 
-/// Events of the master's list with their places, seen as their list.
-#[derive(Drop)]
-pub struct MasterList {
-    items: Vec<(u64, MasterEvent)>,
-}
-
-impl Model for MasterList {
-    ghost use Rattle.std.specs.Prelude.{ℕ, List};
-    ghost use Rattle.campaign_core.specs.declared.events.MasterEvent.{MasterEvent};
-
-    ghost Value = { List (ℕ × MasterEvent) };
-
-    ghost view = { λ a. a.items.items };
-}
-
-impl MasterList {
-    /// The list of these events. It takes no memory.
-    pub fn of(items: Vec<(u64, MasterEvent)>) -> MasterList
-        ensures { result ≡ items.items }
-    {
-        MasterList { items }
-    }
-
-    /// The events, in order.
-    pub fn as_slice(&self) -> &[(u64, MasterEvent)]
-        ensures { result.now ≡ self.now }
-    {
-        self.items.as_slice()
-    }
-}
+/// Events of the master's list with their places, in order.
+pub type MasterList = Rows<(u64, MasterEvent)>;
 
 impl Vote {
     /// Whether the vote is a Yes.

@@ -11,13 +11,13 @@ use Rattle.pm_types.specs.declared.replies.Refusal.TheVariants.{InvalidTransferI
 use Rattle.pm_types.specs.declared.state.StoredTransfer.{StoredTransfer}
 use Rattle.pm_types.specs.declared.status.Phase.{Phase}
 use Rattle.pm_types.specs.declared.status.Phase.TheVariants.{Transferring, Transferred, Processing, Processed}
-use Rattle.pm_types.specs.Clusters.{units_of}
+use Rattle.pm_types.specs.Clusters.{stored_units, units_of}
 use Rattle.pm_types.specs.NodeState.{SessionOf, Transfer}
 use Rattle.pm_types.specs.Histories.{Reading}
 use Rattle.pm_types.specs.Queries.{answer, progress_of}
 use Rattle.pm_types.specs.Stored.{State, Areas, cluster_meaning, change_meaning, session_meaning, transfer_meaning, meaning, IsPlaced}
 use Rattle.pm_types.specs.Transfers.{is_of}
-use Rattle.history_query.specs.Shown.{shown_cluster, shown_change, shown_transfer, changes_planned, is_between, units_done_in, stored_units, percent_in, progress_at, progress_answer}
+use Rattle.history_query.specs.Shown.{shown_cluster, shown_change, shown_transfer, changes_planned, is_between, units_done_in, percent_in, progress_at, progress_answer}
 use Rattle.history_query.proofs.Found.{found-has}
 
 map-of-map : {X Y Z : Type 0} (f : X → Y) (g : Y → Z) (xs : List X) → map (λ x. g (f x)) xs ≡ map g (map f xs)

@@ -7,13 +7,13 @@ use Rattle.std.proofs.lemmas.Bool.Decides.{nat_tests}
 use Rattle.pm_types.specs.declared.clusters.Extent.{Extent}
 use Rattle.pm_types.specs.declared.state.StoredTransfer.{StoredTransfer}
 use Rattle.pm_types.specs.declared.status.Phase.TheVariants.{Processing}
-use Rattle.pm_types.specs.Clusters.{all_units}
+use Rattle.pm_types.specs.Clusters.{all_units, stored_units}
 use Rattle.pm_types.specs.Histories.{Reading}
 use Rattle.pm_types.specs.NodeState.{SessionOf, Transfer, is_in, some_passes}
 use Rattle.pm_types.specs.Stored.{State, Areas, session_meaning, transfer_meaning, meaning, IsPlaced}
 use Rattle.pm_types.specs.Transfers.{is_of, transfer_of}
 use Rattle.pm_types.specs.Validity.{IsConsistent, numbers_rise}
-use Rattle.history_query.specs.Shown.{are_consecutive, stored_units, IsUnfinished, EachIsUnfinished}
+use Rattle.history_query.specs.Shown.{are_consecutive, IsUnfinished, EachIsUnfinished}
 use Rattle.history_query.proofs.Answered.{units-same}
 use Rattle.history_query.proofs.Found.{found-has}
 use Rattle.history_query.proofs.Places.{consecutive-from}

@@ -1,10 +1,9 @@
 -- What queries show of the lists of a node's state, wherever the bytes lie.
-use Rattle.std.specs.Prelude.{ℕ, ◌*◌, ◌/◌, ◌<◌, ◌&&◌, Bool, true, nat_le, nat_lt, IsTrue, List, [], ◌∷◌, sum_by, Option, Some, None, Result, Ok, Err}
+use Rattle.std.specs.Prelude.{ℕ, ◌*◌, ◌/◌, ◌<◌, ◌&&◌, Bool, true, nat_le, nat_lt, IsTrue, List, [], ◌∷◌, Option, Some, None, Result, Ok, Err}
 use Rattle.std.specs.List.{AllByRecursion}
 use Rattle.std.specs.Option.{option_map_or}
 use Rattle.pm_types.specs.declared.clusters.Change.{Change}
 use Rattle.pm_types.specs.declared.clusters.Cluster.{Cluster}
-use Rattle.pm_types.specs.declared.clusters.Part.{Part}
 use Rattle.pm_types.specs.declared.history.Line.{Line}
 use Rattle.pm_types.specs.declared.queries.Answer.{Answer}
 use Rattle.pm_types.specs.declared.queries.Answer.TheVariants.{Progress, Refused}
@@ -18,7 +17,7 @@ use Rattle.pm_types.specs.declared.status.Phase.{Phase}
 use Rattle.pm_types.specs.declared.status.Phase.TheVariants.{Transferring, Transferred, Processing, Processed}
 use Rattle.pm_types.specs.declared.transfers.Header.{Header}
 use Rattle.pm_types.specs.NodeState.{SessionOf, is_in}
-use Rattle.pm_types.specs.Clusters.{units_of}
+use Rattle.pm_types.specs.Clusters.{stored_units}
 use Rattle.pm_types.specs.Validity.{places_from}
 
 -- a running cluster, as a query shows it
@@ -53,10 +52,6 @@ are_consecutive (line ∷ lines) = places_from line.place (line ∷ lines)
 -- the units that are done in a session, where there is one
 abbrev pub units_done_in : {C : Type 0} → Option (SessionOf C) → ℕ
 units_done_in session = option_map_or (λ x. x.units_done) session 0
-
--- the units that bring all parts, by the lengths of their payloads
-abbrev pub stored_units : List (Part ℕ) → ℕ
-stored_units parts = sum_by (λ part. units_of part.payload) parts
 
 -- how much is processed of a transfer in this phase, in percent
 abbrev pub percent_in : Phase → ℕ → ℕ → ℕ

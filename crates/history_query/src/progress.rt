@@ -1,12 +1,10 @@
 //! The query on the progress of a transfer.
 ghost use Rattle.std.specs.Prelude.{◌≡◌, ◌<◌, ◌*◌, ◌/◌, find, option_map};
-ghost use Rattle.pm_types.specs.Clusters.{units_of};
 ghost use Rattle.pm_types.specs.Transfers.{is_of};
-ghost use Rattle.history_query.specs.Shown.{EachIsUnfinished, IsUnfinished, progress_at, stored_progress, stored_units, units_done_in};
+ghost use Rattle.history_query.specs.Shown.{EachIsUnfinished, IsUnfinished, progress_at, stored_progress, units_done_in};
 
-use pm_types::{PartList, Phase, Refusal, Session, StoredTransfer};
+use pm_types::{Phase, Refusal, Session, StoredTransfer};
 use ucm_base::ClientId;
-use ucm_base::limits::BLOCK_LIMIT;
 
 /// How much of the client's transfer is processed, in percent, rounded down: 0 before its processing and 100 after it.
 pub fn process_progress(
@@ -48,7 +46,7 @@ fn progress_of(transfer: &StoredTransfer, units_done: u32) -> u8
 {
     match transfer.header.phase {
         Phase::Transferring | Phase::Transferred => 0,
-        Phase::Processing => percent(units_done, all_units(&transfer.contents)),
+        Phase::Processing => percent(units_done, transfer.contents.units()),
         Phase::Processed => 100,
     }
 }
@@ -60,26 +58,10 @@ fn percent(done: u32, all: u64) -> u8
     (100 * u64::from(done) / all) as u8
 }
 
-/// The units of work that bring all parts.
-fn all_units(contents: &PartList) -> u64
-    ensures { result ≡ stored_units contents.now }
-{
-    match contents.first() {
-        Some(part) => units_of(part.payload),
-        None => 0,
-    }
-}
-
-fn units_of(size: u32) -> u64
-    ensures { result ≡ units_of size }
-{
-    ((u64::from(size) + BLOCK_LIMIT - 1) / BLOCK_LIMIT).max(1)
-}
-
 #[cfg(test)]
 mod tests {
     use super::*;
-    use pm_types::{Changes, Clusters, Header, Part};
+    use pm_types::{Changes, Clusters, Header, Part, PartList};
     use std::alloc::Global;
     use std::test::Fail;
     use ucm_base::{Action, ClusterName, Manifest, Needs, VersionText};
@@ -126,7 +108,7 @@ mod tests {
         };
         let contents = contents(alloc, payload)?;
         let session = session(alloc, units_done)?;
-        if all_units(&contents) <= u64::from(session.units_done) {
+        if contents.units() <= u64::from(session.units_done) {
             return Err(Fail::from("all units are done"));
         }
         let client = ClientId::of(number).ok_or("no client")?;

@@ -16,7 +16,7 @@ pub use Rattle.node_core.specs.Sessions.{OnlyLeads, added, arrived, begun, chang
 pub use Rattle.node_core.specs.Sessions.{missing_dependencies, needing_of, opened, package_refusals, paused, phased, stopped, taken_up}
 pub use Rattle.node_core.specs.Units.{IsNextUnit, IsPackageReady, IsPartReady, IsReservedWork, IsUnit, IsUnitOf, IsUnitReady, after_work}
 pub use Rattle.node_core.specs.Units.{answer_to, change_due, change_kept, change_next, change_to, clusters_kept, extent_in, extent_next}
-pub use Rattle.node_core.specs.Units.{payload_start, picks, session_takes, stored_units, unit_end}
+pub use Rattle.node_core.specs.Units.{payload_start, picks, session_takes, unit_end}
 pub use Rattle.node_core.specs.declared.copying.NextUnit.{NextUnit}
 pub use Rattle.node_core.specs.declared.prepared.Prepared.{Prepared}
 pub use Rattle.node_laws.proofs.Kept.{keeps-fit}
@@ -32,7 +32,7 @@ pub use Rattle.package_reader.specs.Fields.{number_at, payload_in, payload_place
 pub use Rattle.package_reader.specs.Reading.{content_faults, field_faults, first_fault, is_payload_of, unless}
 pub use Rattle.package_reader.specs.declared.fault.PackageFault.{PackageFault}
 pub use Rattle.package_reader.specs.declared.package.Package.{Package}
-pub use Rattle.pm_types.specs.Clusters.{all_units, brought, changed_as, changed_by, cluster_at, cluster_of, has_cluster, planned, units_of}
+pub use Rattle.pm_types.specs.Clusters.{all_units, brought, changed_as, changed_by, cluster_at, cluster_of, has_cluster, planned, stored_units, units_of}
 pub use Rattle.pm_types.specs.Clusters.{unmet_among, with_cluster}
 pub use Rattle.pm_types.specs.Histories.{Reading, formatted, unit_passes}
 pub use Rattle.pm_types.specs.NodeState.{NodeState, Session, SessionOf, Transfer, has_status, is_in, of_client, phase_code, some_passes}

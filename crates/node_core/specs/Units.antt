@@ -1,5 +1,5 @@
 -- Units of work.
-use Rattle.std.specs.Prelude.{◌≡◌, ◌==◌, ◌||◌, ℕ, ◌+◌, ◌*◌, min, nat_lt, not, if◌then◌else◌, Bool, false, ⊤, List, length, sum_by, take, unwrap_or, IfSome, Option, Some, None, [], ◌∷◌, ◌-◌}
+use Rattle.std.specs.Prelude.{◌≡◌, ◌==◌, ◌||◌, ℕ, ◌+◌, ◌*◌, min, nat_lt, not, if◌then◌else◌, Bool, false, ⊤, List, length, take, unwrap_or, IfSome, Option, Some, None, [], ◌∷◌, ◌-◌}
 use Rattle.std.specs.List.{AllByRecursion, list_any}
 use Rattle.std.specs.Option.{option_map_or}
 use Rattle.std.specs.Str.{bytes_eq}
@@ -64,10 +64,6 @@ clusters_kept _ = None
 abbrev pub change_kept : Prepared → Option (Change Extent)
 change_kept (Planned change) = Some change
 change_kept _ = None
-
--- the units that bring parts of these lengths
-abbrev pub stored_units : List (Part ℕ) → ℕ
-stored_units parts = sum_by (λ part. units_of part.payload) parts
 
 -- the end of the unit behind these done ones, in a payload of this size
 abbrev pub unit_end : ℕ → ℕ → ℕ

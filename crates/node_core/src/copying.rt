@@ -12,7 +12,6 @@ ghost use Rattle.node_core.specs.Units.{IsNextUnit, IsReservedWork, change_due, 
 use crate::held::Held;
 use crate::node::Hold;
 use crate::prepared::Prepared;
-use crate::process::units_of;
 use pm_types::{Change, Contents, Extent, Part};
 use std::alloc::{AllocError, Global};
 use transfer_blocks::{Area, Staging};
@@ -62,7 +61,7 @@ impl<S: Staging> Held<S> {
         self.copy(slot, area, at, len)
     }
 
-    // What the next unit is.
+    /// What the next unit is.
     fn next_unit(&self, alloc: Global) -> Result<Option<NextUnit>, AllocError>
         requires status { self.now.state.status ≡ Processing }
         requires sound { IsSound self.now }
@@ -93,7 +92,7 @@ impl<S: Staging> Held<S> {
         }))
     }
 
-    // Copies so many bytes of a slot's payload to the same place of a side.
+    /// Copies so many bytes of a slot's payload to the same place of a side.
     fn copy(&mut self, slot: u8, area: Area, at: u64, len: u64) -> Result<(), Hold>
         requires slot { IsArea (Transfer slot) }
         requires area { IsArea area }
@@ -123,7 +122,7 @@ impl<S: Staging> Held<S> {
     }
 }
 
-// The change that the unit behind these done ones plans, which only the last one does.
+/// The change that the unit behind these done ones plans, which only the last one does.
 fn change_due(
     alloc: Global,
     done: u32,
@@ -133,7 +132,7 @@ fn change_due(
 ) -> Result<Option<Change<Extent>>, AllocError>
     ensures { IfOk result (λ change. change ≡ change_due done id part.now payload) }
 {
-    if u64::from(done) + 1 < units_of(part.payload) {
+    if u64::from(done) + 1 < part.units() {
         return Ok(None);
     }
     let manifest = part.manifest.copied(alloc)?;
@@ -141,7 +140,7 @@ fn change_due(
     Ok(Some(Change { transfer: id, part }))
 }
 
-// The number that four bytes spell.
+/// The number that four bytes spell.
 fn number(bytes: &[u8]) -> u32
     requires { length bytes.now ≡ 4 }
     ensures { result ≡ from_be_bytes w32 bytes.now }

@@ -1,14 +1,12 @@
 //! Units of work that bring a package.
 ghost use Rattle.std.specs.Prelude.{◌≡◌};
 ghost use Rattle.pm_types.specs.declared.status.Status.TheVariants.{Processing};
-ghost use Rattle.pm_types.specs.Clusters.{units_of};
 ghost use Rattle.node_core.specs.Core.{IsSound};
-ghost use Rattle.node_core.specs.Units.{IsReservedWork, IsUnit, stored_units};
+ghost use Rattle.node_core.specs.Units.{IsReservedWork, IsUnit};
 
 use crate::held::Held;
-use pm_types::{PartList, Phase, Status};
+use pm_types::{Phase, Status};
 use transfer_blocks::Staging;
-use ucm_base::limits::BLOCK_LIMIT;
 
 impl<S: Staging> Held<S> {
     /// One unit more of the package in processing; with its last one the package is processed.
@@ -28,7 +26,7 @@ impl<S: Staging> Held<S> {
         let Some(transfer) = self.transfers.stored(session.owner, id) else {
             return;
         };
-        let units = all_units(&transfer.contents);
+        let units = transfer.contents.units();
         session.units_done += 1;
         if u64::from(session.units_done) < units {
             return;
@@ -41,21 +39,4 @@ impl<S: Staging> Held<S> {
         self.status = Status::Ready;
         self.transfers.set_phase(id, Phase::Processed);
     }
-}
-
-// The units that bring a package.
-fn all_units(contents: &PartList) -> u64
-    ensures { result ≡ stored_units contents.now }
-{
-    match contents.first() {
-        Some(part) => units_of(part.payload),
-        None => 0,
-    }
-}
-
-/// The units that bring a payload of this size.
-pub(crate) fn units_of(size: u32) -> u64
-    ensures { result ≡ units_of size }
-{
-    ((u64::from(size) + BLOCK_LIMIT - 1) / BLOCK_LIMIT).max(1)
 }

@@ -75,3 +75,7 @@ units_of size = max 1 ((size + block_limit - 1) / block_limit)
 -- the units that bring all parts
 abbrev pub all_units : List (Part Bytes) → ℕ
 all_units parts = sum_by (λ part. units_of (length part.payload)) parts
+
+-- the same, by the lengths of their payloads
+abbrev pub stored_units : List (Part ℕ) → ℕ
+stored_units parts = sum_by (λ part. units_of part.payload) parts

@@ -3,8 +3,10 @@
 //! `C` is what a content is: the bytes themselves in definitions, where they lie in code.
 
 ghost use Rattle.std.specs.Prelude.{◌≡◌, IfOk};
+ghost use Rattle.pm_types.specs.Clusters.{units_of};
 
 use std::alloc::{AllocError, Global};
+use ucm_base::limits::BLOCK_LIMIT;
 use ucm_base::{ClusterName, Manifest, Needs, VersionText};
 
 /// An installed piece of software.
@@ -39,6 +41,16 @@ pub struct Part<C> {
 
 /// What a whole software package has: its manifest, and its payload's length.
 pub type Contents = Part<u32>;
+
+impl Part<u32> {
+    /// The units of work that bring the payload: 4,096 bytes each, and one where there are none.
+    pub fn units(&self) -> u64
+        ensures { result ≡ units_of self.now.payload }
+    {
+        let size = u64::from(self.payload);
+        ((size + BLOCK_LIMIT - 1) / BLOCK_LIMIT).max(1)
+    }
+}
 
 /// A planned change of one cluster, and the id of the transfer that brought it.
 #[derive(Drop)]

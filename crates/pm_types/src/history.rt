@@ -6,7 +6,7 @@ use crate::{Call, CallName, Reply, Status};
 use circular_buffer::HeapCircularBuffer;
 use std::alloc::{AllocError, Global};
 use std::marker::Model;
-use ucm_base::{CallNo, ClientId};
+use ucm_base::{CallNo, ClientId, Rows};
 
 const LIMIT: usize = 256;
 
@@ -47,36 +47,8 @@ pub struct Line {
     pub happened: Happened,
 }
 
-/// Lines of the history, seen as their list.
-#[derive(Drop)]
-pub struct LineList {
-    items: Vec<Line>,
-}
-
-impl Model for LineList {
-    ghost use Rattle.std.specs.Prelude.{List};
-    ghost use Rattle.pm_types.specs.declared.history.Line.{Line};
-
-    ghost Value = { List Line };
-
-    ghost view = { λ a. a.items.items };
-}
-
-impl LineList {
-    /// The list of these lines. It takes no memory.
-    pub fn of(items: Vec<Line>) -> LineList
-        ensures { result ≡ items.items }
-    {
-        LineList { items }
-    }
-
-    /// The lines, in order.
-    pub fn as_slice(&self) -> &[Line]
-        ensures { result.now ≡ self.now }
-    {
-        self.items.as_slice()
-    }
-}
+/// Lines of the history, in order.
+pub type LineList = Rows<Line>;
 
 /// The newest 256 lines, seen as their list. It has room for them from its making.
 #[derive(Drop)]

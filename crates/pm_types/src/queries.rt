@@ -1,10 +1,7 @@
 //! Queries, which change nothing, and their answers.
 
-ghost use Rattle.std.specs.Prelude.{◌≡◌};
-
 use crate::{LineList, Phase, Refusal, Status};
-use std::marker::Model;
-use ucm_base::{Action, ClusterName, VersionText};
+use ucm_base::{Action, ClusterName, Rows, VersionText};
 
 /// What a client may ask of a node.
 #[derive(Clone, Copy, Debug, PartialEq, Eq)]
@@ -41,98 +38,14 @@ pub struct PackageInfo {
     pub size: u64,
 }
 
-/// Running clusters, seen as their list.
-#[derive(Drop)]
-pub struct ClusterList {
-    items: Vec<ClusterInfo>,
-}
+/// Running clusters, in order of name.
+pub type ClusterList = Rows<ClusterInfo>;
 
-impl Model for ClusterList {
-    ghost use Rattle.std.specs.Prelude.{List};
-    ghost use Rattle.pm_types.specs.declared.queries.ClusterInfo.{ClusterInfo};
+/// Planned changes, in order.
+pub type ChangeList = Rows<ChangeInfo>;
 
-    ghost Value = { List ClusterInfo };
-
-    ghost view = { λ a. a.items.items };
-}
-
-impl ClusterList {
-    /// The list of these clusters. It takes no memory.
-    pub fn of(items: Vec<ClusterInfo>) -> ClusterList
-        ensures { result ≡ items.items }
-    {
-        ClusterList { items }
-    }
-
-    /// The clusters, in order.
-    pub fn as_slice(&self) -> &[ClusterInfo]
-        ensures { result.now ≡ self.now }
-    {
-        self.items.as_slice()
-    }
-}
-
-/// Planned changes, seen as their list.
-#[derive(Drop)]
-pub struct ChangeList {
-    items: Vec<ChangeInfo>,
-}
-
-impl Model for ChangeList {
-    ghost use Rattle.std.specs.Prelude.{List};
-    ghost use Rattle.pm_types.specs.declared.queries.ChangeInfo.{ChangeInfo};
-
-    ghost Value = { List ChangeInfo };
-
-    ghost view = { λ a. a.items.items };
-}
-
-impl ChangeList {
-    /// The list of these changes. It takes no memory.
-    pub fn of(items: Vec<ChangeInfo>) -> ChangeList
-        ensures { result ≡ items.items }
-    {
-        ChangeList { items }
-    }
-
-    /// The changes, in order.
-    pub fn as_slice(&self) -> &[ChangeInfo]
-        ensures { result.now ≡ self.now }
-    {
-        self.items.as_slice()
-    }
-}
-
-/// Transfers, seen as their list.
-#[derive(Drop)]
-pub struct PackageList {
-    items: Vec<PackageInfo>,
-}
-
-impl Model for PackageList {
-    ghost use Rattle.std.specs.Prelude.{List};
-    ghost use Rattle.pm_types.specs.declared.queries.PackageInfo.{PackageInfo};
-
-    ghost Value = { List PackageInfo };
-
-    ghost view = { λ a. a.items.items };
-}
-
-impl PackageList {
-    /// The list of these transfers. It takes no memory.
-    pub fn of(items: Vec<PackageInfo>) -> PackageList
-        ensures { result ≡ items.items }
-    {
-        PackageList { items }
-    }
-
-    /// The transfers, in order.
-    pub fn as_slice(&self) -> &[PackageInfo]
-        ensures { result.now ≡ self.now }
-    {
-        self.items.as_slice()
-    }
-}
+/// Transfers, by rising ids.
+pub type PackageList = Rows<PackageInfo>;
 
 /// The answer to a query.
 #[derive(Drop)]

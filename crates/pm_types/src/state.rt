@@ -1,5 +1,6 @@
 //! A node's state as it is kept: where the bytes lie in place of the bytes.
 ghost use Rattle.std.specs.Prelude.{◌≡◌, ◌<◌, ◌≤◌, ◌++◌, ◌∷◌, [], None, length, vec_capacity, IfOk, IfSome, replicate};
+ghost use Rattle.pm_types.specs.Clusters.{stored_units};
 ghost use Rattle.pm_types.specs.Stored.{fresh_state};
 ghost use Rattle.ucm_base.specs.Limits.{cluster_limit, transfer_limit};
 
@@ -54,6 +55,16 @@ impl PartList {
         ensures none { result ≡ None → self.now ≡ [] }
     {
         self.part.as_ref()
+    }
+
+    /// The units of work that bring all parts.
+    pub fn units(&self) -> u64
+        ensures { result ≡ stored_units self.now }
+    {
+        match &self.part {
+            Some(part) => part.units(),
+            None => 0,
+        }
     }
 }
 

@@ -10,7 +10,6 @@ mod attachments;
 mod blocks;
 mod events;
 mod lines;
-mod rows;
 mod script;
 #[cfg(test)]
 mod tests;
@@ -20,7 +19,6 @@ mod words;
 pub use blocks::{BlockSource, plain_block};
 pub use events::{Event, EventLine, ScriptCall, call_of};
 pub use lines::Installed;
-pub use rows::Rows;
 pub use script::{Command, Script, read_script};
 pub use why::{ScriptFault, Why, WordFault};
 pub use words::{action, first_piece, name, need, needs, number, small, version};

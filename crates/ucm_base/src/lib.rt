@@ -9,11 +9,13 @@ mod ids;
 pub mod limits;
 mod name;
 mod parts;
+mod rows;
 mod short;
 mod versions;
 
 pub use ids::{CallNo, ClientId, NodeId, NodeSet};
 pub use name::{BadName, ClusterName};
 pub use parts::{Action, Block, Manifest, Need, Needs};
+pub use rows::Rows;
 pub use short::ShortText;
 pub use versions::{ReqText, TextFault, VersionText};

@@ -17,14 +17,14 @@ pub returns-then-from-units-clause-unit : goal.returns-then-from-units-clause-un
 returns-then-from-units-clause-unit g c =
     more-done c.self.view_is _ c.in-Some-processing.id c.in-Some-processing.is (c.in-Some.is ∙ ap Some (sym c.session.view_is))
     c.requires.sound c.requires.status c.in-Some-stored.transfer.now (sym c.stored.ensures ∙ ap (option_map _) c.in-Some-stored.is)
-    c.requires.reserved (omega (arith, c.if-from-units.true, c.from.ensures, c.all_units-units.ensures))
+    c.requires.reserved (omega (arith, c.if-from-units.true, c.from.ensures, c.units-units.ensures))
     c.args.passed c.self.inside.prepared c.self.inside.status (ap (λ (h : Holding). h.state.status) c.self.view_is ∙ c.requires.status)
 
 pub returns-in_default-take_change-clause-unit : goal.returns-in_default-take_change-clause-unit
 returns-in_default-take_change-clause-unit g c =
     absurd (some-change c.self.view_is _ c.in-Some-processing.id c.in-Some-processing.is (c.in-Some.is ∙ ap Some (sym c.session.view_is))
     c.requires.sound c.requires.status c.in-Some-stored.transfer.now (sym c.stored.ensures ∙ ap (option_map _) c.in-Some-stored.is)
-    c.requires.reserved (omega (arith, c.if-from-units.false, c.from.ensures, c.all_units-units.ensures))
+    c.requires.reserved (omega (arith, c.if-from-units.false, c.from.ensures, c.units-units.ensures))
     (sym c.take_change.ensures ∙ c.in_default-take_change.is))
 
 pub push-requires : goal.push-requires
@@ -36,6 +36,6 @@ pub returns-clause-unit : goal.returns-clause-unit
 returns-clause-unit g c =
     last-done c.self.view_is _ c.in-Some-processing.id c.in-Some-processing.is (c.in-Some.is ∙ ap Some (sym c.session.view_is))
     c.requires.sound c.requires.status c.in-Some-stored.transfer.now (sym c.stored.ensures ∙ ap (option_map _) c.in-Some-stored.is)
-    c.requires.reserved (omega (arith, c.if-from-units.false, c.from.ensures, c.all_units-units.ensures))
+    c.requires.reserved (omega (arith, c.if-from-units.false, c.from.ensures, c.units-units.ensures))
     c.args.passed c.take_change.new.self c.in-Some-take_change.change (sym c.take_change.ensures ∙ c.in-Some-take_change.is)
     c.set_phase.new.self c.set_phase.ensures.table c.push.new.self c.push.ensures

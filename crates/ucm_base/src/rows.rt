@@ -1,10 +1,10 @@
-//! Lists that grow at their end.
+//! Lists that contracts see as lists.
 ghost use Rattle.std.specs.Prelude.{◌≡◌, ◌++◌, ◌∷◌, [], OnOk};
 
 use std::alloc::{AllocError, Global};
 use std::marker::Model;
 
-/// A list that grows at its end, seen as the list.
+/// A list that grows at its end, seen as the list of its items.
 #[derive(Drop)]
 pub struct Rows<T> {
     items: Vec<T>,
@@ -26,6 +26,13 @@ impl<T: Drop> Rows<T> {
         Rows {
             items: Vec::new(alloc),
         }
+    }
+
+    /// The list of these items. It takes no memory.
+    pub fn of(items: Vec<T>) -> Rows<T>
+        ensures { result ≡ items.items }
+    {
+        Rows { items }
     }
 
     /// The items, in order.
