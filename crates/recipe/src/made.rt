@@ -1,6 +1,7 @@
 //! The packages that a recipe has made so far.
 ghost use Rattle.std.specs.Prelude.{◌≡◌, ◌++◌, ◌∷◌, [], IfOk, IfErr, Ok, Err, string_bytes, codes, decimal, length, true, false};
 ghost use Rattle.scenario.specs.declared.why.Why.{Why};
+ghost use Rattle.scenario.specs.Readings.{IsRefusedAs};
 ghost use Rattle.package_reader.specs.Printing.{is_too_large, package_text};
 ghost use Rattle.std.specs.Str.{bytes_eq};
 ghost use Rattle.recipe.specs.Packing.{attach_text};
@@ -98,8 +99,7 @@ pub fn attachment_of(
 ) -> Result<Attachment, WordFault>
     ensures printed { IfOk result (λ a. a ≡ printed named.now) }
     ensures added { IfOk result (λ a. added made.now named.now ≡ Ok (made.now ++ a ∷ [])) }
-    ensures refused { IfErr result (λ e. (why : Why) → e ≡ WordFault.Refused why
-        → added made.now named.now ≡ Err why) }
+    ensures refused { IsRefusedAs result (added made.now named.now) }
 {
     if is_named_above(made, &named.name) {
         return Err(WordFault::Refused(Why::Twice));

@@ -2,6 +2,7 @@
 ghost use Rattle.std.specs.Prelude.{◌≡◌, ◌≤◌, IfOk, IfErr, IsTrue, Ok, Err, None, length, map, []};
 ghost use Rattle.ucm_base.specs.Limits.{need_limit};
 ghost use Rattle.scenario.specs.declared.why.Why.{Why};
+ghost use Rattle.scenario.specs.Readings.{IsRead};
 ghost use Rattle.scenario.specs.Blocks.{bytes_meant};
 ghost use Rattle.recipe.specs.Packages.{by_words, free_name_in, package_form, package_in, package_named, contents_of, package_words, payload_in};
 
@@ -36,9 +37,7 @@ fn free_name(word: &[u8]) -> Result<ClusterName, Why>
 
 /// Where a payload comes from.
 fn payload(alloc: Global, action: Action, word: &[u8]) -> Result<BlockSource, WordFault>
-    ensures block { IfOk result (λ b. payload_in action word.now ≡ Ok b) }
-    ensures refused { IfErr result (λ e. (why : Why) → e ≡ WordFault.Refused why
-        → payload_in action word.now ≡ Err why) }
+    ensures { IsRead result (payload_in action word.now) }
 {
     let block = plain_block(alloc, word)?;
     if action == Action::Remove && block.len() != 0 {
@@ -135,10 +134,7 @@ fn read_named(
     first: &[u8],
     words: &[&[u8]],
 ) -> Result<Option<NamedPackage>, WordFault>
-    ensures package { IfOk result (λ o. package_named first.now (map (λ w. w.now) words.now)
-        ≡ Ok o) }
-    ensures refused { IfErr result (λ e. (why : Why) → e ≡ WordFault.Refused why
-        → package_named first.now (map (λ w. w.now) words.now) ≡ Err why) }
+    ensures { IsRead result (package_named first.now (map (λ w. w.now) words.now)) }
 {
     if first == b"step".as_slice() {
         Err(WordFault::Refused(Why::Later))
@@ -152,9 +148,7 @@ fn read_named(
 
 /// The package of these words, if they make one.
 fn read_words(alloc: Global, words: &[&[u8]]) -> Result<Option<NamedPackage>, WordFault>
-    ensures package { IfOk result (λ o. by_words (map (λ w. w.now) words.now) ≡ Ok o) }
-    ensures refused { IfErr result (λ e. (why : Why) → e ≡ WordFault.Refused why
-        → by_words (map (λ w. w.now) words.now) ≡ Err why) }
+    ensures { IsRead result (by_words (map (λ w. w.now) words.now)) }
 {
     match words {
         [first, words @ ..] => read_named(alloc, first, words),
@@ -172,9 +166,7 @@ fn is_plain(line: &[u8]) -> bool
 
 /// The package of a line, if it makes one. A line that isn't a recipe's own takes no memory.
 pub fn read_line(alloc: Global, line: &[u8]) -> Result<Option<NamedPackage>, WordFault>
-    ensures package { IfOk result (λ o. package_in line.now ≡ Ok o) }
-    ensures refused { IfErr result (λ e. (why : Why) → e ≡ WordFault.Refused why
-        → package_in line.now ≡ Err why) }
+    ensures { IsRead result (package_in line.now) }
 {
     if is_plain(line) {
         return Ok(None);

@@ -1,6 +1,7 @@
 //! Recipes, read line by line.
 ghost use Rattle.std.specs.Prelude.{◌≡◌, ◌++◌, ◌<◌, ◌∷◌, [], IfOk, IfErr, OnOk, Ok, Err, length, ℕ};
 ghost use Rattle.scenario.specs.declared.why.Why.{Why};
+ghost use Rattle.scenario.specs.Readings.{Becomes};
 ghost use Rattle.recipe.specs.Lines.{lines_in};
 ghost use Rattle.recipe.specs.Packing.{attach_text, line_text, text_of};
 ghost use Rattle.recipe.specs.Recipes.{added, below, printed, recipe_of};
@@ -43,11 +44,9 @@ impl Recipe {
 
     /// Adds what a package line makes, and the line that attaches it.
     fn attach(&mut self, alloc: Global, named: &NamedPackage) -> Result<(), WordFault>
-        ensures made { OnOk result (added self.old.made.items named.now ≡ Ok self.new.made.items) }
+        ensures made { Becomes result self.new.made.items (added self.old.made.items named.now) }
         ensures text { OnOk result (self.new.text.items
             ≡ self.old.text.items ++ attach_text (printed named.now) ++ 10 ∷ []) }
-        ensures refused { IfErr result (λ e. (why : Why) → e ≡ WordFault.Refused why
-            → added self.old.made.items named.now ≡ Err why) }
     {
         let attachment = attachment_of(alloc, self.made.as_slice(), named)?;
         let line = attachment.line(alloc)?;
@@ -58,11 +57,9 @@ impl Recipe {
 
     /// Adds a line.
     fn add(&mut self, alloc: Global, line: &[u8]) -> Result<(), WordFault>
-        ensures made { OnOk result (below self.old.made.items line.now ≡ Ok self.new.made.items) }
+        ensures made { Becomes result self.new.made.items (below self.old.made.items line.now) }
         ensures text { OnOk result (self.new.text.items
             ≡ self.old.text.items ++ line_text line.now ++ 10 ∷ []) }
-        ensures refused { IfErr result (λ e. (why : Why) → e ≡ WordFault.Refused why
-            → below self.old.made.items line.now ≡ Err why) }
     {
         match read_line(alloc, line)? {
             Some(named) => self.attach(alloc, &named),

@@ -1,11 +1,13 @@
 -- Scripts: a fold over lines that carries what the lines above said.
-use Rattle.std.specs.Prelude.{ℕ, ◌+◌, ◌-◌, ◌&&◌, ◌==◌, nat_lt, nat_le, Bool, true, if◌then◌else◌, List, [], ◌∷◌, ◌++◌, length, codes, Option, Some, None, is_some, is_none, option_copied, unwrap_or, Result, Ok, Err}
+use Rattle.std.specs.Prelude.{◌≡◌, ℕ, IfErr, IfOk, ◌+◌, ◌-◌, ◌&&◌, ◌==◌, nat_lt, nat_le, Bool, true, if◌then◌else◌, List, [], ◌∷◌, ◌++◌, length, codes, Option, Some, None, is_some, is_none, option_copied, unwrap_or, Result, Ok, Err}
 use Rattle.std.specs.List.{list_any, slice_split}
 use Rattle.std.specs.Str.{bytes_eq}
 use Rattle.std.specs.Borrow.{Bor}
 use Rattle.ucm_base.specs.Limits.{cluster_limit, package_limit, input_limit}
 use Rattle.scenario.specs.declared.why.Why.{Why}
 use Rattle.scenario.specs.declared.why.Why.TheVariants.{Twice, Limit, Bytes}
+use Rattle.scenario.specs.declared.why.ScriptFault.{ScriptFault}
+use Rattle.scenario.specs.declared.why.ScriptFault.TheVariants.{BadScenario}
 use Rattle.scenario.specs.declared.lines.Installed.{Installed as Cluster}
 use Rattle.scenario.specs.declared.lines.ScriptLine.{ScriptLine}
 use Rattle.scenario.specs.declared.lines.ScriptLine.TheVariants.{Time, Installed, Happens, Fails, Attach}
@@ -111,6 +113,11 @@ read_from size above at n (line ∷ lines) =
 -- the script that an input is, or why it is none
 abbrev pub script_of : Command → List ℕ → Result Script Refused
 script_of Replay input = read_from (length input) nothing_above 0 1 (lines_of input)
+
+-- what is answered is the script, or its refusal, unless memory was wanting
+abbrev pub IsScript : Result Script ScriptFault → Result Script Refused → Type 0
+IsScript result reading = IfOk result (λ s. reading ≡ Ok s) × IfErr result (λ e. (line : ℕ) (why : Why)
+    → e ≡ BadScenario line why → reading ≡ Err (record { line = line; why = why }))
 
 -- a text that may be left
 abbrev pub text_left : Option (Bor (List ℕ)) → Option (List ℕ)

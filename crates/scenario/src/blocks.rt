@@ -1,6 +1,6 @@
 //! Blocks of bytes and sizes, as words name them.
 ghost use Rattle.std.specs.Prelude.{◌≡◌, ◌<◌, ◌^◌, length, min, IfOk, IfErr, Ok, Err};
-ghost use Rattle.scenario.specs.declared.why.Why.{Why};
+ghost use Rattle.scenario.specs.Readings.{IsRead};
 ghost use Rattle.scenario.specs.Blocks.{block_in, block_of, bytes_meant, fill_in, hex_in, known, length_in, length_meant, part_in, part_of, piece_in, piece_of, plain_block, plain_block_in, size_in};
 
 use crate::attachments::{Attached, Attachments};
@@ -90,9 +90,7 @@ fn fill(rest: &[u8]) -> Result<BlockSource, Why>
 
 /// What stands behind `hex:`, as an even number of digits.
 fn hex(alloc: Global, digits: &[u8]) -> Result<BlockSource, WordFault>
-    ensures block { IfOk result (λ b. hex_in digits.now ≡ Ok b) }
-    ensures refused { IfErr result (λ e. (why : Why) → e ≡ WordFault.Refused why
-        → hex_in digits.now ≡ Err why) }
+    ensures { IsRead result (hex_in digits.now) }
 {
     if digits.len() > HEX_LIMIT {
         return Err(WordFault::Refused(Why::Value));
@@ -105,9 +103,7 @@ fn hex(alloc: Global, digits: &[u8]) -> Result<BlockSource, WordFault>
 
 /// A block that needs no attachment, by what stands before its first colon and behind it.
 fn plain_block_of(alloc: Global, kind: &[u8], rest: &[u8]) -> Result<BlockSource, WordFault>
-    ensures block { IfOk result (λ b. plain_block kind.now rest.now ≡ Ok b) }
-    ensures refused { IfErr result (λ e. (why : Why) → e ≡ WordFault.Refused why
-        → plain_block kind.now rest.now ≡ Err why) }
+    ensures { IsRead result (plain_block kind.now rest.now) }
 {
     if kind == b"fill".as_slice() {
         Ok(fill(rest)?)
@@ -120,9 +116,7 @@ fn plain_block_of(alloc: Global, kind: &[u8], rest: &[u8]) -> Result<BlockSource
 
 /// A block that needs no attachment: `fill:<length>:<byte>` or `hex:<digits>`.
 pub fn plain_block(alloc: Global, word: &[u8]) -> Result<BlockSource, WordFault>
-    ensures block { IfOk result (λ b. plain_block_in word.now ≡ Ok b) }
-    ensures refused { IfErr result (λ e. (why : Why) → e ≡ WordFault.Refused why
-        → plain_block_in word.now ≡ Err why) }
+    ensures { IsRead result (plain_block_in word.now) }
 {
     let Some((kind, rest)) = cut(word, b':') else {
         return Err(WordFault::Refused(Why::Value));
@@ -201,9 +195,7 @@ fn block_named(
     kind: &[u8],
     rest: &[u8],
 ) -> Result<BlockSource, WordFault>
-    ensures block { IfOk result (λ b. block_of attachments.now kind.now rest.now ≡ Ok b) }
-    ensures refused { IfErr result (λ e. (why : Why) → e ≡ WordFault.Refused why
-        → block_of attachments.now kind.now rest.now ≡ Err why) }
+    ensures { IsRead result (block_of attachments.now kind.now rest.now) }
 {
     if kind == b"block".as_slice() {
         Ok(piece(attachments, rest)?)
@@ -220,9 +212,7 @@ pub(crate) fn block(
     attachments: &Attachments,
     word: &[u8],
 ) -> Result<BlockSource, WordFault>
-    ensures block { IfOk result (λ b. block_in attachments.now word.now ≡ Ok b) }
-    ensures refused { IfErr result (λ e. (why : Why) → e ≡ WordFault.Refused why
-        → block_in attachments.now word.now ≡ Err why) }
+    ensures { IsRead result (block_in attachments.now word.now) }
 {
     let Some((kind, rest)) = cut(word, b':') else {
         return Err(WordFault::Refused(Why::Value));

@@ -1,6 +1,6 @@
 //! What clients do: numbered calls, units of work and queries.
 ghost use Rattle.std.specs.Prelude.{◌≡◌, IfOk, IfErr, Ok, Err, map};
-ghost use Rattle.scenario.specs.declared.why.Why.{Why};
+ghost use Rattle.scenario.specs.Readings.{IsRead};
 ghost use Rattle.scenario.specs.Events.{call_alone, call_in, call_meant, call_with, data_call, history_query, process_call, progress_query, query_alone, query_in};
 
 use crate::attachments::Attachments;
@@ -157,10 +157,8 @@ fn data(
     counter: &[u8],
     bytes: &[u8],
 ) -> Result<ScriptCall, WordFault>
-    ensures call { IfOk result
-        (λ c. data_call attachments.now name.now id.now counter.now bytes.now ≡ Ok c) }
-    ensures refused { IfErr result (λ e. (why : Why) → e ≡ WordFault.Refused why
-        → data_call attachments.now name.now id.now counter.now bytes.now ≡ Err why) }
+    ensures { IsRead result
+        (data_call attachments.now name.now id.now counter.now bytes.now) }
 {
     if name != b"data".as_slice() {
         return Err(WordFault::Refused(Why::Value));
@@ -177,9 +175,7 @@ pub(crate) fn call(
     attachments: &Attachments,
     words: &[&[u8]],
 ) -> Result<ScriptCall, WordFault>
-    ensures call { IfOk result (λ c. call_in attachments.now (map (λ w. w.now) words.now) ≡ Ok c) }
-    ensures refused { IfErr result (λ e. (why : Why) → e ≡ WordFault.Refused why
-        → call_in attachments.now (map (λ w. w.now) words.now) ≡ Err why) }
+    ensures { IsRead result (call_in attachments.now (map (λ w. w.now) words.now)) }
 {
     match words {
         [name] => Ok(named_call(name)?),

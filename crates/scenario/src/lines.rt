@@ -2,6 +2,7 @@
 ghost use Rattle.std.specs.Prelude.{◌≡◌, ◌≤◌, ◌∷◌, [], IfOk, IfErr, Ok, Err, length, map};
 ghost use Rattle.ucm_base.specs.Limits.{need_limit};
 ghost use Rattle.scenario.specs.declared.why.Why.{Why};
+ghost use Rattle.scenario.specs.Readings.{IsRead};
 ghost use Rattle.scenario.specs.Lines.{ask_line, attach_line, call_line, cluster_line, fails_line, installed_line, is_call_form, is_later, is_query_form, client_query, line_in, line_named, numbered_call, short_line, time_line, work_line};
 
 use crate::attachments::Attachments;
@@ -126,11 +127,9 @@ fn client_call(
     number_word: &[u8],
     words: &[&[u8]],
 ) -> Result<ScriptLine, WordFault>
-    ensures line { IfOk result (λ l. numbered_call attachments.now client_word.now number_word.now
-        (map (λ w. w.now) words.now) ≡ Ok l) }
-    ensures refused { IfErr result (λ e. (why : Why) → e ≡ WordFault.Refused why
-        → numbered_call attachments.now client_word.now number_word.now
-        (map (λ w. w.now) words.now) ≡ Err why) }
+    ensures { IsRead result
+        (numbered_call attachments.now client_word.now number_word.now
+        (map (λ w. w.now) words.now)) }
 {
     let client = client(client_word)?;
     let no = call_no(number_word)?;
@@ -144,10 +143,7 @@ fn read_call(
     attachments: &Attachments,
     words: &[&[u8]],
 ) -> Result<ScriptLine, WordFault>
-    ensures line { IfOk result (λ l. call_line attachments.now (map (λ w. w.now) words.now)
-        ≡ Ok l) }
-    ensures refused { IfErr result (λ e. (why : Why) → e ≡ WordFault.Refused why
-        → call_line attachments.now (map (λ w. w.now) words.now) ≡ Err why) }
+    ensures { IsRead result (call_line attachments.now (map (λ w. w.now) words.now)) }
 {
     match words {
         [at, client, number, call @ ..] => {
@@ -246,9 +242,7 @@ pub(crate) fn read_line(
     attachments: &Attachments,
     words: &[&[u8]],
 ) -> Result<ScriptLine, WordFault>
-    ensures line { IfOk result (λ l. line_in attachments.now (map (λ w. w.now) words.now) ≡ Ok l) }
-    ensures refused { IfErr result (λ e. (why : Why) → e ≡ WordFault.Refused why
-        → line_in attachments.now (map (λ w. w.now) words.now) ≡ Err why) }
+    ensures { IsRead result (line_in attachments.now (map (λ w. w.now) words.now)) }
 {
     match words {
         [first, words @ ..] => read_named(alloc, attachments, first, words),
@@ -270,10 +264,7 @@ fn read_named(
     first: &[u8],
     words: &[&[u8]],
 ) -> Result<ScriptLine, WordFault>
-    ensures line { IfOk result (λ l. line_named attachments.now first.now
-        (map (λ w. w.now) words.now) ≡ Ok l) }
-    ensures refused { IfErr result (λ e. (why : Why) → e ≡ WordFault.Refused why
-        → line_named attachments.now first.now (map (λ w. w.now) words.now) ≡ Err why) }
+    ensures { IsRead result (line_named attachments.now first.now (map (λ w. w.now) words.now)) }
 {
     if is_later_word(first) {
         Err(WordFault::Refused(Why::Later))

@@ -2,18 +2,18 @@
 ghost use Rattle.std.specs.Prelude.{◌≡◌, ◌≤◌, ◌<◌, ◌+◌, ◌-◌, ◌∷◌, [], drop, length, map, take, IfOk, IfErr, OnOk, Ok, Err, Some, ℕ};
 ghost use Rattle.std.specs.List.{slice_split};
 ghost use Rattle.scenario.specs.declared.why.Why.{Why};
+ghost use Rattle.scenario.specs.Readings.{Becomes, IsRead};
 ghost use Rattle.scenario.specs.Lines.{line_in};
-ghost use Rattle.scenario.specs.Scripts.{added, attach_added, attached_with, finished, has_room, has_installed, installed_added, is_end, is_passed_over, line_read, lines_of, nothing_above, pieces, pieces_left, script_of, size_left, text_left, time_added, words_of};
+ghost use Rattle.scenario.specs.Scripts.{IsScript, added, attach_added, attached_with, finished, has_room, has_installed, installed_added, is_end, is_passed_over, line_read, lines_of, nothing_above, pieces, pieces_left, script_of, size_left, text_left, time_added, words_of};
 
 use crate::attachments::{Attached, Attachments};
 use crate::events::EventLine;
 use crate::lines::{Installed, ScriptLine, read_line};
-use crate::rows::Rows;
 use crate::why::{ScriptFault, Why, WordFault};
 use crate::words::first_piece;
 use std::alloc::{AllocError, Global};
-use ucm_base::ClusterName;
 use ucm_base::limits::{CLUSTER_LIMIT, INPUT_LIMIT, PACKAGE_LIMIT};
+use ucm_base::{ClusterName, Rows};
 
 /// One more than the words of the longest line, which installs a cluster with 16 needs.
 const WORD_LIMIT: usize = 22;
@@ -78,9 +78,7 @@ impl Above {
 
     /// Adds the start time, which stands once.
     fn add_time(&mut self, n: u64) -> Result<(), WordFault>
-        ensures added { OnOk result (time_added self.old n ≡ Ok self.new) }
-        ensures refused { IfErr result (λ e. (why : Why) → e ≡ WordFault.Refused why
-            → time_added self.old n ≡ Err why) }
+        ensures { Becomes result self.new (time_added self.old n) }
     {
         if self.time.is_some() {
             return Err(WordFault::Refused(Why::Twice));
@@ -106,9 +104,7 @@ impl Above {
 
     /// Adds a cluster, whose name stands once.
     fn add_installed(&mut self, cluster: Installed) -> Result<(), WordFault>
-        ensures added { OnOk result (installed_added self.old cluster ≡ Ok self.new) }
-        ensures refused { IfErr result (λ e. (why : Why) → e ≡ WordFault.Refused why
-            → installed_added self.old cluster ≡ Err why) }
+        ensures { Becomes result self.new (installed_added self.old cluster) }
     {
         if self.installs(&cluster.name) {
             return Err(WordFault::Refused(Why::Twice));
@@ -132,9 +128,7 @@ impl Above {
 
     /// Adds an attachment, whose name stands once.
     fn add_attachment(&mut self, name: ClusterName, len: u64) -> Result<(), WordFault>
-        ensures added { OnOk result (attach_added self.old name len ≡ Ok self.new) }
-        ensures refused { IfErr result (λ e. (why : Why) → e ≡ WordFault.Refused why
-            → attach_added self.old name len ≡ Err why) }
+        ensures { Becomes result self.new (attach_added self.old name len) }
     {
         if self.attachments.named(name).is_some() {
             return Err(WordFault::Refused(Why::Twice));
@@ -153,9 +147,7 @@ impl Above {
 
     /// Adds what a line says.
     fn add(&mut self, number: u64, line: ScriptLine) -> Result<(), WordFault>
-        ensures added { OnOk result (added number self.old line ≡ Ok self.new) }
-        ensures refused { IfErr result (λ e. (why : Why) → e ≡ WordFault.Refused why
-            → added number self.old line ≡ Err why) }
+        ensures { Becomes result self.new (added number self.old line) }
     {
         match line {
             ScriptLine::Time(n) => self.add_time(n),
@@ -178,10 +170,7 @@ impl Above {
 
 /// The script of all lines, where the bytes from a place on are as many as the attached ones.
 fn finish(above: Above, size: u64, at: u64) -> Result<Script, ScriptFault>
-    ensures script { IfOk result (λ s. finished size above at ≡ Ok s) }
-    ensures refused { IfErr result (λ e. (line : ℕ) (why : Why)
-        → e ≡ ScriptFault.BadScenario line why
-        → finished size above at ≡ Err (record { line = line; why = why })) }
+    ensures { IsScript result (finished size above at) }
 {
     let Above {
         time,
@@ -251,9 +240,7 @@ fn read_words(
     attachments: &Attachments,
     line: &[u8],
 ) -> Result<ScriptLine, WordFault>
-    ensures line { IfOk result (λ l. line_in attachments.now (words_of line.now) ≡ Ok l) }
-    ensures refused { IfErr result (λ e. (why : Why) → e ≡ WordFault.Refused why
-        → line_in attachments.now (words_of line.now) ≡ Err why) }
+    ensures { IsRead result (line_in attachments.now (words_of line.now)) }
 {
     let words = first_words(alloc, line, WORD_LIMIT)?;
     read_line(alloc, attachments, words.as_slice())
@@ -261,9 +248,7 @@ fn read_words(
 
 /// Takes in a line.
 fn take_in(alloc: Global, above: &mut Above, number: u64, line: &[u8]) -> Result<(), WordFault>
-    ensures read { OnOk result (line_read number above.old line.now ≡ Ok above.new) }
-    ensures refused { IfErr result (λ e. (why : Why) → e ≡ WordFault.Refused why
-        → line_read number above.old line.now ≡ Err why) }
+    ensures { Becomes result above.new (line_read number above.old line.now) }
 {
     if is_passed(line) {
         return Ok(());
@@ -281,10 +266,7 @@ fn is_last(line: &[u8]) -> bool
 
 /// The script of an input for the command `replay`.
 fn read_replay(alloc: Global, input: &[u8]) -> Result<Script, ScriptFault>
-    ensures script { IfOk result (λ s. script_of Command.Replay input.now ≡ Ok s) }
-    ensures refused { IfErr result (λ e. (line : ℕ) (why : Why)
-        → e ≡ ScriptFault.BadScenario line why
-        → script_of Command.Replay input.now ≡ Err (record { line = line; why = why })) }
+    ensures { IsScript result (script_of Command.Replay input.now) }
 {
     let mut above = Above::new(alloc);
     let mut at = 0u64;
@@ -308,10 +290,7 @@ fn read_replay(alloc: Global, input: &[u8]) -> Result<Script, ScriptFault>
 
 /// The script that an input is. It is read line by line; blocks are not spelled out.
 pub fn read_script(alloc: Global, input: &[u8], kind: Command) -> Result<Script, ScriptFault>
-    ensures script { IfOk result (λ s. script_of kind input.now ≡ Ok s) }
-    ensures refused { IfErr result (λ e. (line : ℕ) (why : Why)
-        → e ≡ ScriptFault.BadScenario line why
-        → script_of kind input.now ≡ Err (record { line = line; why = why })) }
+    ensures { IsScript result (script_of kind input.now) }
 {
     match kind {
         Command::Replay => read_replay(alloc, input),

@@ -1,7 +1,7 @@
 //! What single words say. Whatever reads scripts or recipes shares these readers.
 ghost use Rattle.std.specs.Prelude.{◌≡◌, ◌==◌, ◌<◌, ◌≤◌, ◌+◌, ◌∷◌, [], length, map, option_map, position, IfOk, IfErr, IfSome, Ok, Err};
 ghost use Rattle.ucm_base.specs.Limits.{need_limit};
-ghost use Rattle.scenario.specs.declared.why.Why.{Why};
+ghost use Rattle.scenario.specs.Readings.{IsRead};
 ghost use Rattle.scenario.specs.Words.{action_in, byte_in, call_no_in, client_in, cut, digit_value, from_one_in, name_in, need_in, needs_in, node_in, number_in, req_in, small_in, version_in};
 ghost use Rattle.scenario.specs.Scripts.{pieces, pieces_left, size_left, text_left};
 
@@ -155,9 +155,7 @@ fn byte_of(high: u8, low: u8) -> Result<u8, Why>
 
 /// A version.
 pub fn version(alloc: Global, word: &[u8]) -> Result<VersionText, WordFault>
-    ensures version { IfOk result (λ v. version_in word.now ≡ Ok v) }
-    ensures refused { IfErr result (λ e. (why : Why) → e ≡ WordFault.Refused why
-        → version_in word.now ≡ Err why) }
+    ensures { IsRead result (version_in word.now) }
 {
     match VersionText::of(alloc, word) {
         Ok(version) => Ok(version),
@@ -168,9 +166,7 @@ pub fn version(alloc: Global, word: &[u8]) -> Result<VersionText, WordFault>
 
 /// A version requirement.
 fn req(alloc: Global, word: &[u8]) -> Result<ReqText, WordFault>
-    ensures req { IfOk result (λ r. req_in word.now ≡ Ok r) }
-    ensures refused { IfErr result (λ e. (why : Why) → e ≡ WordFault.Refused why
-        → req_in word.now ≡ Err why) }
+    ensures { IsRead result (req_in word.now) }
 {
     match ReqText::of(alloc, word) {
         Ok(req) => Ok(req),
@@ -181,9 +177,7 @@ fn req(alloc: Global, word: &[u8]) -> Result<ReqText, WordFault>
 
 /// A cluster and a requirement, joined by `@`.
 pub fn need(alloc: Global, word: &[u8]) -> Result<Need, WordFault>
-    ensures need { IfOk result (λ n. need_in word.now ≡ Ok n) }
-    ensures refused { IfErr result (λ e. (why : Why) → e ≡ WordFault.Refused why
-        → need_in word.now ≡ Err why) }
+    ensures { IsRead result (need_in word.now) }
 {
     let Some((cluster, accepted)) = cut(word, b'@') else {
         return Err(WordFault::Refused(Why::Value));
@@ -196,9 +190,7 @@ pub fn need(alloc: Global, word: &[u8]) -> Result<Need, WordFault>
 /// The needs of these words, of which there are at most 16.
 pub fn needs(alloc: Global, words: &[&[u8]]) -> Result<Needs, WordFault>
     requires { length words.now ≤ need_limit }
-    ensures needs { IfOk result (λ ns. needs_in (map (λ w. w.now) words.now) ≡ Ok ns) }
-    ensures refused { IfErr result (λ e. (why : Why) → e ≡ WordFault.Refused why
-        → needs_in (map (λ w. w.now) words.now) ≡ Err why) }
+    ensures { IsRead result (needs_in (map (λ w. w.now) words.now)) }
 {
     let mut needs = Vec::new(alloc);
     'words: for i in 0..words.len() {
