@@ -1,7 +1,8 @@
+//! A counter over a device that fails.
 ghost use Rattle.std.specs.Prelude.{◌≡◌, ◌+◌, ◌<◌, ◌≤◌, ◌^◌, ◌++◌, [], ◌∷◌, List, ℕ, None, Some, length, vec_len, vec_capacity};
 ghost use Rattle.turn_gate.specs.Parts.{StoodOrNot};
 ghost use Rattle.gate_counter.specs.Ticks.{HasCounted};
-ghost use Rattle.gate_counter.specs.Rises.{rise_of};
+ghost use Rattle.gate_counter.specs.Rises.{IsTrueOf, rise_of};
 ghost use Rattle.gate_counter.specs.declared.tick.Tick.{Tick};
 ghost use Rattle.turn_gate.specs.Views.{account};
 
@@ -63,7 +64,8 @@ impl Machine for Counter {
 impl Counter {
     /// A counter whose device fails at each call that the period divides, or never at 0.
     pub fn new(alloc: Global, period: u64) -> Counter
-        ensures { (result.ticks.items ≡ []) × (result.pending ≡ None) }
+        ensures nothing { (result.ticks.items ≡ []) × (result.pending ≡ None) }
+        ensures calls { (result.faults ≡ 0) × (result.calls ≡ 0) × (result.period ≡ period) }
     {
         Counter {
             ticks: Vec::new(alloc),
@@ -81,7 +83,7 @@ impl Counter {
         self.ticks.as_slice()
     }
 
-    // The newest number of this part, or 0. A test alone says so.
+    /// The newest number of this part, or 0. A test alone says so.
     fn newest(&self, by: u8) -> u32 {
         for tick in self.ticks.iter().rev() {
             if tick.by == by {
@@ -91,7 +93,7 @@ impl Counter {
         0
     }
 
-    // What was pending stands, or is lost.
+    /// What was pending stands, or is lost.
     fn settle(&mut self)
         requires room { vec_len self.old.ticks + 1 < vec_capacity self.old.ticks }
         requires short { length self.old.ticks.items < 2 ^ 50 }
@@ -99,6 +101,7 @@ impl Counter {
             × (self.new.ticks.items ≡ self.old.ticks.items ++ stood) }
         ensures none { self.new.pending ≡ None }
         ensures faults { self.new.faults ≡ self.old.faults }
+        ensures period { self.new.period ≡ self.old.period }
         ensures room { vec_len self.new.ticks < vec_capacity self.new.ticks }
     {
         if let Some(tick) = self.pending {
@@ -110,11 +113,12 @@ impl Counter {
         }
     }
 
-    // Whether the device fails at this call.
+    /// Whether the device fails at this call.
     fn fails(&mut self) -> bool
         ensures ticks { self.new.ticks ≡ self.old.ticks }
         ensures pending { self.new.pending ≡ self.old.pending }
         ensures faults { self.new.faults ≡ self.old.faults }
+        ensures period { self.new.period ≡ self.old.period }
     {
         self.calls = self.calls.wrapping_add(1);
         self.period > 0 && self.calls % self.period == 0
@@ -122,8 +126,11 @@ impl Counter {
 
     /// Settles what is pending, and counts once more for this part.
     pub fn count_for(&mut self, by: u8) -> Answer
-        ensures { HasCounted by (account self.old.ticks.items self.old.pending self.old.faults)
+        ensures goes_on { HasCounted by
+            (account self.old.ticks.items self.old.pending self.old.faults)
             (account self.new.ticks.items self.new.pending self.new.faults) (rise_of result) }
+        ensures answer { IsTrueOf by result self.new.ticks.items }
+        ensures period { self.new.period ≡ self.old.period }
     {
         if self.ticks.len() >= 1 << 40 {
             return Answer::OutOfMemory;

@@ -1,8 +1,9 @@
+//! Counting behind a gate, by one seat and by threads.
 ghost use Rattle.std.specs.Prelude.{◌≡◌, ◌+◌, ◌<◌, ◌≤◌, [], ◌∷◌, ℕ, IfOk, length, vec_capacity, vec_len, None, Some};
 ghost use mathlib.Core.List.{IsPrefix};
 ghost use Rattle.gate_counter.specs.Seats.{IsSeatOf, AreSeatsOf};
 ghost use Rattle.gate_counter.specs.Counters.{account_of};
-ghost use Rattle.gate_counter.specs.Rises.{rise_of};
+ghost use Rattle.gate_counter.specs.Rises.{IsTrueOf, rise_of};
 ghost use Rattle.gate_counter.specs.Ticks.{tells};
 ghost use Rattle.turn_gate.specs.Parts.{AllDiffer, TellsOnly};
 ghost use Rattle.turn_gate.specs.Seats.{fixed_in};
@@ -10,10 +11,10 @@ ghost use denote.Param.Send.{IsSync};
 
 use crate::counter::Counter;
 use crate::tick::Answer;
-use std::alloc::Global;
+use std::alloc::{AllocError, Global};
 use std::sync::Wait;
 use std::thread::{Threads, join};
-use turn_gate::{Gate, OutOfMemory, Seat, Seats};
+use turn_gate::{Gate, Seat, Seats};
 
 /// One turn: counts once for the seat's part.
 pub fn count_once<R: Wait>(rt: &R, gate: &Gate<Counter>, seat: &mut Seat<Counter>, by: u8) -> Answer
@@ -22,6 +23,7 @@ pub fn count_once<R: Wait>(rt: &R, gate: &Gate<Counter>, seat: &mut Seat<Counter
     ensures fixed { seat.new.view.fixed ≡ seat.old.view.fixed }
     ensures goes_on { IsPrefix seat.old.view.seen seat.new.view.seen }
     ensures rises { seat.new.view.rises ≡ seat.old.view.rises + rise_of result }
+    ensures answer { IsTrueOf by result seat.new.view.seen }
 {
     let mut counter = gate.turn(rt, seat);
     let answer = counter.count_for(by);
@@ -114,7 +116,7 @@ pub fn count_together<R: Threads + Wait + Sync>(
     period: u64,
     parts: &[u8],
     count: u32,
-) -> Result<Counter, OutOfMemory>
+) -> Result<Counter, AllocError>
     requires some_part { 0 < length parts.now }
     requires parts_differ { AllDiffer parts.now }
     ensures only_they { IfOk result (λ counter. TellsOnly tells parts.now (account_of counter)) }

@@ -1,6 +1,6 @@
-// Threads that count behind one gate. A poll answers while another thread has the turn; what was
-// counted is each part's counts in their order, each once, whatever the schedule; a device that fails
-// loses a count or keeps it, and never doubles it.
+//! Threads that count behind one gate. A poll answers while another thread has the turn; what was
+//! counted is each part's counts in their order, each once, whatever the schedule; a device that fails
+//! loses a count or keeps it, and never doubles it.
 ghost use Rattle.std.specs.Prelude.{◌≡◌, ◌≤◌, length};
 ghost use Rattle.gate_counter.specs.Seats.{IsSeatOf};
 
@@ -12,7 +12,7 @@ use std::sync::atomic::Ordering::SeqCst;
 use std::thread::join;
 use turn_gate::{Gate, Seat};
 
-// How often a flag is looked at before its thread goes on.
+/// How often a flag is looked at before its thread goes on.
 const LOOKS: u32 = 200_000_000;
 
 fn wait_for(flag: &AtomicU64) -> bool {
@@ -24,7 +24,7 @@ fn wait_for(flag: &AtomicU64) -> bool {
     false
 }
 
-// Takes the turn, and keeps it until the flag `polled` is set.
+/// Takes the turn, and keeps it until the flag `polled` is set.
 fn hold_a_turn<R: Wait>(
     rt: &R,
     gate: &Gate<Counter>,
@@ -86,7 +86,7 @@ fn a_poll_answers_while_another_thread_has_the_turn(rt: HostRuntime) {
     gate.join(&mut first, second);
 }
 
-// Whether each part's counts are 1, 2, 3 and so on, at least this many.
+/// Whether each part's counts are 1, 2, 3 and so on, at least this many.
 fn are_in_order(counter: &Counter, parts: u8, count: u32) -> bool {
     for by in 0..parts {
         let mut no = 0u32;

@@ -1,3 +1,4 @@
+//! Counts, and what became of one.
 ghost use Rattle.std.specs.Prelude.{◌≡◌};
 ghost use Rattle.gate_counter.specs.Rises.{rise_of};
 
