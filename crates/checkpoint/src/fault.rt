@@ -1,9 +1,9 @@
-// Why a half wasn't written.
+//! Why a half wasn't written.
 ghost use Rattle.std.specs.Prelude.{◌≡◌};
 ghost use Rattle.checkpoint.specs.declared.fault.StoreFault.TheVariants.{Failed as faulted, OutOfMemory as no_memory};
 ghost use Rattle.checkpoint.specs.Faults.{fault_of};
 
-use disk_core::{Failed, OutOfMemory, ReadFail};
+use disk_core::{Failed, ReadFail};
 use std::alloc::AllocError;
 
 #[derive(Clone, Copy, Debug, PartialEq, Eq, Drop)]
@@ -14,26 +14,10 @@ pub enum StoreFault {
     OutOfMemory,
 }
 
-impl From<OutOfMemory> for StoreFault {
-    ghost from_gives = { λ _ e. e ≡ no_memory };
-
-    fn from(_: OutOfMemory) -> Self {
-        StoreFault::OutOfMemory
-    }
-}
-
 impl From<AllocError> for StoreFault {
     ghost from_gives = { λ _ e. e ≡ no_memory };
 
     fn from(_: AllocError) -> Self {
-        StoreFault::OutOfMemory
-    }
-}
-
-impl From<wire::OutOfMemory> for StoreFault {
-    ghost from_gives = { λ _ e. e ≡ no_memory };
-
-    fn from(_: wire::OutOfMemory) -> Self {
         StoreFault::OutOfMemory
     }
 }

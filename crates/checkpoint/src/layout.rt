@@ -1,4 +1,4 @@
-// Where the parts of a half lie.
+//! Where the parts of a half lie.
 ghost use Rattle.std.specs.Prelude.{◌≡◌, ◌<◌};
 ghost use Rattle.checkpoint.specs.Halves as halves;
 

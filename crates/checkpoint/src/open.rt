@@ -1,4 +1,4 @@
-// Opening a half.
+//! Opening a half.
 ghost use Rattle.std.specs.Prelude.{◌≡◌, ◌≤◌, ◌<◌, length, OnOk, IsErrOf};
 ghost use Rattle.disk_core.specs.Images.{EachImage, Only, SameImages, HasRisen};
 ghost use Rattle.disk_core.specs.Moments.{LeavesOnly};

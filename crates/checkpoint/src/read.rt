@@ -1,4 +1,4 @@
-// Reading a half.
+//! Reading a half.
 ghost use Rattle.std.specs.Prelude.{◌≡◌, ◌≤◌, ◌<◌, length, take, drop, IfOk, IsErrOf};
 ghost use Rattle.std.specs.Int.{from_be_bytes, w32, w64};
 ghost use Rattle.disk_core.specs.Images.{SameImages, HasRisen};
@@ -52,7 +52,7 @@ pub fn read_half<D: Disk>(disk: &mut D, half: u8) -> Result<Option<HalfBytes>, R
     Ok(Some(HalfBytes { generation, state }))
 }
 
-// The generation and the state's length, behind the gate.
+/// The generation and the state's length, behind the gate.
 fn fields_of(head: &[u8]) -> (u64, u32)
     requires { length head.now ≡ 13 }
     ensures generation { result.0 ≡ from_be_bytes w64 (take 8 (drop 1 head.now)) }

@@ -1,4 +1,4 @@
-// Writing the half that doesn't count.
+//! Writing the half that doesn't count.
 ghost use Rattle.std.specs.Prelude.{◌≡◌, ◌+◌, ◌≤◌, ◌<◌, ◌^◌, Some, length, OnOk, IfOk, IsErrOf};
 ghost use Rattle.disk_core.specs.Images.{Only, SameImages, HasRisen};
 ghost use Rattle.disk_core.specs.Moments.{LeavesOnly};
@@ -52,7 +52,7 @@ pub fn prepare<D: Disk>(
     rewrite(disk, head_area(half), &body)
 }
 
-// The bytes of the body, up to the journal's first byte.
+/// The bytes of the body, up to the journal's first byte.
 fn body_of(alloc: Global, generation: u64, state: &[u8]) -> Result<Vec<u8>, StoreFault>
     requires { length state.now ≤ 131072 }
     ensures body { IfOk result (λ body. body.items
@@ -67,7 +67,7 @@ fn body_of(alloc: Global, generation: u64, state: &[u8]) -> Result<Vec<u8>, Stor
     Ok(body)
 }
 
-// Closes the gate where it is open, and puts these bytes behind it.
+/// Closes the gate where it is open, and puts these bytes behind it.
 fn rewrite<D: Disk>(disk: &mut D, area: Area, body: &[u8]) -> Result<(), StoreFault>
     requires inside { IsInside area (D.seen disk.old) }
     requires fits { 1 + length body.now ≤ area.len }
@@ -90,7 +90,7 @@ fn rewrite<D: Disk>(disk: &mut D, area: Area, body: &[u8]) -> Result<(), StoreFa
     Ok(area.write_synced(disk, 1, body)?)
 }
 
-// Closes the gate where it is open.
+/// Closes the gate where it is open.
 fn close<D: Disk>(disk: &mut D, area: Area) -> Result<(), StoreFault>
     requires inside { IsInside area (D.seen disk.old) }
     requires fits { 0 < area.len }

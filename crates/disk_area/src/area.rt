@@ -1,4 +1,4 @@
-// A window of a disk.
+//! A window of a disk.
 ghost use Rattle.std.specs.Prelude.{◌≡◌, ◌+◌, ◌≤◌, length, slice_range, IfOk, OnOk, OnErr, IsErrOf};
 ghost use Rattle.disk_core.specs.Bytes.{Puts, Torn};
 ghost use Rattle.disk_core.specs.Images.{EachImage, Only, Within, SameImages, From, Follows, HasRisen};

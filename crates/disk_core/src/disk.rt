@@ -1,4 +1,4 @@
-// The trait, with each sentence of the disk model as a clause or a law.
+//! The trait, with each sentence of the disk model as a clause or a law.
 ghost use Rattle.std.specs.Prelude.{◌≡◌, ◌+◌, ◌≤◌, ◌<◌, ◌^◌, List, ℕ, length, slice_range, IfOk, OnOk, OnErr, IsErrOf, is_err, is_ok};
 ghost use Rattle.disk_core.specs.Bytes.{put_at, Torn};
 ghost use Rattle.disk_core.specs.Images.{Only, Within, SameImages, Follows, Allows, HasRisen};
@@ -8,7 +8,8 @@ ghost use Rattle.disk_core.specs.Plans.{no_faults};
 ghost use Rattle.disk_core.specs.Calls.{Call, reserves, reads, writes, syncs, restarts, arms, is_failed};
 ghost use Rattle.disk_core.specs.declared.plan.FaultPlan.{FaultPlan};
 
-use crate::{Failed, FaultPlan, OutOfMemory, ReadFail};
+use crate::{Failed, FaultPlan, ReadFail};
+use std::alloc::AllocError;
 
 /// A disk of a fixed number of bytes. Places and lengths are in bytes, and ranges lie within the size.
 ///
@@ -47,7 +48,7 @@ pub trait Disk {
         ensures { result ≡ fault_count self.now };
 
     /// Makes room for `writes` further writes of at most `bytes` bytes together.
-    fn reserve(&mut self, writes: u32, bytes: u64) -> Result<(), OutOfMemory>
+    fn reserve(&mut self, writes: u32, bytes: u64) -> Result<(), AllocError>
         ensures made { OnOk result (HasRoom writes bytes (room self.new)) }
         ensures room { HasRoom (room self.old).writes (room self.old).bytes (room self.new) }
         ensures reads { seen self.new ≡ seen self.old }
@@ -120,7 +121,7 @@ pub trait Disk {
         ensures own { obeys self.old (restarts (is_err result)) self.new };
 
     /// Arms the plan, once and for good.
-    fn arm(&mut self, plan: &FaultPlan) -> Result<(), OutOfMemory>
+    fn arm(&mut self, plan: &FaultPlan) -> Result<(), AllocError>
         requires { armed self.old ≡ no_faults }
         ensures set { OnOk result (armed self.new ≡ plan.now) }
         ensures unset { OnErr result (armed self.new ≡ armed self.old) }

@@ -1,24 +1,8 @@
-// How a call of a disk ends where it doesn't succeed.
+//! How a call of a disk ends where it doesn't succeed.
 ghost use Rattle.std.specs.Prelude.{◌≡◌};
 ghost use Rattle.disk_core.specs.declared.fault.ReadFail.TheVariants.{Failed as faulted, OutOfMemory as no_memory};
 
-use std::alloc::{AllocError, AllocFailed};
-
-/// Want of memory. It is an answer of its own, merged with no fault of a device.
-#[derive(Clone, Copy, Debug, PartialEq, Eq, Drop)]
-pub struct OutOfMemory;
-
-impl From<AllocError> for OutOfMemory {
-    fn from(_: AllocError) -> Self {
-        OutOfMemory
-    }
-}
-
-impl<T: Drop> From<AllocFailed<T>> for OutOfMemory {
-    fn from(_: AllocFailed<T>) -> Self {
-        OutOfMemory
-    }
-}
+use std::alloc::AllocError;
 
 /// The device failed; its count of faults rose in this call.
 #[derive(Clone, Copy, Debug, PartialEq, Eq, Drop)]
@@ -35,14 +19,6 @@ impl From<AllocError> for ReadFail {
     ghost from_gives = { λ _ e. e ≡ no_memory };
 
     fn from(_: AllocError) -> Self {
-        ReadFail::OutOfMemory
-    }
-}
-
-impl From<OutOfMemory> for ReadFail {
-    ghost from_gives = { λ _ e. e ≡ no_memory };
-
-    fn from(_: OutOfMemory) -> Self {
         ReadFail::OutOfMemory
     }
 }

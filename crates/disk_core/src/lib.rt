@@ -9,5 +9,5 @@ mod fault;
 mod plan;
 
 pub use disk::Disk;
-pub use fault::{Failed, OutOfMemory, ReadFail};
+pub use fault::{Failed, ReadFail};
 pub use plan::{FailKind, Fails, FaultPlan, Stops};

@@ -1,9 +1,8 @@
-// The plan of a disk's faults.
+//! The plan of a disk's faults.
 ghost use Rattle.std.specs.Prelude.{◌≡◌, IfOk};
 ghost use Rattle.disk_core.specs.Plans.{no_faults};
 
-use crate::OutOfMemory;
-use std::alloc::Global;
+use std::alloc::{AllocError, Global};
 use std::marker::Model;
 
 /// A kind of call that a plan lets fail.
@@ -42,7 +41,7 @@ impl Stops {
     }
 
     /// A second list of the same stops.
-    pub fn copy(&self, alloc: Global) -> Result<Stops, OutOfMemory>
+    pub fn copy(&self, alloc: Global) -> Result<Stops, AllocError>
         ensures { IfOk result (λ s. s ≡ self.now) }
     {
         Ok(Stops {
@@ -80,7 +79,7 @@ impl Fails {
     }
 
     /// A second list of the same failures.
-    pub fn copy(&self, alloc: Global) -> Result<Fails, OutOfMemory>
+    pub fn copy(&self, alloc: Global) -> Result<Fails, AllocError>
         ensures { IfOk result (λ f. f ≡ self.now) }
     {
         Ok(Fails {
@@ -108,7 +107,7 @@ impl FaultPlan {
     }
 
     /// A second plan with the same stops and failures.
-    pub fn copy(&self, alloc: Global) -> Result<FaultPlan, OutOfMemory>
+    pub fn copy(&self, alloc: Global) -> Result<FaultPlan, AllocError>
         ensures { IfOk result (λ p. p ≡ self.now) }
     {
         Ok(FaultPlan {

@@ -1,12 +1,11 @@
-// The bytes of a disk, with the record of what was done to them.
+//! The bytes of a disk, with the record of what was done to them.
 ghost use Rattle.std.specs.Prelude.{◌≡◌, ◌+◌, ◌*◌, ◌/◌, ◌≤◌, ◌<◌, ◌^◌, cond, true, [], length, take, vec_len, vec_capacity, OnOk};
 ghost use Rattle.disk_mem.specs.Events.{ranges_from, content_from, kept_by, zeros};
 
 use crate::event::Event;
 use crate::page::PAGE;
 use crate::pages::Pages;
-use disk_core::OutOfMemory;
-use std::alloc::Global;
+use std::alloc::{AllocError, Global};
 
 /// Room for a write is room for two events, for its bytes, and for the pages that it may touch.
 #[derive(Drop)]
@@ -36,7 +35,7 @@ impl Medium {
     ghost use Rattle.disk_mem.specs.Medium.{images, left, room_of};
 
     /// Makes room for so many writes of so many bytes together.
-    pub fn reserve(&mut self, alloc: Global, writes: u32, bytes: u64) -> Result<(), OutOfMemory>
+    pub fn reserve(&mut self, alloc: Global, writes: u32, bytes: u64) -> Result<(), AllocError>
         ensures made { OnOk result (HasRoom writes bytes (room_of self.new)) }
         ensures room { HasRoom self.old.room_writes self.old.room_bytes (room_of self.new) }
         ensures reads { self.new.pages.bytes ≡ self.old.pages.bytes }

@@ -1,4 +1,4 @@
-// The disk in memory.
+//! The disk in memory.
 ghost use Rattle.std.specs.Prelude.{◌≡◌, replicate, IfOk};
 ghost use Rattle.disk_core.specs.Images.{Only};
 ghost use Rattle.disk_core.specs.Plans.{no_faults};
@@ -7,8 +7,8 @@ ghost use Rattle.disk_mem.specs.Obeys.{IsNew};
 use crate::medium::Medium;
 use crate::pages::Pages;
 use crate::strikes::{Fate, Strikes};
-use disk_core::{Disk, FailKind, Failed, FaultPlan, OutOfMemory, ReadFail};
-use std::alloc::Global;
+use disk_core::{Disk, FailKind, Failed, FaultPlan, ReadFail};
+use std::alloc::{AllocError, Global};
 
 /// A disk in memory. It keeps a record of its writes and syncs, from which its crash images follow,
 /// and has memory for the pages and pieces that were written.
@@ -27,7 +27,7 @@ impl MemDisk {
     ghost use Rattle.disk_mem.specs.Strikes.{fate_of, numbers_of, counted, is_stop, is_bad, next};
 
     /// A disk of `size` zeros.
-    pub fn new(alloc: Global, size: u64) -> Result<MemDisk, OutOfMemory>
+    pub fn new(alloc: Global, size: u64) -> Result<MemDisk, AllocError>
         ensures zeros { IfOk result (λ d. ⟦<MemDisk as Disk>⟧.seen d ≡ replicate size 0) }
         ensures nothing_pending { IfOk result (λ d.
             Only (⟦<MemDisk as Disk>⟧.seen d) (⟦<MemDisk as Disk>⟧.images d)) }
@@ -55,7 +55,7 @@ impl MemDisk {
         })
     }
 
-    // What becomes of the next call of this kind. A failure is counted.
+    /// What becomes of the next call of this kind. A failure is counted.
     fn strike(&mut self, kind: FailKind) -> Fate
         ensures fate { result ≡ fate_of kind self.old.strikes }
         ensures stopped { self.new.strikes.stopped ≡ (self.old.strikes.stopped || is_stop result) }
@@ -106,7 +106,7 @@ impl Disk for MemDisk {
         self.faults
     }
 
-    fn reserve(&mut self, writes: u32, bytes: u64) -> Result<(), OutOfMemory> {
+    fn reserve(&mut self, writes: u32, bytes: u64) -> Result<(), AllocError> {
         self.medium.reserve(self.alloc, writes, bytes)
     }
 
@@ -140,7 +140,7 @@ impl Disk for MemDisk {
         Ok(())
     }
 
-    fn arm(&mut self, plan: &FaultPlan) -> Result<(), OutOfMemory> {
+    fn arm(&mut self, plan: &FaultPlan) -> Result<(), AllocError> {
         self.strikes = Strikes {
             plan: plan.copy(self.alloc)?,
             stopped: false,

@@ -1,4 +1,4 @@
-// A page of a disk.
+//! A page of a disk.
 ghost use Rattle.std.specs.Prelude.{◌≡◌, ◌+◌, ◌≤◌, length, replicate, IfOk, vec_len};
 ghost use Rattle.disk_core.specs.Bytes.{put_at};
 

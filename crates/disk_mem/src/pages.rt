@@ -1,4 +1,4 @@
-// Bytes kept in pages, of which only those exist that were written.
+//! Bytes kept in pages, of which only those exist that were written.
 ghost use Rattle.std.specs.Prelude.{◌≡◌, ◌+◌, ◌*◌, ◌≤◌, ◌<◌, ℕ, length, replicate, slice_range, IfOk, OnOk, vec_len};
 ghost use Rattle.disk_core.specs.Bytes.{put_at};
 ghost use Rattle.disk_mem.specs.Pages.{page_bytes, pages_for};
@@ -124,7 +124,7 @@ impl Pages {
         }
     }
 
-    // Puts the piece into the page of this index, at `from` in it.
+    /// Puts the piece into the page of this index, at `from` in it.
     fn put(&mut self, index: usize, from: usize, piece: &[u8])
         requires within { from + length piece.now ≤ 4096 }
         requires range { 4096 * index + from + length piece.now ≤ length self.old.bytes }
@@ -150,7 +150,7 @@ fn stock_up(alloc: Global, spare: &mut Vec<BlankPage>, pages: usize) -> Result<(
     Ok(())
 }
 
-// The page of this place of the table, or one from the stock where none is made yet.
+/// The page of this place of the table, or one from the stock where none is made yet.
 fn page_or_blank(slot: Option<Page>, spare: &mut Vec<BlankPage>) -> Page
     requires { 0 < vec_len spare.old }
     ensures bytes { result.bytes.items ≡ page_bytes slot }

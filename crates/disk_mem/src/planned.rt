@@ -1,4 +1,4 @@
-// What a plan says of one call.
+//! What a plan says of one call.
 ghost use Rattle.std.specs.Prelude.{◌≡◌};
 ghost use Rattle.disk_mem.specs.Strikes.{same_kind, is_listed, stop_of, fate_by, planned};
 
@@ -26,7 +26,7 @@ fn fate(stop: Option<u64>, is_listed: bool) -> Fate
     }
 }
 
-// Whether the call is one of the failures.
+/// Whether the call is one of the failures.
 fn is_listed(fails: &[(FailKind, u64)], kind: FailKind, number: u64) -> bool
     ensures { result ≡ is_listed fails.now kind number }
 {
@@ -35,7 +35,7 @@ fn is_listed(fails: &[(FailKind, u64)], kind: FailKind, number: u64) -> bool
         .any(|fail| is_same(fail.0, kind) && fail.1 == number)
 }
 
-// The bytes that the first stop of this write keeps.
+/// The bytes that the first stop of this write keeps.
 fn first_stop(stops: &[(u64, u64)], number: u64) -> Option<u64>
     ensures { result ≡ stop_of stops.now number }
 {

@@ -1,4 +1,4 @@
-// What a plan lets happen to the calls of a disk.
+//! What a plan lets happen to the calls of a disk.
 ghost use Rattle.std.specs.Prelude.{◌≡◌, ◌||◌, ◌&&◌, ◌==◌, false};
 ghost use Rattle.disk_core.specs.Plans.{no_faults};
 

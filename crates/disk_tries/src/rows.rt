@@ -1,4 +1,4 @@
-// The tables. A record takes five bytes and its payload, and one byte must remain for the next gate.
+//! The tables. A record takes five bytes and its payload, and one byte must remain for the next gate.
 use crate::{TryFault, TurnFault, try_append, try_switch, try_third, try_three};
 use checkpoint::{HalfBytes, StoreFault};
 use disk_core::{FailKind, Fails, FaultPlan, ReadFail, Stops};
@@ -146,7 +146,7 @@ fn a_list_that_is_not_read_says_so(rt: HostRuntime) -> Result<(), Fail> {
     Ok(())
 }
 
-// The generation of what a half reads as, 0 where it reads as nothing.
+/// The generation of what a half reads as, 0 where it reads as nothing.
 fn generation(half: &Option<HalfBytes>) -> u64 {
     match half {
         Some(body) => body.generation,

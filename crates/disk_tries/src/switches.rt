@@ -1,4 +1,4 @@
-// A switch to half 0 of a fresh disk, under a plan.
+//! A switch to half 0 of a fresh disk, under a plan.
 ghost use Rattle.std.specs.Prelude.{◌≡◌, ◌≤◌, length, IfOk};
 ghost use Rattle.disk_core.specs.Images.{Only};
 ghost use Rattle.disk_core.specs.Plans.{no_faults};
@@ -7,9 +7,9 @@ ghost use Rattle.checkpoint.specs.Counting.{IsSpare, IsNewer, HasHalf};
 
 use crate::TryFault;
 use checkpoint::{HalfBytes, StoreFault, open_half, prepare, read_half};
-use disk_core::{Disk, FaultPlan, OutOfMemory};
+use disk_core::{Disk, FaultPlan};
 use disk_mem::MemDisk;
-use std::alloc::Global;
+use std::alloc::{AllocError, Global};
 
 /// How the two calls of a switch ended, what the half reads as after a restart, and how often the disk had failed.
 #[derive(Drop)]
@@ -21,7 +21,7 @@ pub struct Switched {
 }
 
 /// A disk of zeros with room for a half: none counts.
-pub fn blank(alloc: Global, size: u64) -> Result<MemDisk, OutOfMemory>
+pub fn blank(alloc: Global, size: u64) -> Result<MemDisk, AllocError>
     requires { 2097152 ≤ size }
     ensures nothing_pending { IfOk result (λ d.
         Only (⟦<MemDisk as Disk>⟧.seen d) (⟦<MemDisk as Disk>⟧.images d)) }

@@ -1,4 +1,4 @@
-// A journal on a fresh disk, and an append under a plan.
+//! A journal on a fresh disk, and an append under a plan.
 ghost use Rattle.std.specs.Prelude.{◌≡◌, ◌≤◌, ◌<◌, ◌^◌, length, IfOk};
 ghost use Rattle.disk_core.specs.Images.{EachImage};
 ghost use Rattle.disk_core.specs.Plans.{no_faults};
@@ -6,10 +6,10 @@ ghost use Rattle.journal.specs.Ready.{IsReady};
 
 use crate::TurnFault;
 use disk_area::Area;
-use disk_core::{Disk, FaultPlan, OutOfMemory, ReadFail};
+use disk_core::{Disk, FaultPlan, ReadFail};
 use disk_mem::MemDisk;
 use journal::{Journal, JournalFault, Records, list};
-use std::alloc::Global;
+use std::alloc::{AllocError, Global};
 
 /// Why nothing was tried.
 #[derive(Clone, Copy, Debug, PartialEq, Eq, Drop)]
@@ -25,8 +25,8 @@ pub enum TryFault {
     Restart,
 }
 
-impl From<OutOfMemory> for TryFault {
-    fn from(_: OutOfMemory) -> Self {
+impl From<AllocError> for TryFault {
+    fn from(_: AllocError) -> Self {
         TryFault::Memory
     }
 }
@@ -52,7 +52,7 @@ pub struct Tried {
 }
 
 /// A disk of `size` zeros with a fresh journal on its first `len` bytes.
-pub fn fresh(alloc: Global, size: u64, len: u64) -> Result<(MemDisk, Journal), OutOfMemory>
+pub fn fresh(alloc: Global, size: u64, len: u64) -> Result<(MemDisk, Journal), AllocError>
     requires some { 0 < len }
     requires inside { len ≤ size }
     ensures ready { IfOk result (λ made. EachImage (⟦<MemDisk as Disk>⟧.images made.0)

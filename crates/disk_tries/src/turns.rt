@@ -1,4 +1,4 @@
-// Switches from half to half, the last of them under a plan.
+//! Switches from half to half, the last of them under a plan.
 ghost use Rattle.std.specs.Prelude.{◌≡◌, ◌≢◌, ◌≤◌, length, OnOk, IfOk, IfSome};
 ghost use Rattle.disk_core.specs.Images.{Only};
 ghost use Rattle.disk_core.specs.Plans.{no_faults};
@@ -7,9 +7,9 @@ ghost use Rattle.checkpoint.specs.Counting.{newest, HasHalf, IsNewer};
 
 use crate::TryFault;
 use checkpoint::{HalfBytes, StoreFault, open_half, prepare, read_half};
-use disk_core::{Disk, FaultPlan, OutOfMemory, ReadFail};
+use disk_core::{Disk, FaultPlan, ReadFail};
 use disk_mem::MemDisk;
-use std::alloc::Global;
+use std::alloc::{AllocError, Global};
 
 /// Why a switch didn't end well.
 #[derive(Clone, Copy, Debug, PartialEq, Eq, Drop)]
@@ -72,8 +72,8 @@ pub fn try_third(
     })
 }
 
-// A disk of zeros with room for both halves.
-fn two_halves(alloc: Global, size: u64) -> Result<MemDisk, OutOfMemory>
+/// A disk of zeros with room for both halves.
+fn two_halves(alloc: Global, size: u64) -> Result<MemDisk, AllocError>
     requires { 4194304 ≤ size }
     ensures nothing_pending { IfOk result (λ d.
         Only (⟦<MemDisk as Disk>⟧.seen d) (⟦<MemDisk as Disk>⟧.images d)) }
@@ -83,7 +83,7 @@ fn two_halves(alloc: Global, size: u64) -> Result<MemDisk, OutOfMemory>
     MemDisk::new(alloc, size)
 }
 
-// Switches to the half that doesn't count.
+/// Switches to the half that doesn't count.
 fn turn(alloc: Global, disk: &mut MemDisk, state: &[u8]) -> Result<(), TurnFault>
     requires nothing_pending { Only (⟦<MemDisk as Disk>⟧.seen disk.old)
         (⟦<MemDisk as Disk>⟧.images disk.old) }
@@ -105,7 +105,7 @@ fn turn(alloc: Global, disk: &mut MemDisk, state: &[u8]) -> Result<(), TurnFault
     Ok(open_half(disk, half)?)
 }
 
-// The half that doesn't count, and a generation above both.
+/// The half that doesn't count, and a generation above both.
 fn next(half_0: &Option<HalfBytes>, half_1: &Option<HalfBytes>) -> Option<(u8, u64)>
     ensures half { IfSome result (λ n. n.0 ≤ 1) }
     ensures spare { IfSome result (λ n.

@@ -1,4 +1,4 @@
-// The log.
+//! The log.
 ghost use Rattle.std.specs.Prelude.{◌≡◌, ◌⊎◌, ◌+◌, ◌≤◌, ◌<◌, ◌^◌, ◌↔◌, [], ◌∷◌, ◌++◌, List, ℕ, length, All, IfOk, OnOk, OnErr, IsErrOf};
 ghost use Rattle.disk_core.specs.Images.{EachImage, HasRisen};
 ghost use Rattle.disk_core.specs.Moments.{LeavesOnly};

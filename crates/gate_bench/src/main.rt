@@ -5,19 +5,18 @@
 #![tactic(auto)]
 
 use gate_counter::{Counter, count_together};
-use std::alloc::Global;
+use std::alloc::{AllocError, Global};
 use std::sync::Wait;
 use std::thread::Threads;
 use std::time::Instant;
 use std::{env, io};
-use turn_gate::OutOfMemory;
 
 fn count<R: Threads + Wait + Sync>(
     rt: &R,
     alloc: Global,
     threads: u32,
     turns: u32,
-) -> Result<Counter, OutOfMemory> {
+) -> Result<Counter, AllocError> {
     match threads {
         1 => count_together(rt, alloc, 0, &[0], turns),
         2 => count_together(rt, alloc, 0, &[0, 1], turns),

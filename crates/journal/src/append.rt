@@ -1,4 +1,4 @@
-// Appending to a journal.
+//! Appending to a journal.
 ghost use Rattle.std.specs.Prelude.{◌≡◌, ◌+◌, ◌≤◌, ◌<◌, ◌^◌, ◌↔◌, ◌∷◌, [], ◌++◌, length, OnOk, IfOk, IsErrOf};
 ghost use Rattle.disk_core.specs.Images.{EachImage, SameImages, From, HasRisen};
 ghost use Rattle.disk_core.specs.Moments.{LeavesOnly};
@@ -9,7 +9,7 @@ ghost use Rattle.journal.specs.Ready.{IsReady, Grows, MayGrow};
 use crate::fault::JournalFault;
 use disk_area::Area;
 use disk_core::Disk;
-use std::alloc::Global;
+use std::alloc::{AllocError, Global};
 use wire::{put_bytes, put_u8};
 
 /// A journal in its area, of which the records take the first `used` bytes.
@@ -89,8 +89,8 @@ impl Journal {
     }
 }
 
-// What stands behind a gate: the payload behind its length, and the next gate, closed.
-fn body_of(alloc: Global, payload: &[u8]) -> Result<Vec<u8>, wire::OutOfMemory>
+/// What stands behind a gate: the payload behind its length, and the next gate, closed.
+fn body_of(alloc: Global, payload: &[u8]) -> Result<Vec<u8>, AllocError>
     requires { length payload.now < 2 ^ 32 }
     ensures { IfOk result (λ body. body.items ≡ bytes_field payload.now ++ 0 ∷ []) }
 {

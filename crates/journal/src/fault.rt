@@ -1,8 +1,9 @@
-// Why an append didn't succeed.
+//! Why an append didn't succeed.
 ghost use Rattle.std.specs.Prelude.{◌≡◌};
 ghost use Rattle.journal.specs.declared.fault.JournalFault.TheVariants.{Failed as faulted, OutOfMemory as no_memory};
 
-use disk_core::{Failed, OutOfMemory};
+use disk_core::Failed;
+use std::alloc::AllocError;
 
 #[derive(Clone, Copy, Debug, PartialEq, Eq, Drop)]
 pub enum JournalFault {
@@ -14,18 +15,10 @@ pub enum JournalFault {
     OutOfMemory,
 }
 
-impl From<OutOfMemory> for JournalFault {
+impl From<AllocError> for JournalFault {
     ghost from_gives = { λ _ e. e ≡ no_memory };
 
-    fn from(_: OutOfMemory) -> Self {
-        JournalFault::OutOfMemory
-    }
-}
-
-impl From<wire::OutOfMemory> for JournalFault {
-    ghost from_gives = { λ _ e. e ≡ no_memory };
-
-    fn from(_: wire::OutOfMemory) -> Self {
+    fn from(_: AllocError) -> Self {
         JournalFault::OutOfMemory
     }
 }

@@ -1,4 +1,4 @@
-// Reading a journal's list.
+//! Reading a journal's list.
 ghost use Rattle.std.specs.Prelude.{◌≡◌, ◌≤◌, ◌<◌, [], ◌∷◌, length, IfOk, IsErrOf, MatchOption, IfSome};
 ghost use Rattle.disk_core.specs.Images.{SameImages, HasRisen};
 ghost use Rattle.disk_core.specs.Moments.{Elapses};
@@ -41,7 +41,7 @@ fn records_of(alloc: Global, bytes: &[u8]) -> Result<Records, AllocError>
     Ok(Records::of(payloads))
 }
 
-// The first record and what is behind it, where the bytes begin with a whole one.
+/// The first record and what is behind it, where the bytes begin with a whole one.
 fn first_record(bytes: &[u8]) -> Option<(&[u8], &[u8])>
     ensures list { MatchOption result (journal_list bytes.now ≡ [])
         (λ r. journal_list bytes.now ≡ r.0.now ∷ journal_list r.1.now) }

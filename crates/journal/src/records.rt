@@ -1,4 +1,4 @@
-// The records of a journal, as they are read.
+//! The records of a journal, as they are read.
 ghost use Rattle.std.specs.Prelude.{◌≡◌, ◌==◌, ◌^◌, ◌<◌, length};
 ghost use Rattle.journal.specs.Records.{taken};
 

@@ -16,7 +16,7 @@ const DISK: u64 = 46_137_344;
 
 const JOURNAL: u64 = 1_835_008;
 
-// How many records are read after so many appends, and how often the disk failed.
+/// How many records are read after so many appends, and how often the disk failed.
 fn append_many(alloc: Global, count: u64) -> std::result::Result<(usize, u64), TryFault> {
     let (mut disk, mut journal) = fresh(alloc, DISK, JOURNAL)?;
     for _record in 0..count {

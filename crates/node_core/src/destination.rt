@@ -37,7 +37,7 @@ impl<S: Staging> Held<S> {
         }
     }
 
-    // Where the running cluster of a name lies.
+    /// Where the running cluster of a name lies.
     fn running_at(&self, name: ClusterName) -> Extent
         ensures { result ≡ running_at self.now.state name }
     {
@@ -51,7 +51,7 @@ impl<S: Staging> Held<S> {
         }
     }
 
-    // The lowest place that no running cluster, saved cluster or planned change has.
+    /// The lowest place that no running cluster, saved cluster or planned change has.
     fn lowest_free(&self) -> u8
         ensures { result ≡ lowest_free self.now.state }
     {
@@ -63,14 +63,14 @@ impl<S: Staging> Held<S> {
         0
     }
 
-    // Whether one of them has the place.
+    /// Whether one of them has the place.
     fn is_taken(&self, place: u8) -> bool
         ensures { result ≡ is_taken self.now.state place }
     {
         has_place(self.running.as_slice(), place) || self.session_takes(place)
     }
 
-    // Whether a saved cluster or a planned change has the place.
+    /// Whether a saved cluster or a planned change has the place.
     fn session_takes(&self, place: u8) -> bool
         ensures { result ≡ session_takes self.now.state.session place }
     {
@@ -81,14 +81,14 @@ impl<S: Staging> Held<S> {
     }
 }
 
-// Whether a saved cluster or a planned change of the session has the place.
+/// Whether a saved cluster or a planned change of the session has the place.
 fn takes(session: &Session, place: u8) -> bool
     ensures { result ≡ takes session.now place }
 {
     has_place(session.saved.as_slice(), place) || plans_place(session.changes.as_slice(), place)
 }
 
-// Whether a cluster lies at the place.
+/// Whether a cluster lies at the place.
 fn has_place(clusters: &[Cluster<Extent>], place: u8) -> bool
     ensures { result ≡ list_any (λ c. c.content.place == place) clusters.now }
 {
@@ -97,7 +97,7 @@ fn has_place(clusters: &[Cluster<Extent>], place: u8) -> bool
         .any(|cluster| cluster.content.place == place)
 }
 
-// Whether a change is planned at the place.
+/// Whether a change is planned at the place.
 fn plans_place(changes: &[Change<Extent>], place: u8) -> bool
     ensures { result ≡ list_any (λ c. c.part.payload.place == place) changes.now }
 {

@@ -18,7 +18,7 @@ pub(crate) fn planned(alloc: Global, session: &Session) -> Result<Clusters, Allo
     Ok(clusters)
 }
 
-// The clusters after one change, in order.
+/// The clusters after one change, in order.
 fn changed(alloc: Global, part: &Part<Extent>, clusters: &Clusters) -> Result<Clusters, AllocError>
     ensures { IfOk result (λ cs. cs ≡ changed_by part.now clusters.now) }
 {
@@ -34,7 +34,7 @@ fn changed(alloc: Global, part: &Part<Extent>, clusters: &Clusters) -> Result<Cl
     Ok(Clusters::of(all))
 }
 
-// The cluster that a part brings.
+/// The cluster that a part brings.
 fn brought(alloc: Global, part: &Part<Extent>) -> Result<Cluster<Extent>, AllocError>
     ensures { IfOk result (λ c. c ≡ brought part.now) }
 {
@@ -46,7 +46,7 @@ fn brought(alloc: Global, part: &Part<Extent>) -> Result<Cluster<Extent>, AllocE
     })
 }
 
-// The clusters with this one in its place.
+/// The clusters with this one in its place.
 fn with(
     alloc: Global,
     cluster: Cluster<Extent>,
@@ -74,7 +74,7 @@ enum Pick {
 }
 
 impl Pick {
-    // Whether a cluster of the other name is taken over.
+    /// Whether a cluster of the other name is taken over.
     fn takes(self, name: &ClusterName, other: &ClusterName) -> bool
         ensures { result ≡ picks self name.now other.now }
     {
@@ -86,7 +86,7 @@ impl Pick {
     }
 }
 
-// Copies of the clusters that are taken over, in order.
+/// Copies of the clusters that are taken over, in order.
 fn picked(
     alloc: Global,
     pick: Pick,

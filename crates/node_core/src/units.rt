@@ -40,7 +40,7 @@ impl<S: Staging> Held<S> {
         }
     }
 
-    // Makes ready the clusters that run after the next unit, where it changes them.
+    /// Makes ready the clusters that run after the next unit, where it changes them.
     fn reserve_clusters(&mut self, alloc: Global) -> Result<(), AllocError>
         requires sound { IsSound self.old }
         ensures kept { IsKept self.old self.new }
@@ -85,7 +85,7 @@ impl<S: Staging> Held<S> {
         }
     }
 
-    // Does the next unit, where there is one.
+    /// Does the next unit, where there is one.
     fn unit(&mut self, passed: bool) -> bool
         requires sound { IsSound self.old }
         requires reserved { IsReservedWork self.old }
@@ -105,7 +105,7 @@ impl<S: Staging> Held<S> {
         true
     }
 
-    // Writes a unit's line.
+    /// Writes a unit's line.
     fn enter(&mut self)
         requires entries { self.old.state.entries < entry_limit }
         requires order { IsInOrder package_reading self.old.areas self.old.state }
@@ -123,14 +123,14 @@ impl<S: Staging> Held<S> {
         self.entries += 1;
     }
 
-    // The verdict of the next unit: true outside Verifying.
+    /// The verdict of the next unit: true outside Verifying.
     fn unit_passes(&self, fails: &[ClusterName]) -> bool
         ensures { result ≡ unit_passes fails.now (node_of self.now) }
     {
         self.status != Status::Verifying || self.passes(fails)
     }
 
-    // Whether the change that is verified next is of a cluster that doesn't fail.
+    /// Whether the change that is verified next is of a cluster that doesn't fail.
     fn passes(&self, fails: &[ClusterName]) -> bool
         ensures { result ≡ passes fails.now (node_of self.now) }
     {
@@ -143,7 +143,7 @@ impl<S: Staging> Held<S> {
         }
     }
 
-    // The planned clusters, which are ready, run, and none is verified.
+    /// The planned clusters, which are ready, run, and none is verified.
     fn activate_unit(&mut self, passed: bool)
         requires status { self.old.state.status ≡ Activating }
         requires sound { IsSound self.old }
@@ -161,7 +161,7 @@ impl<S: Staging> Held<S> {
         }
     }
 
-    // One change more is verified, or the node turns back.
+    /// One change more is verified, or the node turns back.
     fn verify_unit(&mut self, passed: bool)
         requires status { self.old.state.status ≡ Verifying }
         requires sound { IsSound self.old }
@@ -182,7 +182,7 @@ impl<S: Staging> Held<S> {
         }
     }
 
-    // The saved clusters, which are ready, run again.
+    /// The saved clusters, which are ready, run again.
     fn roll_back_unit(&mut self, passed: bool)
         requires status { self.old.state.status ≡ RollingBack }
         requires sound { IsSound self.old }
@@ -196,7 +196,7 @@ impl<S: Staging> Held<S> {
         }
     }
 
-    // The session is over: its owner's end mark is kept, and the transfers that were processed are gone.
+    /// The session is over: its owner's end mark is kept, and the transfers that were processed are gone.
     fn clean_up_unit(&mut self, passed: bool)
         requires status { self.old.state.status ≡ CleaningUp }
         requires sound { IsSound self.old }
@@ -211,7 +211,7 @@ impl<S: Staging> Held<S> {
     }
 }
 
-// How a session with this tag ends.
+/// How a session with this tag ends.
 fn end_mark(tag: u32, outcome: Option<Outcome>) -> Option<EndMark>
     ensures { result ≡ option_map (λ o. record { tag = tag; outcome = o }) outcome }
 {
@@ -221,7 +221,7 @@ fn end_mark(tag: u32, outcome: Option<Outcome>) -> Option<EndMark>
     }
 }
 
-// Whether one of the names is this.
+/// Whether one of the names is this.
 fn has_name(names: &[ClusterName], name: &ClusterName) -> bool
     ensures { result ≡ has_name names.now name.now }
 {

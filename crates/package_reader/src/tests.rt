@@ -119,7 +119,7 @@ fn bytes_of(alloc: Global, made: Made) -> Result<Vec<u8>, Fail> {
     }
 }
 
-// The first fault of each, in the order of the rule.
+/// The first fault of each, in the order of the rule.
 #[test]
 fn faults_have_their_places(rt: HostRuntime) -> Result<(), Fail> {
     let alloc = rt.alloc();
@@ -229,7 +229,7 @@ fn printed(
     }
 }
 
-// The largest payload, a byte more, and payloads that aren't their manifest's.
+/// The largest payload, a byte more, and payloads that aren't their manifest's.
 #[test]
 fn what_is_not_printed(rt: HostRuntime) -> Result<(), Fail> {
     let alloc = rt.alloc();

@@ -1,4 +1,4 @@
-// The areas of a node.
+//! The areas of a node.
 
 /// An area in which bytes lie.
 #[derive(Clone, Copy, Debug, PartialEq, Eq)]

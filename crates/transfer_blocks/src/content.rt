@@ -1,4 +1,4 @@
-// The bytes of one area, or of the two sides of a place.
+//! The bytes of one area, or of the two sides of a place.
 ghost use Rattle.std.specs.Prelude.{◌≡◌, ◌+◌, ◌≤◌, [], length, slice_range, IfOk, OnOk, OnErr};
 ghost use Rattle.transfer_blocks.specs.Areas.{on_pair, with_side, overwritten};
 

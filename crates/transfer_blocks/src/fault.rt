@@ -1,4 +1,4 @@
-// How a call of a staging ends where it doesn't succeed.
+//! How a call of a staging ends where it doesn't succeed.
 ghost use Rattle.std.specs.Prelude.{◌≡◌};
 ghost use Rattle.transfer_blocks.specs.declared.fault.StagingFault.TheVariants.{OutOfMemory as no_memory};
 

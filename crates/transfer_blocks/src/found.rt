@@ -1,4 +1,4 @@
-// What a look-up of a transfer gives.
+//! What a look-up of a transfer gives.
 use pm_types::Header;
 
 /// A transfer's header, and the slot in which its bytes lie.

@@ -1,4 +1,4 @@
-// The refusals of the transfer table, row by row; of a transfer that is there, from the second row on.
+//! The refusals of the transfer table, row by row; of a transfer that is there, from the second row on.
 ghost use Rattle.std.specs.Prelude.{◌≡◌, ◌+◌, ◌<◌, ◌≤◌, ◌||◌, not, None, Some};
 ghost use Rattle.ucm_base.specs.Limits.{transfer_limit, package_limit, last_id};
 ghost use Rattle.pm_types.specs.NodeState.{is_in};

@@ -1,4 +1,4 @@
-// Searches in a list of transfers.
+//! Searches in a list of transfers.
 ghost use Rattle.std.specs.Prelude.{◌≡◌, ◌==◌, not};
 ghost use Rattle.std.specs.List.{list_all, position};
 ghost use Rattle.pm_types.specs.Transfers.{is_of};

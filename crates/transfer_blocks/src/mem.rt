@@ -1,4 +1,4 @@
-// Areas in memory.
+//! Areas in memory.
 ghost use Rattle.std.specs.Prelude.{◌≡◌, IfOk};
 ghost use Rattle.transfer_blocks.specs.Areas.{no_contents, AreasFit};
 

@@ -1,4 +1,4 @@
-// Look-ups of a transfer that a call would change.
+//! Look-ups of a transfer that a call would change.
 ghost use Rattle.std.specs.Prelude.{◌≡◌, ◌≢◌, ◌≤◌, ◌+◌, None, Some, IfSome};
 ghost use Rattle.pm_types.specs.Refusals.{first_refusal};
 ghost use Rattle.pm_types.specs.Transfers.{data_refusals, exit_refusals};

@@ -1,4 +1,4 @@
-// The trait of what keeps the areas.
+//! The trait of what keeps the areas.
 ghost use Rattle.std.specs.Prelude.{◌≡◌, ◌+◌, ◌≤◌, ℕ, length, slice_range, IfOk, OnOk, OnErr, IsErrOf};
 ghost use Rattle.ucm_base.specs.Limits.{package_limit};
 ghost use Rattle.pm_types.specs.Stored.{Areas};

@@ -1,5 +1,5 @@
-// Rows over areas in memory, and over the transfer table. A put goes over bytes that lie there and past their end; a
-// slot that becomes free is taken again; a whole transfer has the contents that were read, and goes no further.
+//! Rows over areas in memory, and over the transfer table. A put goes over bytes that lie there and past their end; a
+//! slot that becomes free is taken again; a whole transfer has the contents that were read, and goes no further.
 use crate::{Area, MemStaging, Staging, StagingFault, Transfers};
 use pm_types::{Contents, ExitVerdict, Phase, Refusal, Reply, TransferList};
 use std::alloc::{AllocError, Global};
@@ -20,7 +20,7 @@ fn an_area_holds_what_was_put(rt: HostRuntime) -> Result<(), StagingFault> {
     Ok(())
 }
 
-// What was read of a package whose payload has five bytes.
+/// What was read of a package whose payload has five bytes.
 fn contents(alloc: Global) -> Option<Contents> {
     let name = ClusterName::of(b"brake").ok()?;
     let version = VersionText::of(alloc, b"1.2.3").ok()?;

@@ -1,4 +1,4 @@
-// The transfers of a node, with the next id.
+//! The transfers of a node, with the next id.
 ghost use Rattle.std.specs.Prelude.{◌≡◌, ◌<◌, ℕ, None, Some, IfSome, length, map, option_map, slice_index_or, true};
 ghost use Rattle.std.specs.Option.{option_or};
 ghost use Rattle.pm_types.specs.declared.state.StoredTransfer.{StoredTransfer as stored};
@@ -213,7 +213,7 @@ impl Transfers {
         }
     }
 
-    // The place of the transfer of this id.
+    /// The place of the transfer of this id.
     fn place_by_id(&self, id: u32) -> Option<usize>
         ensures place { IfSome result (λ i. i < length self.now.transfers) }
         ensures id { IfSome result (λ i. (d : stored)
@@ -224,7 +224,7 @@ impl Transfers {
         place_of_id(self.held.as_slice(), id)
     }
 
-    // The place of the client's transfer of this id.
+    /// The place of the client's transfer of this id.
     fn place(&self, client: ClientId, id: u32) -> Option<usize>
         ensures some { IfSome result (λ i. (d : stored) → stored_of self.now.transfers client id
             ≡ Some (slice_index_or self.now.transfers i d)) }

@@ -1,3 +1,4 @@
+//! The steps of one seat: a turn, what it publishes, and a poll.
 ghost use Rattle.std.specs.Prelude.{◌≡◌, ◌+◌, ◌*◌, ◌<◌, ◌≤◌, [], ◌∷◌, true, false, None, Some, Option, IfOk, IfErr, IfSome, length};
 ghost use mathlib.Core.List.{IsPrefix};
 ghost use Rattle.turn_gate.specs.Parts.{PartsFit};
@@ -16,20 +17,20 @@ use std::sync::Wait;
 use std::sync::atomic::AtomicU64;
 use std::sync::atomic::Ordering::SeqCst;
 
-// The count word: 16 times the length of the list, and the status code.
+/// The count word: 16 times the length of the list, and the status code.
 pub(crate) const COUNT: usize = 0;
 
-// The turn word: 1 while a seat has the turn.
+/// The turn word: 1 while a seat has the turn.
 pub(crate) const TURN: usize = 1;
 
-// How often a thread looks at the turn word before it sleeps.
+/// How often a thread looks at the turn word before it sleeps.
 const LOOKS: u32 = 100;
 
 /// A machine behind a turn. Clauses see its name, which its seats have too.
 #[derive(Drop)]
 pub struct Gate<M: Machine> {
     pub(crate) table: Table<Option<M>, View<M::Entry, M::Opening>, (), Law, Global>,
-    // 1 where a thread may sleep on this word, so that nobody is woken where none does.
+    /// 1 where a thread may sleep on this word, so that nobody is woken where none does.
     pub(crate) asleep: AtomicU64,
 }
 
@@ -76,9 +77,9 @@ impl<M: Machine> Gate<M> {
         unreachable!()
     }
 
-    // Looks for a free turn a bounded number of times, and then sleeps until one is given back. The
-    // second look comes after the note that it may sleep, so a give that it missed has seen the note.
-    // A thread that slept makes the note anew, since others may sleep too.
+    /// Looks for a free turn a bounded number of times, and then sleeps until one is given back. The
+    /// second look comes after the note that it may sleep, so a give that it missed has seen the note.
+    /// A thread that slept makes the note anew, since others may sleep too.
     fn wait<R: Wait>(&self, rt: &R) {
         for _ in 0..LOOKS {
             if self.table.shared.peek(TURN) == 0 {

@@ -16,5 +16,4 @@ mod view;
 pub use gate::Gate;
 pub use machine::Machine;
 pub use seat::{Seat, Seats};
-pub use share::OutOfMemory;
 pub use view::{Account, Fixed, Part, View};

@@ -1,3 +1,4 @@
+//! What a gate holds.
 ghost use Rattle.std.specs.Prelude.{◌≡◌, ◌<◌, ◌^◌, List, ℕ, length, Option};
 ghost use Rattle.turn_gate.specs.declared.view.Account.{Account};
 

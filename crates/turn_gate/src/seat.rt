@@ -1,3 +1,4 @@
+//! Seats: what a thread steps with.
 use crate::machine::Machine;
 use crate::view::View;
 use std::alloc::Global;

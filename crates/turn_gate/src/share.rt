@@ -1,3 +1,4 @@
+//! The making of a gate, seats split and joined, and its close.
 ghost use Rattle.std.specs.Prelude.{◌≡◌, ◌+◌, ◌<◌, ◌≤◌, [], ◌∷◌, true, None, Some, IfOk, IfErr, IfSome, length};
 ghost use mathlib.Core.List.{IsPrefix};
 ghost use Rattle.turn_gate.specs.Parts.{numbers_of, parts_of, AllDiffer, IsAmong, PartsFit, TellsOnly, at_most_last};
@@ -11,21 +12,17 @@ use crate::machine::Machine;
 use crate::seat::{Seat, Seats};
 use crate::steps::{Both, Compare, Cut, Give, Make, Moved, Numbers, TakeSlot};
 use atomic_table::Table;
-use std::alloc::Global;
+use std::alloc::{AllocError, Global};
 use std::marker::Brand;
 use std::sync::atomic::AtomicU64;
 
-/// There was no memory.
-#[derive(Clone, Copy, Debug, PartialEq, Eq, Drop)]
-pub struct OutOfMemory;
-
 impl<M: Machine> Gate<M> {
-    // A gate, and one seat with all parts.
+    /// A gate, and one seat with all parts.
     fn make_as<J: Numbers>(
         alloc: Global,
         machine: M,
         parts: &[u8],
-    ) -> Result<(Gate<M>, Seat<M>), (M, OutOfMemory)>
+    ) -> Result<(Gate<M>, Seat<M>), (M, AllocError)>
         requires numbers { J.all ≡ parts.now }
         requires stands_for { M.stands machine (M.opening machine) }
         requires some_part { 0 < length parts.now }
@@ -40,7 +37,7 @@ impl<M: Machine> Gate<M> {
     {
         let _ = parts;
         let Ok((table, mut seat)) = Table::vacant(alloc, &[0, 1], 1, &()) else {
-            return Err((machine, OutOfMemory));
+            return Err((machine, AllocError));
         };
         let word = 16 * machine.count() + machine.code() as u64;
         table.shared.swap::<TakeSlot>(&mut seat, TURN, 1);
@@ -61,7 +58,7 @@ impl<M: Machine> Gate<M> {
         alloc: Global,
         machine: M,
         parts: &[u8],
-    ) -> Result<(Gate<M>, Seats<M>), (M, OutOfMemory)>
+    ) -> Result<(Gate<M>, Seats<M>), (M, AllocError)>
         requires stands_for { M.stands machine (M.opening machine) }
         requires some_part { 0 < length parts.now }
         requires parts_differ { AllDiffer parts.now }
@@ -73,7 +70,7 @@ impl<M: Machine> Gate<M> {
         ensures handed_back { IfErr result (λ refused. refused.0 ≡ machine) }
     {
         let Ok(mut seats) = Vec::with_capacity(alloc, parts.len()) else {
-            return Err((machine, OutOfMemory));
+            return Err((machine, AllocError));
         };
         let (gate, mut seat) = Gate::make_as::<Brand>(alloc, machine, parts)?;
         for part in parts {

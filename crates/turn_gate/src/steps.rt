@@ -1,4 +1,4 @@
-// The rule of a gate, and the kinds of step that keep it.
+//! The rule of a gate, and the kinds of step that keep it.
 ghost use Rattle.std.specs.Prelude.{None, Option, List, [], ℕ};
 ghost use Rattle.turn_gate.specs.Rule.{Kept, meaning};
 ghost use Rattle.turn_gate.specs.Steps.{asked, publishes, gave, polls, compares, takes_slot, makes};
@@ -48,14 +48,14 @@ impl Moved for Brand {
     ghost part = { None };
 }
 
-// 1: a swap of the turn word.
+/// 1: a swap of the turn word.
 pub(crate) struct Ask;
 
 impl<M: Machine> Play<Option<M>, View<M::Entry, M::Opening>> for Ask {
     ghost then = { λ _. asked (meaning M.account M.fixed M.tells M.stands M.code_after) };
 }
 
-// 3: a store to the count word.
+/// 3: a store to the count word.
 pub(crate) struct Publish<J> {
     told: PhantomData<J>,
 }
@@ -65,21 +65,21 @@ impl<M: Machine, J: Told<M>> Play<Option<M>, View<M::Entry, M::Opening>> for Pub
         publishes (meaning M.account M.fixed M.tells M.stands M.code_after) J.told J.rise };
 }
 
-// 4: a store to the turn word, the machine at home.
+/// 4: a store to the turn word, the machine at home.
 pub(crate) struct Give;
 
 impl<M: Machine> Play<Option<M>, View<M::Entry, M::Opening>> for Give {
     ghost then = { λ _. gave (meaning M.account M.fixed M.tells M.stands M.code_after) };
 }
 
-// 5: a load of the count word.
+/// 5: a load of the count word.
 pub(crate) struct Poll;
 
 impl<M: Machine> Play<Option<M>, View<M::Entry, M::Opening>> for Poll {
     ghost then = { λ _. polls (meaning M.account M.fixed M.tells M.stands M.code_after) };
 }
 
-// 6: one view becomes two.
+/// 6: one view becomes two.
 pub(crate) struct Cut<J> {
     part: PhantomData<J>,
 }
@@ -90,7 +90,7 @@ impl<E, O, J: Moved> Split<View<E, O>> for Cut<J> {
     ghost right = { split_off J.part };
 }
 
-// 7: two views become one, and then what both had seen is compared.
+/// 7: two views become one, and then what both had seen is compared.
 pub(crate) struct Both;
 
 impl<E, O> Join<View<E, O>> for Both {
@@ -105,7 +105,7 @@ impl<M: Machine> Play<Option<M>, View<M::Entry, M::Opening>> for Compare {
     ghost then = { λ _. compares (meaning M.account M.fixed M.tells M.stands M.code_after) };
 }
 
-// The making: the empty slot is taken, and the machine put in and told.
+/// The making: the empty slot is taken, and the machine put in and told.
 pub(crate) struct TakeSlot;
 
 impl<M: Machine> Play<Option<M>, View<M::Entry, M::Opening>> for TakeSlot {

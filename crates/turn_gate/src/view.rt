@@ -1,4 +1,4 @@
-// What a seat knows, as clauses see it. No value of these is made.
+//! What a seat knows, as clauses see it. No value of these is made.
 use std::collections::LinkedList;
 
 /// How a machine stands: its list, the entry that is pending, and how often its device has failed.

@@ -17,7 +17,6 @@ mod status;
 #[cfg(test)]
 mod tests;
 
-use disk_core::OutOfMemory;
 use disk_mem::MemDisk;
 use status::ExitStatus;
 use std::alloc::{AllocError, Global};
@@ -44,14 +43,12 @@ fn words<R: Env + Alloc<A = Global>>(rt: &R) -> io::Result<Vec<String>> {
 }
 
 /// The master's disk and those of eight nodes, each of zeros.
-fn disks(alloc: Global) -> Result<Vec<MemDisk>, OutOfMemory> {
+fn disks(alloc: Global) -> Result<Vec<MemDisk>, AllocError> {
     let mut disks = Vec::new(alloc);
     for node in 0..=NODE_LIMIT {
         let size = if node == 0 { MASTER_DISK } else { NODE_DISK };
         let disk = MemDisk::new(alloc, size)?;
-        if disks.push(disk).is_err() {
-            return Err(OutOfMemory);
-        }
+        disks.push(disk)?;
     }
     Ok(disks)
 }

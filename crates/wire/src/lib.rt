@@ -5,12 +5,10 @@
 //! a field begins another.
 #![tactic(auto)]
 
-mod fault;
 mod put;
 mod take;
 mod unique;
 
-pub use fault::OutOfMemory;
 pub use put::{put_bytes, put_u8, put_u16, put_u32, put_u64};
 pub use take::{take_bytes, take_u8, take_u16, take_u32, take_u64};
 pub use unique::no_spelling_begins_another;

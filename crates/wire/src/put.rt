@@ -1,11 +1,11 @@
-// Putting fields: each call appends one spelling, or leaves the bytes as they are.
+//! Putting fields: each call appends one spelling, or leaves the bytes as they are.
 ghost use Rattle.std.specs.Prelude.{◌≡◌, ◌++◌, ◌^◌, ◌<◌, length, OnOk, OnErr};
 ghost use Rattle.wire.specs.Fields.{u8_field, u16_field, u32_field, u64_field, bytes_field};
 
-use crate::OutOfMemory;
+use std::alloc::AllocError;
 
 /// One byte.
-pub fn put_u8(into: &mut Vec<u8>, value: u8) -> Result<(), OutOfMemory>
+pub fn put_u8(into: &mut Vec<u8>, value: u8) -> Result<(), AllocError>
     ensures ok { OnOk result (into.new.items ≡ into.old.items ++ u8_field value) }
     ensures err { OnErr result (into.new.items ≡ into.old.items) }
 {
@@ -13,7 +13,7 @@ pub fn put_u8(into: &mut Vec<u8>, value: u8) -> Result<(), OutOfMemory>
 }
 
 /// Two bytes, the high one first.
-pub fn put_u16(into: &mut Vec<u8>, value: u16) -> Result<(), OutOfMemory>
+pub fn put_u16(into: &mut Vec<u8>, value: u16) -> Result<(), AllocError>
     ensures ok { OnOk result (into.new.items ≡ into.old.items ++ u16_field value) }
     ensures err { OnErr result (into.new.items ≡ into.old.items) }
 {
@@ -21,7 +21,7 @@ pub fn put_u16(into: &mut Vec<u8>, value: u16) -> Result<(), OutOfMemory>
 }
 
 /// Four bytes, the highest first.
-pub fn put_u32(into: &mut Vec<u8>, value: u32) -> Result<(), OutOfMemory>
+pub fn put_u32(into: &mut Vec<u8>, value: u32) -> Result<(), AllocError>
     ensures ok { OnOk result (into.new.items ≡ into.old.items ++ u32_field value) }
     ensures err { OnErr result (into.new.items ≡ into.old.items) }
 {
@@ -29,7 +29,7 @@ pub fn put_u32(into: &mut Vec<u8>, value: u32) -> Result<(), OutOfMemory>
 }
 
 /// Eight bytes, the highest first.
-pub fn put_u64(into: &mut Vec<u8>, value: u64) -> Result<(), OutOfMemory>
+pub fn put_u64(into: &mut Vec<u8>, value: u64) -> Result<(), AllocError>
     ensures ok { OnOk result (into.new.items ≡ into.old.items ++ u64_field value) }
     ensures err { OnErr result (into.new.items ≡ into.old.items) }
 {
@@ -37,7 +37,7 @@ pub fn put_u64(into: &mut Vec<u8>, value: u64) -> Result<(), OutOfMemory>
 }
 
 /// A length of four bytes, and the bytes.
-pub fn put_bytes(into: &mut Vec<u8>, value: &[u8]) -> Result<(), OutOfMemory>
+pub fn put_bytes(into: &mut Vec<u8>, value: &[u8]) -> Result<(), AllocError>
     requires { length value.now < 2 ^ 32 }
     ensures ok { OnOk result (into.new.items ≡ into.old.items ++ bytes_field value.now) }
     ensures err { OnErr result (into.new.items ≡ into.old.items) }

@@ -1,4 +1,4 @@
-// Taking fields: the value and the rest, or nothing exactly where the bytes are too few. No call takes memory.
+//! Taking fields: the value and the rest, or nothing exactly where the bytes are too few. No call takes memory.
 ghost use Rattle.std.specs.Prelude.{◌≡◌, ◌++◌, ◌^◌, ◌<◌, length, MatchOption};
 ghost use Rattle.wire.specs.Fields.{u8_field, u16_field, u32_field, u64_field, bytes_field, HasNoBytesField};
 

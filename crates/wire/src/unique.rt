@@ -1,4 +1,4 @@
-// A law of the spellings.
+//! A law of the spellings.
 ghost use Rattle.std.specs.Prelude.{◌≡◌, ◌++◌, ◌^◌, ◌<◌, List, ℕ, length};
 ghost use Rattle.wire.specs.Fields.{u8_field, u16_field, u32_field, u64_field, bytes_field};
 
