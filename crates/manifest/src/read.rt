@@ -5,6 +5,7 @@ ghost use Rattle.serde_json.specs.View.{view};
 ghost use Rattle.ucm_base.specs.Limits.{need_limit};
 ghost use Rattle.manifest.specs.declared.read.ManifestFault.TheVariants.{InvalidManifest};
 ghost use Rattle.manifest.specs.Trees.{all_of, field, has_keys};
+ghost use Rattle.manifest.specs.Read.{IsRead};
 ghost use Rattle.manifest.specs.Form.{action_named, action_of_tree, digest_of_tree, manifest_of, manifest_of_tree, name_of_tree, need_of_tree, needs_of_tree, req_of_tree, version_of_tree};
 
 use crate::digest::digest_of_hex;
@@ -100,9 +101,7 @@ fn action_at(value: &Value, key: &str) -> Option<Action>
 }
 
 fn version_at(alloc: Global, value: &Value, key: &str) -> Result<VersionText, ManifestFault>
-    ensures ok { IfOk result (λ v. field key.now version_of_tree (view value.now) ≡ Some v) }
-    ensures invalid { IfErr result
-        (λ e. e ≡ InvalidManifest → field key.now version_of_tree (view value.now) ≡ None) }
+    ensures { IsRead result (field key.now version_of_tree (view value.now)) }
 {
     match text_at(value, key) {
         Some(text) => match VersionText::of(alloc, text.as_bytes()) {
@@ -115,9 +114,7 @@ fn version_at(alloc: Global, value: &Value, key: &str) -> Result<VersionText, Ma
 }
 
 fn req_at(alloc: Global, value: &Value, key: &str) -> Result<ReqText, ManifestFault>
-    ensures ok { IfOk result (λ v. field key.now req_of_tree (view value.now) ≡ Some v) }
-    ensures invalid { IfErr result
-        (λ e. e ≡ InvalidManifest → field key.now req_of_tree (view value.now) ≡ None) }
+    ensures { IsRead result (field key.now req_of_tree (view value.now)) }
 {
     match text_at(value, key) {
         Some(text) => match ReqText::of(alloc, text.as_bytes()) {
@@ -130,9 +127,7 @@ fn req_at(alloc: Global, value: &Value, key: &str) -> Result<ReqText, ManifestFa
 }
 
 fn need_in(alloc: Global, value: &Value) -> Result<Need, ManifestFault>
-    ensures ok { IfOk result (λ n. need_of_tree (view value.now) ≡ Some n) }
-    ensures invalid { IfErr result
-        (λ e. e ≡ InvalidManifest → need_of_tree (view value.now) ≡ None) }
+    ensures { IsRead result (need_of_tree (view value.now)) }
 {
     if !has_count(value, 2) {
         return Err(ManifestFault::InvalidManifest);
@@ -165,9 +160,7 @@ fn are_few(values: &[Value]) -> bool
 }
 
 fn needs_in(alloc: Global, value: &Value) -> Result<Needs, ManifestFault>
-    ensures ok { IfOk result (λ v. needs_of_tree (view value.now) ≡ Some v) }
-    ensures invalid { IfErr result
-        (λ e. e ≡ InvalidManifest → needs_of_tree (view value.now) ≡ None) }
+    ensures { IsRead result (needs_of_tree (view value.now)) }
 {
     let Some(list) = value.as_array() else {
         return Err(ManifestFault::InvalidManifest);
@@ -181,9 +174,7 @@ fn needs_in(alloc: Global, value: &Value) -> Result<Needs, ManifestFault>
 }
 
 fn needs_at(alloc: Global, value: &Value, key: &str) -> Result<Needs, ManifestFault>
-    ensures ok { IfOk result (λ v. field key.now needs_of_tree (view value.now) ≡ Some v) }
-    ensures invalid { IfErr result
-        (λ e. e ≡ InvalidManifest → field key.now needs_of_tree (view value.now) ≡ None) }
+    ensures { IsRead result (field key.now needs_of_tree (view value.now)) }
 {
     match value.get(key) {
         Some(inner) => needs_in(alloc, inner),
@@ -192,9 +183,7 @@ fn needs_at(alloc: Global, value: &Value, key: &str) -> Result<Needs, ManifestFa
 }
 
 fn manifest_in(alloc: Global, value: &Value) -> Result<Manifest, ManifestFault>
-    ensures ok { IfOk result (λ m. manifest_of_tree (view value.now) ≡ Some m) }
-    ensures invalid { IfErr result
-        (λ e. e ≡ InvalidManifest → manifest_of_tree (view value.now) ≡ None) }
+    ensures { IsRead result (manifest_of_tree (view value.now)) }
 {
     if !has_count(value, 5) {
         return Err(ManifestFault::InvalidManifest);
@@ -221,8 +210,7 @@ fn manifest_in(alloc: Global, value: &Value) -> Result<Manifest, ManifestFault>
 
 /// The manifest of a text, if it is one: JSON (RFC 8259), an object of exactly five keys.
 pub fn read_manifest(alloc: Global, bytes: &[u8]) -> Result<Manifest, ManifestFault>
-    ensures ok { IfOk result (λ m. manifest_of bytes.now ≡ Some m) }
-    ensures invalid { IfErr result (λ e. e ≡ InvalidManifest → manifest_of bytes.now ≡ None) }
+    ensures { IsRead result (manifest_of bytes.now) }
 {
     match Value::from_slice(alloc, bytes) {
         Ok(value) => manifest_in(alloc, &value),

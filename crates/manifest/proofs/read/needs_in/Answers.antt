@@ -4,18 +4,18 @@ use Rattle.serde_json.specs.View.{items_view, view}
 use Rattle.manifest.proofs.Reading.{counted}
 use Rattle.manifest.proofs.read.needs_in.Goals as goal
 
-pub returns-then-not-are_few-clause-invalid : goal.returns-then-not-are_few-clause-invalid
-returns-then-not-are_few-clause-invalid c =
+pub returns-then-not-are_few : goal.returns-then-not-are_few
+returns-then-not-are_few c =
     let at = ap (λ vs. Some (items_view vs)) c.as_slice-values.ensures.value ∙ c.in-Some.ensures in
-    λ _. counted (view c.args.value.now) c.as_slice-values.result.now false at c.if-not-are_few.ensures
+    (tt, λ _. counted (view c.args.value.now) c.as_slice-values.result.now false at c.if-not-are_few.ensures)
 
-pub returns-in_err-items-clause-invalid : goal.returns-in_err-items-clause-invalid
-returns-in_err-items-clause-invalid c =
+pub returns-in_err-items : goal.returns-in_err-items
+returns-in_err-items c =
     let at = ap (λ vs. Some (items_view vs)) c.as_slice-values.ensures.value ∙ c.in-Some.ensures in
     let p = err_from_is_err_and c.from_residual.result c.from_residual.ensures.1 in
-    rw (p.1, p.2) (λ bad. counted (view c.args.value.now) c.as_slice-values.result.now true at c.if-not-are_few.ensures ∙ c.in_err-items.ensures.invalid bad)
+    rw (p.1, p.2) (tt, λ bad. counted (view c.args.value.now) c.as_slice-values.result.now true at c.if-not-are_few.ensures ∙ c.in_err-items.ensures.invalid bad)
 
-pub returns-clause-ok : goal.returns-clause-ok
-returns-clause-ok c =
+pub returns : goal.returns
+returns c =
     let at = ap (λ vs. Some (items_view vs)) c.as_slice-values.ensures.value ∙ c.in-Some.ensures in
-    counted (view c.args.value.now) c.as_slice-values.result.now true at c.if-not-are_few.ensures ∙ c.in_ok-items.ensures.ok ∙ ap Some (sym c.of.ensures)
+    (counted (view c.args.value.now) c.as_slice-values.result.now true at c.if-not-are_few.ensures ∙ c.in_ok-items.ensures.ok ∙ ap Some (sym c.of.ensures), tt)
