@@ -1,5 +1,5 @@
 //! The master's table at work.
-ghost use Rattle.std.specs.Prelude.{◌≡◌, ◌≢◌, ◌↔◌, IsTrue, IfOk, OnOk, OnErr, IsErrOf, Ok, Err, true, false, None};
+ghost use Rattle.std.specs.Prelude.{◌≡◌, ◌↔◌, IfOk, OnOk, OnErr, IsErrOf, Ok, Err, true, false, None};
 ghost use Rattle.std.specs.Result.{result_err};
 ghost use Rattle.campaign_core.specs.Campaign.{after_event, nothing_yet, refusal_of};
 ghost use Rattle.campaign_core.specs.Views.{state_of, view_of};

@@ -1,5 +1,5 @@
 //! Writing the half that doesn't count.
-ghost use Rattle.std.specs.Prelude.{◌≡◌, ◌+◌, ◌≤◌, ◌<◌, ◌^◌, Some, length, OnOk, IfOk, IsErrOf};
+ghost use Rattle.std.specs.Prelude.{◌≡◌, ◌+◌, ◌≤◌, ◌<◌, Some, length, OnOk, IfOk, IsErrOf};
 ghost use Rattle.disk_core.specs.Images.{Only, SameImages, HasRisen};
 ghost use Rattle.disk_core.specs.Moments.{LeavesOnly};
 ghost use Rattle.disk_core.specs.Room.{HasRoom};

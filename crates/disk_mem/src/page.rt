@@ -1,5 +1,5 @@
 //! A page of a disk.
-ghost use Rattle.std.specs.Prelude.{◌≡◌, ◌+◌, ◌≤◌, length, replicate, IfOk, vec_len};
+ghost use Rattle.std.specs.Prelude.{◌≡◌, ◌+◌, ◌≤◌, length, replicate, vec_len};
 ghost use Rattle.disk_core.specs.Bytes.{put_at};
 
 use std::alloc::{AllocError, Global};

@@ -1,5 +1,5 @@
 //! What a plan lets happen to the calls of a disk.
-ghost use Rattle.std.specs.Prelude.{◌≡◌, ◌||◌, ◌&&◌, ◌==◌, false};
+ghost use Rattle.std.specs.Prelude.{◌≡◌, ◌||◌, false};
 ghost use Rattle.disk_core.specs.Plans.{no_faults};
 
 use crate::planned::planned;

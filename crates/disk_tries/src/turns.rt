@@ -2,7 +2,6 @@
 ghost use Rattle.std.specs.Prelude.{◌≡◌, ◌≢◌, ◌≤◌, length, OnOk, IfOk, IfSome};
 ghost use Rattle.disk_core.specs.Images.{Only};
 ghost use Rattle.disk_core.specs.Plans.{no_faults};
-ghost use Rattle.checkpoint.specs.Halves.{half_of};
 ghost use Rattle.checkpoint.specs.Counting.{newest, HasHalf, IsNewer};
 
 use crate::TryFault;

@@ -1,5 +1,5 @@
 //! A counter over a device that fails.
-ghost use Rattle.std.specs.Prelude.{◌≡◌, ◌+◌, ◌<◌, ◌≤◌, ◌^◌, ◌++◌, [], ◌∷◌, List, ℕ, None, Some, length, vec_len, vec_capacity};
+ghost use Rattle.std.specs.Prelude.{◌≡◌, ◌+◌, ◌<◌, ◌^◌, ◌++◌, [], List, None, Some, length, vec_len, vec_capacity};
 ghost use Rattle.turn_gate.specs.Parts.{StoodOrNot};
 ghost use Rattle.gate_counter.specs.Ticks.{HasCounted};
 ghost use Rattle.gate_counter.specs.Rises.{IsTrueOf, rise_of};

@@ -1,5 +1,5 @@
 //! Counting behind a gate, by one seat and by threads.
-ghost use Rattle.std.specs.Prelude.{◌≡◌, ◌+◌, ◌<◌, ◌≤◌, [], ◌∷◌, ℕ, IfOk, length, vec_capacity, vec_len, None, Some};
+ghost use Rattle.std.specs.Prelude.{◌≡◌, ◌+◌, ◌<◌, ◌≤◌, IfOk, length, vec_capacity, vec_len, None, Some};
 ghost use mathlib.Core.List.{IsPrefix};
 ghost use Rattle.gate_counter.specs.Seats.{IsSeatOf, AreSeatsOf};
 ghost use Rattle.gate_counter.specs.Counters.{account_of};

@@ -1,7 +1,7 @@
 //! Threads that count behind one gate. A poll answers while another thread has the turn; what was
 //! counted is each part's counts in their order, each once, whatever the schedule; a device that fails
 //! loses a count or keeps it, and never doubles it.
-ghost use Rattle.std.specs.Prelude.{◌≡◌, ◌≤◌, length};
+ghost use Rattle.std.specs.Prelude.{◌≡◌};
 ghost use Rattle.gate_counter.specs.Seats.{IsSeatOf};
 
 use crate::counter::Counter;

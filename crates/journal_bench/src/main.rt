@@ -2,7 +2,6 @@
 //! argument says, and prints how many are read again. `bench/journal.sh` measures it.
 #![tactic(auto)]
 
-ghost use Rattle.std.specs.Prelude.{◌≡◌};
 
 use anyhow::{Result, anyhow};
 use disk_core::Disk;

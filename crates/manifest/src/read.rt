@@ -1,5 +1,5 @@
 //! Reading manifests.
-ghost use Rattle.std.specs.Prelude.{◌≡◌, ◌==◌, ◌≤◌, IfOk, IfErr, Some, None, map, option_map, option_and_then, length, nat_le};
+ghost use Rattle.std.specs.Prelude.{◌≡◌, ◌==◌, IfOk, IfErr, Some, None, map, option_map, length, nat_le};
 ghost use Rattle.serde_json.specs.Find.{as_str, get};
 ghost use Rattle.serde_json.specs.View.{view};
 ghost use Rattle.ucm_base.specs.Limits.{need_limit};

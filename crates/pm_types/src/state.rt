@@ -1,5 +1,5 @@
 //! A node's state as it is kept: where the bytes lie in place of the bytes.
-ghost use Rattle.std.specs.Prelude.{◌≡◌, ◌<◌, ◌≤◌, ◌++◌, ◌∷◌, [], None, length, vec_capacity, IfOk, IfSome, replicate};
+ghost use Rattle.std.specs.Prelude.{◌≡◌, ◌<◌, ◌≤◌, ◌++◌, ◌∷◌, [], None, length, vec_capacity, IfOk, IfSome};
 ghost use Rattle.pm_types.specs.Clusters.{stored_units};
 ghost use Rattle.pm_types.specs.Stored.{fresh_state};
 ghost use Rattle.ucm_base.specs.Limits.{cluster_limit, transfer_limit};

@@ -1,5 +1,5 @@
 //! Blocks of bytes and sizes, as words name them.
-ghost use Rattle.std.specs.Prelude.{◌≡◌, ◌<◌, ◌^◌, length, min, IfOk, IfErr, Ok, Err};
+ghost use Rattle.std.specs.Prelude.{◌≡◌, ◌<◌, length, min, IfOk, Ok, Err};
 ghost use Rattle.scenario.specs.Readings.{IsRead};
 ghost use Rattle.scenario.specs.Blocks.{block_in, block_of, bytes_meant, fill_in, hex_in, known, length_in, length_meant, part_in, part_of, piece_in, piece_of, plain_block, plain_block_in, size_in};
 

@@ -1,5 +1,5 @@
 //! What clients do: numbered calls, units of work and queries.
-ghost use Rattle.std.specs.Prelude.{◌≡◌, IfOk, IfErr, Ok, Err, map};
+ghost use Rattle.std.specs.Prelude.{◌≡◌, IfOk, Ok, Err, map};
 ghost use Rattle.scenario.specs.Readings.{IsRead};
 ghost use Rattle.scenario.specs.Events.{call_alone, call_in, call_meant, call_with, data_call, history_query, process_call, progress_query, query_alone, query_in};
 

@@ -1,10 +1,9 @@
 //! Scripts, read line by line.
-ghost use Rattle.std.specs.Prelude.{◌≡◌, ◌≤◌, ◌<◌, ◌+◌, ◌-◌, ◌∷◌, [], drop, length, map, take, IfOk, IfErr, OnOk, Ok, Err, Some, ℕ};
-ghost use Rattle.std.specs.List.{slice_split};
+ghost use Rattle.std.specs.Prelude.{◌≡◌, ◌<◌, ◌+◌, ◌-◌, [], drop, map, take, IfOk, Ok, Err, Some, ℕ};
 ghost use Rattle.scenario.specs.declared.why.Why.{Why};
 ghost use Rattle.scenario.specs.Readings.{Becomes, IsRead};
 ghost use Rattle.scenario.specs.Lines.{line_in};
-ghost use Rattle.scenario.specs.Scripts.{IsScript, added, attach_added, attached_with, finished, has_room, has_installed, installed_added, is_end, is_passed_over, line_read, lines_of, nothing_above, pieces, pieces_left, script_of, size_left, text_left, time_added, words_of};
+ghost use Rattle.scenario.specs.Scripts.{IsScript, added, attach_added, attached_with, finished, has_room, has_installed, installed_added, is_end, is_passed_over, line_read, nothing_above, script_of, time_added, words_of};
 
 use crate::attachments::{Attached, Attachments};
 use crate::events::EventLine;

@@ -1,5 +1,5 @@
 //! What single words say. Whatever reads scripts or recipes shares these readers.
-ghost use Rattle.std.specs.Prelude.{◌≡◌, ◌==◌, ◌<◌, ◌≤◌, ◌+◌, ◌∷◌, [], length, map, option_map, position, IfOk, IfErr, IfSome, Ok, Err};
+ghost use Rattle.std.specs.Prelude.{◌≡◌, ◌==◌, ◌<◌, ◌≤◌, ◌+◌, ◌∷◌, [], length, map, option_map, position, IfSome, Ok, Err};
 ghost use Rattle.ucm_base.specs.Limits.{need_limit};
 ghost use Rattle.scenario.specs.Readings.{IsRead};
 ghost use Rattle.scenario.specs.Words.{action_in, byte_in, call_no_in, client_in, cut, digit_value, from_one_in, name_in, need_in, needs_in, node_in, number_in, req_in, small_in, version_in};

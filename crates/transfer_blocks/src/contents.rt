@@ -1,5 +1,5 @@
 //! The bytes of all areas.
-ghost use Rattle.std.specs.Prelude.{◌≡◌, ◌+◌, ◌≤◌, length, slice_range, IfOk, OnOk, OnErr};
+ghost use Rattle.std.specs.Prelude.{◌≡◌, ◌≤◌, length, IfOk, OnOk, OnErr};
 ghost use Rattle.transfer_blocks.specs.Areas.{content_of, with_content, overwritten, no_contents, IsArea, AreasFit};
 
 use crate::Area;

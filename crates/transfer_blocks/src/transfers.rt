@@ -1,5 +1,5 @@
 //! The transfers of a node, with the next id.
-ghost use Rattle.std.specs.Prelude.{◌≡◌, ◌<◌, ℕ, None, Some, IfSome, length, map, option_map, slice_index_or, true};
+ghost use Rattle.std.specs.Prelude.{◌≡◌, ◌<◌, None, Some, IfSome, length, map, option_map, slice_index_or, true};
 ghost use Rattle.std.specs.Option.{option_or};
 ghost use Rattle.pm_types.specs.declared.state.StoredTransfer.{StoredTransfer as stored};
 ghost use Rattle.pm_types.specs.Refusals.{first_refusal};

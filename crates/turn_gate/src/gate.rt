@@ -1,5 +1,5 @@
 //! The steps of one seat: a turn, what it publishes, and a poll.
-ghost use Rattle.std.specs.Prelude.{◌≡◌, ◌+◌, ◌*◌, ◌<◌, ◌≤◌, [], ◌∷◌, true, false, None, Some, Option, IfOk, IfErr, IfSome, length};
+ghost use Rattle.std.specs.Prelude.{◌≡◌, ◌+◌, ◌*◌, ◌<◌, ◌≤◌, true, false, None, Some, Option, length};
 ghost use mathlib.Core.List.{IsPrefix};
 ghost use Rattle.turn_gate.specs.Parts.{PartsFit};
 ghost use Rattle.turn_gate.specs.Rule.{NotAbove};

@@ -1,5 +1,5 @@
 //! The making of a gate, seats split and joined, and its close.
-ghost use Rattle.std.specs.Prelude.{◌≡◌, ◌+◌, ◌<◌, ◌≤◌, [], ◌∷◌, true, None, Some, IfOk, IfErr, IfSome, length};
+ghost use Rattle.std.specs.Prelude.{◌≡◌, ◌+◌, ◌<◌, ◌≤◌, None, Some, IfOk, IfErr, IfSome, length};
 ghost use mathlib.Core.List.{IsPrefix};
 ghost use Rattle.turn_gate.specs.Parts.{numbers_of, parts_of, AllDiffer, IsAmong, PartsFit, TellsOnly, at_most_last};
 ghost use Rattle.turn_gate.specs.Rule.{NotesFit};

@@ -1,4 +1,4 @@
-use Rattle.std.proofs.Common.{◌≡◌, ◌++◌, ◌∷◌, List, [], Option, Some, None, refl, arith}
+use Rattle.std.proofs.Common.{◌≡◌, ◌++◌, ◌∷◌, List, [], Option, Some, refl, arith}
 use Rattle.std.specs.List.{last_or}
 use Rattle.gate_counter.specs.Ticks.{tells}
 use Rattle.turn_gate.proofs.Becomes.{stays}
