@@ -3,6 +3,7 @@ ghost use Rattle.std.specs.Prelude.{◌≡◌, ◌≤◌, ◌<◌, ◌^◌, leng
 ghost use Rattle.disk_core.specs.Images.{EachImage};
 ghost use Rattle.disk_core.specs.Plans.{no_faults};
 ghost use Rattle.journal.specs.Ready.{IsReady};
+ghost use Rattle.disk_tries.specs.declared.tries.TryFault.TheVariants.{Memory as no_memory, Read as not_read, Turn as not_turned};
 
 use crate::TurnFault;
 use disk_area::Area;
@@ -26,18 +27,24 @@ pub enum TryFault {
 }
 
 impl From<AllocError> for TryFault {
+    ghost from_gives = { λ _ e. e ≡ no_memory };
+
     fn from(_: AllocError) -> Self {
         TryFault::Memory
     }
 }
 
 impl From<ReadFail> for TryFault {
+    ghost from_gives = { λ fault e. e ≡ not_read fault };
+
     fn from(fault: ReadFail) -> Self {
         TryFault::Read(fault)
     }
 }
 
 impl From<TurnFault> for TryFault {
+    ghost from_gives = { λ fault e. e ≡ not_turned fault };
+
     fn from(fault: TurnFault) -> Self {
         TryFault::Turn(fault)
     }

@@ -3,6 +3,7 @@ ghost use Rattle.std.specs.Prelude.{◌≡◌, ◌≢◌, ◌≤◌, length, OnO
 ghost use Rattle.disk_core.specs.Images.{Only};
 ghost use Rattle.disk_core.specs.Plans.{no_faults};
 ghost use Rattle.checkpoint.specs.Counting.{newest, HasHalf, IsNewer};
+ghost use Rattle.disk_tries.specs.declared.turns.TurnFault.TheVariants.{Read as not_read, Store as not_stored};
 
 use crate::TryFault;
 use checkpoint::{HalfBytes, StoreFault, open_half, prepare, read_half};
@@ -22,12 +23,16 @@ pub enum TurnFault {
 }
 
 impl From<ReadFail> for TurnFault {
+    ghost from_gives = { λ fault e. e ≡ not_read fault };
+
     fn from(fault: ReadFail) -> Self {
         TurnFault::Read(fault)
     }
 }
 
 impl From<StoreFault> for TurnFault {
+    ghost from_gives = { λ fault e. e ≡ not_stored fault };
+
     fn from(fault: StoreFault) -> Self {
         TurnFault::Store(fault)
     }

@@ -1,5 +1,5 @@
 //! A counter over a device that fails.
-ghost use Rattle.std.specs.Prelude.{◌≡◌, ◌+◌, ◌<◌, ◌^◌, ◌++◌, [], List, None, Some, length, vec_len, vec_capacity};
+ghost use Rattle.std.specs.Prelude.{◌≡◌, ◌+◌, ◌<◌, ◌≤◌, ◌^◌, ◌++◌, [], List, None, Some, length, vec_len, vec_capacity};
 ghost use Rattle.turn_gate.specs.Parts.{StoodOrNot};
 ghost use Rattle.gate_counter.specs.Ticks.{HasCounted};
 ghost use Rattle.gate_counter.specs.Rises.{IsTrueOf, rise_of};
@@ -101,11 +101,12 @@ impl Counter {
             × (self.new.ticks.items ≡ self.old.ticks.items ++ stood) }
         ensures none { self.new.pending ≡ None }
         ensures faults { self.new.faults ≡ self.old.faults }
+        ensures calls { self.old.calls ≤ self.new.calls }
         ensures period { self.new.period ≡ self.old.period }
         ensures room { vec_len self.new.ticks < vec_capacity self.new.ticks }
     {
         if let Some(tick) = self.pending {
-            self.calls = self.calls.wrapping_add(1);
+            self.calls = self.calls.saturating_add(1);
             if self.calls % 2 == 0 {
                 self.ticks.push_reserved(tick);
             }
@@ -118,9 +119,10 @@ impl Counter {
         ensures ticks { self.new.ticks ≡ self.old.ticks }
         ensures pending { self.new.pending ≡ self.old.pending }
         ensures faults { self.new.faults ≡ self.old.faults }
+        ensures calls { self.old.calls ≤ self.new.calls }
         ensures period { self.new.period ≡ self.old.period }
     {
-        self.calls = self.calls.wrapping_add(1);
+        self.calls = self.calls.saturating_add(1);
         self.period > 0 && self.calls % self.period == 0
     }
 
@@ -130,6 +132,7 @@ impl Counter {
             (account self.old.ticks.items self.old.pending self.old.faults)
             (account self.new.ticks.items self.new.pending self.new.faults) (rise_of result) }
         ensures answer { IsTrueOf by result self.new.ticks.items }
+        ensures calls { self.old.calls ≤ self.new.calls }
         ensures period { self.new.period ≡ self.old.period }
     {
         if self.ticks.len() >= 1 << 40 {
