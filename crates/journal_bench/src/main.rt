@@ -2,7 +2,6 @@
 //! argument says, and prints how many are read again. `bench/journal.sh` measures it.
 #![tactic(auto)]
 
-
 use anyhow::{Result, anyhow};
 use disk_core::Disk;
 use disk_tries::{TryFault, fresh};
