@@ -1,5 +1,5 @@
 //! The log.
-ghost use Rattle.std.specs.Prelude.{◌≡◌, ◌⊎◌, ◌+◌, ◌≤◌, ◌<◌, ◌^◌, ◌↔◌, [], ◌∷◌, ◌++◌, List, ℕ, length, All, IfOk, IfSome, OnOk, OnErr, IsErrOf, slice_get};
+ghost use Rattle.std.specs.Prelude.{◌≡◌, ◌⊎◌, ◌+◌, ◌≤◌, ◌<◌, ◌^◌, ◌↔◌, [], ◌∷◌, ◌++◌, List, ℕ, length, All, IfOk, IsSomeAnd, OnOk, OnErr, IsErrOf, slice_get};
 ghost use Rattle.disk_core.specs.Images.{EachImage, HasRisen};
 ghost use Rattle.disk_core.specs.Moments.{LeavesOnly};
 ghost use Rattle.event_log.specs.Log.{Holds, BeforeOrWith, Doubt};
@@ -96,7 +96,7 @@ impl<D: Disk> EventLog<D> {
             (result.0 + 1)
             self.old.disk self.new.disk k }
         ensures full { IsErrOf result.1 JournalFault.Full
-            → IfSome (slice_get events.now result.0) (λ event.
+            → IsSomeAnd (slice_get events.now result.0) (λ event.
             self.new.journal.area.len < self.new.journal.used + 6 + length event) }
         ensures cause { IsErrOf result.1 JournalFault.Failed
             → HasRisen (D.fault_count self.old.disk) (D.fault_count self.new.disk) }
