@@ -1,42 +1,42 @@
 //! Why a half wasn't written.
 ghost use Rattle.std.specs.Prelude.{◌≡◌};
-ghost use Rattle.checkpoint.specs.declared.fault.StoreFault.TheVariants.{Failed as faulted, OutOfMemory as no_memory};
+ghost use Rattle.checkpoint.specs.declared.fault.StoreError.TheVariants.{Failed as faulted, OutOfMemory as no_memory};
 ghost use Rattle.checkpoint.specs.Faults.{fault_of};
 
-use disk_core::{Failed, ReadFail};
+use disk_core::{Failed, ReadError};
 use std::alloc::AllocError;
 
 #[derive(Clone, Copy, Debug, PartialEq, Eq, Drop)]
-pub enum StoreFault {
+pub enum StoreError {
     /// The disk failed.
     Failed,
     /// Want of memory; nothing was written.
     OutOfMemory,
 }
 
-impl From<AllocError> for StoreFault {
+impl From<AllocError> for StoreError {
     ghost from_gives = { λ _ e. e ≡ no_memory };
 
     fn from(_: AllocError) -> Self {
-        StoreFault::OutOfMemory
+        StoreError::OutOfMemory
     }
 }
 
-impl From<Failed> for StoreFault {
+impl From<Failed> for StoreError {
     ghost from_gives = { λ _ e. e ≡ faulted };
 
     fn from(_: Failed) -> Self {
-        StoreFault::Failed
+        StoreError::Failed
     }
 }
 
-impl From<ReadFail> for StoreFault {
+impl From<ReadError> for StoreError {
     ghost from_gives = { λ fault e. e ≡ fault_of fault };
 
-    fn from(fault: ReadFail) -> Self {
+    fn from(fault: ReadError) -> Self {
         match fault {
-            ReadFail::Failed => StoreFault::Failed,
-            ReadFail::OutOfMemory => StoreFault::OutOfMemory,
+            ReadError::Failed => StoreError::Failed,
+            ReadError::OutOfMemory => StoreError::OutOfMemory,
         }
     }
 }

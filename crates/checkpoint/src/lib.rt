@@ -13,7 +13,7 @@ mod open;
 mod read;
 mod writing;
 
-pub use fault::StoreFault;
+pub use fault::StoreError;
 pub use layout::{HALF, JOURNAL_AT, STATE_MAX, journal_area};
 pub use open::open_half;
 pub use read::{HalfBytes, read_half};

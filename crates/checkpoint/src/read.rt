@@ -7,7 +7,7 @@ ghost use Rattle.checkpoint.specs.Halves.{half_of};
 ghost use Rattle.checkpoint.specs.Counting.{HasHalf};
 
 use crate::layout::{STATE_MAX, head_area};
-use disk_core::{Disk, ReadFail};
+use disk_core::{Disk, ReadError};
 use std::marker::Model;
 
 /// What a half holds: a state and its generation.
@@ -26,7 +26,7 @@ impl Model for HalfBytes {
 }
 
 /// What the half reads as; `None` exactly where its gate isn't 1 or its state would be too long. At most two reads.
-pub fn read_half<D: Disk>(disk: &mut D, half: u8) -> Result<Option<HalfBytes>, ReadFail>
+pub fn read_half<D: Disk>(disk: &mut D, half: u8) -> Result<Option<HalfBytes>, ReadError>
     requires half { half < 2 }
     requires inside { HasHalf half (D.seen disk.old) }
     ensures body { IfOk result (λ body. body ≡ half_of half (D.seen disk.old)) }
@@ -34,7 +34,7 @@ pub fn read_half<D: Disk>(disk: &mut D, half: u8) -> Result<Option<HalfBytes>, R
     ensures images { SameImages (D.images disk.old) (D.images disk.new) }
     ensures any_moment { LeavesOnly D.moment D.left_since disk.old disk.new (D.images disk.old) }
     ensures faults { D.fault_count disk.old ≤ D.fault_count disk.new }
-    ensures cause { IsErrOf result ReadFail.Failed
+    ensures cause { IsErrOf result ReadError.Failed
         → HasRisen (D.fault_count disk.old) (D.fault_count disk.new) }
     ensures plan { D.armed disk.new ≡ D.armed disk.old }
     ensures room { D.room disk.new ≡ D.room disk.old }

@@ -8,7 +8,7 @@ ghost use Rattle.checkpoint.specs.Halves.{padded, half_of, stored_in};
 ghost use Rattle.checkpoint.specs.Counting.{HasHalf, IsSpare, IsNewer, Keeps, CanOpen};
 ghost use Rattle.checkpoint.specs.Quiet.{Quiet, Rewritten, Shut};
 
-use crate::fault::StoreFault;
+use crate::fault::StoreError;
 use crate::layout::{JOURNAL_AT, head_area};
 use disk_area::Area;
 use disk_core::Disk;
@@ -23,7 +23,7 @@ pub fn prepare<D: Disk>(
     half: u8,
     generation: u64,
     state: &[u8],
-) -> Result<(), StoreFault>
+) -> Result<(), StoreError>
     requires half { half < 2 }
     requires inside { HasHalf half (D.seen disk.old) }
     requires nothing_pending { Only (D.seen disk.old) (D.images disk.old) }
@@ -39,9 +39,9 @@ pub fn prepare<D: Disk>(
     ensures stored { OnOk result (stored_in half (D.seen disk.new)
         ≡ Some (record { generation = generation; state = state.now })) }
     ensures durable { OnOk result (Only (D.seen disk.new) (D.images disk.new)) }
-    ensures memory { IsErrOf result StoreFault.OutOfMemory
+    ensures memory { IsErrOf result StoreError.OutOfMemory
         → (D.seen disk.new ≡ D.seen disk.old) × SameImages (D.images disk.old) (D.images disk.new) }
-    ensures cause { IsErrOf result StoreFault.Failed
+    ensures cause { IsErrOf result StoreError.Failed
         → HasRisen (D.fault_count disk.old) (D.fault_count disk.new) }
     ensures faults { D.fault_count disk.old ≤ D.fault_count disk.new }
     ensures plan { D.armed disk.new ≡ D.armed disk.old }
@@ -53,11 +53,11 @@ pub fn prepare<D: Disk>(
 }
 
 /// The bytes of the body, up to the journal's first byte.
-fn body_of(alloc: Global, generation: u64, state: &[u8]) -> Result<Vec<u8>, StoreFault>
+fn body_of(alloc: Global, generation: u64, state: &[u8]) -> Result<Vec<u8>, StoreError>
     requires { length state.now ≤ 131072 }
     ensures body { IfOk result (λ body. body.items
         ≡ padded (record { generation = generation; state = state.now })) }
-    ensures err { IsErrOf result StoreFault.Failed → ⊥ }
+    ensures err { IsErrOf result StoreError.Failed → ⊥ }
 {
     let mut body = Vec::new(alloc);
     put_u64(&mut body, generation)?;
@@ -68,7 +68,7 @@ fn body_of(alloc: Global, generation: u64, state: &[u8]) -> Result<Vec<u8>, Stor
 }
 
 /// Closes the gate where it is open, and puts these bytes behind it.
-fn rewrite<D: Disk>(disk: &mut D, area: Area, body: &[u8]) -> Result<(), StoreFault>
+fn rewrite<D: Disk>(disk: &mut D, area: Area, body: &[u8]) -> Result<(), StoreError>
     requires inside { IsInside area (D.seen disk.old) }
     requires fits { 1 + length body.now ≤ area.len }
     requires nothing_pending { Only (D.seen disk.old) (D.images disk.old) }
@@ -78,9 +78,9 @@ fn rewrite<D: Disk>(disk: &mut D, area: Area, body: &[u8]) -> Result<(), StoreFa
     ensures written { OnOk result
         (InArea area (Rewritten body.now) (D.seen disk.old) (D.seen disk.new)) }
     ensures durable { OnOk result (Only (D.seen disk.new) (D.images disk.new)) }
-    ensures memory { IsErrOf result StoreFault.OutOfMemory
+    ensures memory { IsErrOf result StoreError.OutOfMemory
         → (D.seen disk.new ≡ D.seen disk.old) × SameImages (D.images disk.old) (D.images disk.new) }
-    ensures cause { IsErrOf result StoreFault.Failed
+    ensures cause { IsErrOf result StoreError.Failed
         → HasRisen (D.fault_count disk.old) (D.fault_count disk.new) }
     ensures faults { D.fault_count disk.old ≤ D.fault_count disk.new }
     ensures plan { D.armed disk.new ≡ D.armed disk.old }
@@ -91,7 +91,7 @@ fn rewrite<D: Disk>(disk: &mut D, area: Area, body: &[u8]) -> Result<(), StoreFa
 }
 
 /// Closes the gate where it is open.
-fn close<D: Disk>(disk: &mut D, area: Area) -> Result<(), StoreFault>
+fn close<D: Disk>(disk: &mut D, area: Area) -> Result<(), StoreError>
     requires inside { IsInside area (D.seen disk.old) }
     requires fits { 0 < area.len }
     requires nothing_pending { Only (D.seen disk.old) (D.images disk.old) }
@@ -100,9 +100,9 @@ fn close<D: Disk>(disk: &mut D, area: Area) -> Result<(), StoreFault>
         (InArea area Quiet (D.seen disk.old)) }
     ensures shut { OnOk result (InArea area Shut (D.seen disk.old) (D.seen disk.new)) }
     ensures durable { OnOk result (Only (D.seen disk.new) (D.images disk.new)) }
-    ensures memory { IsErrOf result StoreFault.OutOfMemory
+    ensures memory { IsErrOf result StoreError.OutOfMemory
         → (D.seen disk.new ≡ D.seen disk.old) × SameImages (D.images disk.old) (D.images disk.new) }
-    ensures cause { IsErrOf result StoreFault.Failed
+    ensures cause { IsErrOf result StoreError.Failed
         → HasRisen (D.fault_count disk.old) (D.fault_count disk.new) }
     ensures faults { D.fault_count disk.old ≤ D.fault_count disk.new }
     ensures plan { D.armed disk.new ≡ D.armed disk.old }

@@ -6,7 +6,7 @@ ghost use Rattle.disk_core.specs.Moments.{Elapses, LeavesOnly};
 ghost use Rattle.disk_core.specs.Room.{HasRoom, UsesUp};
 ghost use Rattle.disk_area.specs.Windows.{window, IsInside, InArea};
 
-use disk_core::{Disk, Failed, ReadFail};
+use disk_core::{Disk, Failed, ReadError};
 
 /// The `len` bytes of a disk from `at` on.
 #[derive(Clone, Copy, Debug, PartialEq, Eq, Drop)]
@@ -24,7 +24,7 @@ impl Area {
     }
 
     /// The `len` bytes of the window from `at` on.
-    pub fn read<D: Disk>(&self, disk: &mut D, at: u64, len: usize) -> Result<Vec<u8>, ReadFail>
+    pub fn read<D: Disk>(&self, disk: &mut D, at: u64, len: usize) -> Result<Vec<u8>, ReadError>
         requires inside { IsInside self.now (D.seen disk.old) }
         requires range { at + len ≤ self.now.len }
         ensures bytes { IfOk result
@@ -34,7 +34,7 @@ impl Area {
         ensures time { Elapses (D.moment disk.old) (D.moment disk.new)
             (D.left_since disk.old) (D.left_since disk.new) (D.images disk.new) }
         ensures faults { D.fault_count disk.old ≤ D.fault_count disk.new }
-        ensures cause { IsErrOf result ReadFail.Failed
+        ensures cause { IsErrOf result ReadError.Failed
             → HasRisen (D.fault_count disk.old) (D.fault_count disk.new) }
         ensures plan { D.armed disk.new ≡ D.armed disk.old }
         ensures room { D.room disk.new ≡ D.room disk.old }

@@ -8,7 +8,7 @@ ghost use Rattle.disk_core.specs.Plans.{no_faults};
 ghost use Rattle.disk_core.specs.Calls.{Call, reserves, reads, writes, syncs, restarts, arms, is_failed};
 ghost use Rattle.disk_core.specs.declared.plan.FaultPlan.{FaultPlan};
 
-use crate::{Failed, FaultPlan, ReadFail};
+use crate::{Failed, FaultPlan, ReadError};
 use std::alloc::AllocError;
 
 /// A disk of a fixed number of bytes. Places and lengths are in bytes, and ranges lie within the size.
@@ -60,7 +60,7 @@ pub trait Disk {
         ensures own { obeys self.old reserves self.new };
 
     /// The `len` bytes from `at` on.
-    fn read(&mut self, at: u64, len: usize) -> Result<Vec<u8>, ReadFail>
+    fn read(&mut self, at: u64, len: usize) -> Result<Vec<u8>, ReadError>
         requires { at + len ≤ length (seen self.old) }
         ensures bytes { IfOk result (λ v. v.items ≡ slice_range (seen self.old) at (at + len)) }
         ensures reads { seen self.new ≡ seen self.old }
@@ -68,7 +68,7 @@ pub trait Disk {
         ensures time { Elapses (moment self.old) (moment self.new)
             (left_since self.old) (left_since self.new) (images self.new) }
         ensures faults { fault_count self.old ≤ fault_count self.new }
-        ensures cause { IsErrOf result ReadFail.Failed
+        ensures cause { IsErrOf result ReadError.Failed
             → HasRisen (fault_count self.old) (fault_count self.new) }
         ensures plan { armed self.new ≡ armed self.old }
         ensures room { room self.new ≡ room self.old }

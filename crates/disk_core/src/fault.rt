@@ -1,6 +1,6 @@
 //! How a call of a disk ends where it doesn't succeed.
 ghost use Rattle.std.specs.Prelude.{◌≡◌};
-ghost use Rattle.disk_core.specs.declared.fault.ReadFail.TheVariants.{Failed as faulted, OutOfMemory as no_memory};
+ghost use Rattle.disk_core.specs.declared.fault.ReadError.TheVariants.{Failed as faulted, OutOfMemory as no_memory};
 
 use std::alloc::AllocError;
 
@@ -10,23 +10,23 @@ pub struct Failed;
 
 /// Why a read gave no bytes.
 #[derive(Clone, Copy, Debug, PartialEq, Eq, Drop)]
-pub enum ReadFail {
+pub enum ReadError {
     Failed,
     OutOfMemory,
 }
 
-impl From<AllocError> for ReadFail {
+impl From<AllocError> for ReadError {
     ghost from_gives = { λ _ e. e ≡ no_memory };
 
     fn from(_: AllocError) -> Self {
-        ReadFail::OutOfMemory
+        ReadError::OutOfMemory
     }
 }
 
-impl From<Failed> for ReadFail {
+impl From<Failed> for ReadError {
     ghost from_gives = { λ _ e. e ≡ faulted };
 
     fn from(_: Failed) -> Self {
-        ReadFail::Failed
+        ReadError::Failed
     }
 }

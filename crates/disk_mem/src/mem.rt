@@ -7,7 +7,7 @@ ghost use Rattle.disk_mem.specs.Obeys.{IsNew};
 use crate::medium::Medium;
 use crate::pages::Pages;
 use crate::strikes::{Fate, Strikes};
-use disk_core::{Disk, FailKind, Failed, FaultPlan, ReadFail};
+use disk_core::{Disk, FailKind, Failed, FaultPlan, ReadError};
 use std::alloc::{AllocError, Global};
 
 /// A disk in memory. It keeps a record of its writes and syncs, from which its crash images follow,
@@ -110,9 +110,9 @@ impl Disk for MemDisk {
         self.medium.reserve(self.alloc, writes, bytes)
     }
 
-    fn read(&mut self, at: u64, len: usize) -> Result<Vec<u8>, ReadFail> {
+    fn read(&mut self, at: u64, len: usize) -> Result<Vec<u8>, ReadError> {
         if self.strike(FailKind::Read).is_bad() {
-            return Err(ReadFail::Failed);
+            return Err(ReadError::Failed);
         }
         Ok(self.medium.pages.read(self.alloc, at, len)?)
     }

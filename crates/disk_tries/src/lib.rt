@@ -8,8 +8,8 @@ mod tries;
 mod turns;
 
 pub use switches::{Switched, blank, try_switch};
-pub use tries::{Tried, TryFault, fresh, try_append, try_three};
-pub use turns::{TurnFault, Turned, try_third};
+pub use tries::{Tried, TryError, fresh, try_append, try_three};
+pub use turns::{TurnError, Turned, try_third};
 
 #[cfg(test)]
 mod rows;

@@ -1,8 +1,8 @@
 //! The tables. A record takes five bytes and its payload, and one byte must remain for the next gate.
-use crate::{TryFault, TurnFault, try_append, try_switch, try_third, try_three};
-use checkpoint::{HalfBytes, StoreFault};
-use disk_core::{FailKind, Fails, FaultPlan, ReadFail, Stops};
-use journal::JournalFault;
+use crate::{TryError, TurnError, try_append, try_switch, try_third, try_three};
+use checkpoint::{HalfBytes, StoreError};
+use disk_core::{FailKind, Fails, FaultPlan, ReadError, Stops};
+use journal::JournalError;
 use std::test::Fail;
 
 /// An area of 64 bytes takes 20 bytes and then 33, and then refuses an empty payload; one of 63 bytes refuses the 33.
@@ -14,10 +14,10 @@ fn an_area_takes_what_fits(rt: HostRuntime) -> Result<(), Fail> {
     assert!(rt; matches!(both.ended, Ok(())));
     assert!(rt; both.records.len() == 2);
     let tight = try_append(alloc, 63, &plan, &[7; 20], &[8; 33]).map_err(|_| "no try")?;
-    assert!(rt; matches!(tight.ended, Err(JournalFault::Full)));
+    assert!(rt; matches!(tight.ended, Err(JournalError::Full)));
     assert!(rt; tight.records.len() == 1);
     let full = try_three(alloc, 64, &[7; 20], &[8; 33], &[]).map_err(|_| "no try")?;
-    assert!(rt; matches!(full, Err(JournalFault::Full)));
+    assert!(rt; matches!(full, Err(JournalError::Full)));
     let room = try_three(alloc, 69, &[7; 20], &[8; 33], &[]).map_err(|_| "no try")?;
     assert!(rt; matches!(room, Ok(())));
     Ok(())
@@ -34,7 +34,7 @@ fn a_stop_leaves_the_list_before_or_with(rt: HostRuntime) -> Result<(), Fail> {
             fails: Fails::of(Vec::new(alloc)),
         };
         let tried = try_append(alloc, 64, &plan, &[7; 20], &[8; 33]).map_err(|_| "no try")?;
-        assert!(rt; matches!(tried.ended, Err(JournalFault::Failed)));
+        assert!(rt; matches!(tried.ended, Err(JournalError::Failed)));
         assert!(rt; tried.faults == 1);
         assert!(rt; tried.records.len() == 1);
     }
@@ -44,7 +44,7 @@ fn a_stop_leaves_the_list_before_or_with(rt: HostRuntime) -> Result<(), Fail> {
             fails: Fails::of(Vec::new(alloc)),
         };
         let tried = try_append(alloc, 64, &plan, &[7; 20], &[8; 33]).map_err(|_| "no try")?;
-        assert!(rt; matches!(tried.ended, Err(JournalFault::Failed)));
+        assert!(rt; matches!(tried.ended, Err(JournalError::Failed)));
         assert!(rt; tried.records.len() == records);
     }
     Ok(())
@@ -66,7 +66,7 @@ fn a_failure_leaves_the_list_before_or_with(rt: HostRuntime) -> Result<(), Fail>
             fails: Fails::of(vec![in alloc; (kind, number)].map_err(|_| "memory")?),
         };
         let tried = try_append(alloc, 64, &plan, &[7; 20], &[8; 33]).map_err(|_| "no try")?;
-        assert!(rt; matches!(tried.ended, Err(JournalFault::Failed)));
+        assert!(rt; matches!(tried.ended, Err(JournalError::Failed)));
         assert!(rt; tried.faults == 1);
         assert!(rt; tried.records.len() == records);
     }
@@ -142,7 +142,7 @@ fn a_list_that_is_not_read_says_so(rt: HostRuntime) -> Result<(), Fail> {
         fails: Fails::of(vec![in alloc; (FailKind::Read, 1u64)].map_err(|_| "memory")?),
     };
     let tried = try_append(alloc, 64, &plan, &[7; 20], &[8; 33]);
-    assert!(rt; matches!(tried, Err(TryFault::Read(ReadFail::Failed))));
+    assert!(rt; matches!(tried, Err(TryError::Read(ReadError::Failed))));
     Ok(())
 }
 
@@ -214,8 +214,8 @@ fn a_failure_leaves_a_half_that_counts(rt: HostRuntime) -> Result<(), Fail> {
         let turned = try_third(alloc, 4_194_304, &plan, b"state").map_err(|_| "no try")?;
         assert!(rt; turned.faults == 1);
         let failed = match turned.ended {
-            Err(TurnFault::Read(ReadFail::Failed)) => number == 4,
-            Err(TurnFault::Store(StoreFault::Failed)) => number != 4,
+            Err(TurnError::Read(ReadError::Failed)) => number == 4,
+            Err(TurnError::Store(StoreError::Failed)) => number != 4,
             _ => false,
         };
         assert!(rt; failed);

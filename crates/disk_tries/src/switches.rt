@@ -5,8 +5,8 @@ ghost use Rattle.disk_core.specs.Plans.{no_faults};
 ghost use Rattle.checkpoint.specs.Halves.{half_of};
 ghost use Rattle.checkpoint.specs.Counting.{IsSpare, IsNewer, HasHalf};
 
-use crate::TryFault;
-use checkpoint::{HalfBytes, StoreFault, open_half, prepare, read_half};
+use crate::TryError;
+use checkpoint::{HalfBytes, StoreError, open_half, prepare, read_half};
 use disk_core::{Disk, FaultPlan};
 use disk_mem::MemDisk;
 use std::alloc::{AllocError, Global};
@@ -14,8 +14,8 @@ use std::alloc::{AllocError, Global};
 /// How the two calls of a switch ended, what the half reads as after a restart, and how often the disk had failed.
 #[derive(Drop)]
 pub struct Switched {
-    pub prepared: Result<(), StoreFault>,
-    pub opened: Option<Result<(), StoreFault>>,
+    pub prepared: Result<(), StoreError>,
+    pub opened: Option<Result<(), StoreError>>,
     pub half: Option<HalfBytes>,
     pub faults: u64,
 }
@@ -40,7 +40,7 @@ pub fn try_switch(
     size: u64,
     plan: &FaultPlan,
     state: &[u8],
-) -> Result<Switched, TryFault>
+) -> Result<Switched, TryError>
     requires room { 2097152 ≤ size }
     requires short { length state.now ≤ 131072 }
 {
@@ -49,7 +49,7 @@ pub fn try_switch(
     let (prepared, opened) = switch(alloc, &mut disk, state);
     let faults = disk.faults();
     if let Err(_) = disk.restart() {
-        return Err(TryFault::Restart);
+        return Err(TryError::Restart);
     }
     match read_half(&mut disk, 0) {
         Ok(half) => Ok(Switched {
@@ -58,7 +58,7 @@ pub fn try_switch(
             half,
             faults,
         }),
-        Err(fault) => Err(TryFault::Read(fault)),
+        Err(fault) => Err(TryError::Read(fault)),
     }
 }
 
@@ -66,7 +66,7 @@ fn switch(
     alloc: Global,
     disk: &mut MemDisk,
     state: &[u8],
-) -> (Result<(), StoreFault>, Option<Result<(), StoreFault>>)
+) -> (Result<(), StoreError>, Option<Result<(), StoreError>>)
     requires nothing_pending { Only (⟦<MemDisk as Disk>⟧.seen disk.old)
         (⟦<MemDisk as Disk>⟧.images disk.old) }
     requires inside { HasHalf 0 (⟦<MemDisk as Disk>⟧.seen disk.old) }

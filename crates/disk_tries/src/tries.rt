@@ -3,57 +3,57 @@ ghost use Rattle.std.specs.Prelude.{◌≡◌, ◌≤◌, ◌<◌, ◌^◌, leng
 ghost use Rattle.disk_core.specs.Images.{EachImage};
 ghost use Rattle.disk_core.specs.Plans.{no_faults};
 ghost use Rattle.journal.specs.Ready.{IsReady};
-ghost use Rattle.disk_tries.specs.declared.tries.TryFault.TheVariants.{Memory as no_memory, Read as not_read, Turn as not_turned};
+ghost use Rattle.disk_tries.specs.declared.tries.TryError.TheVariants.{Memory as no_memory, Read as not_read, Turn as not_turned};
 
-use crate::TurnFault;
+use crate::TurnError;
 use disk_area::Area;
-use disk_core::{Disk, FaultPlan, ReadFail};
+use disk_core::{Disk, FaultPlan, ReadError};
 use disk_mem::MemDisk;
-use journal::{Journal, JournalFault, Records, list};
+use journal::{Journal, JournalError, Records, list};
 use std::alloc::{AllocError, Global};
 
 /// Why nothing was tried.
 #[derive(Clone, Copy, Debug, PartialEq, Eq, Drop)]
-pub enum TryFault {
+pub enum TryError {
     Memory,
     /// The append before the plan was armed didn't succeed.
-    Before(JournalFault),
+    Before(JournalError),
     /// The list wasn't read again.
-    Read(ReadFail),
+    Read(ReadError),
     /// A switch before the plan was armed didn't succeed.
-    Turn(TurnFault),
+    Turn(TurnError),
     /// The disk didn't restart.
     Restart,
 }
 
-impl From<AllocError> for TryFault {
+impl From<AllocError> for TryError {
     ghost from_gives = { λ _ e. e ≡ no_memory };
 
     fn from(_: AllocError) -> Self {
-        TryFault::Memory
+        TryError::Memory
     }
 }
 
-impl From<ReadFail> for TryFault {
+impl From<ReadError> for TryError {
     ghost from_gives = { λ fault e. e ≡ not_read fault };
 
-    fn from(fault: ReadFail) -> Self {
-        TryFault::Read(fault)
+    fn from(fault: ReadError) -> Self {
+        TryError::Read(fault)
     }
 }
 
-impl From<TurnFault> for TryFault {
+impl From<TurnError> for TryError {
     ghost from_gives = { λ fault e. e ≡ not_turned fault };
 
-    fn from(fault: TurnFault) -> Self {
-        TryFault::Turn(fault)
+    fn from(fault: TurnError) -> Self {
+        TryError::Turn(fault)
     }
 }
 
 /// How an append ended, what was read after a restart, and how often the disk had failed.
 #[derive(Drop)]
 pub struct Tried {
-    pub ended: Result<(), JournalFault>,
+    pub ended: Result<(), JournalError>,
     pub records: Records,
     pub faults: u64,
 }
@@ -79,7 +79,7 @@ pub fn try_append(
     plan: &FaultPlan,
     first: &[u8],
     second: &[u8],
-) -> Result<Tried, TryFault>
+) -> Result<Tried, TryError>
     requires some { 0 < len }
     requires first_short { length first.now < 2 ^ 32 }
     requires second_short { length second.now < 2 ^ 32 }
@@ -87,13 +87,13 @@ pub fn try_append(
     let (mut disk, mut journal) = fresh(alloc, len, len)?;
     let area = journal.area;
     if let Err(fault) = journal.append(alloc, &mut disk, first) {
-        return Err(TryFault::Before(fault));
+        return Err(TryError::Before(fault));
     }
     disk.arm(plan)?;
     let ended = journal.append(alloc, &mut disk, second);
     let faults = disk.faults();
     if let Err(_) = disk.restart() {
-        return Err(TryFault::Restart);
+        return Err(TryError::Restart);
     }
     match list(alloc, &mut disk, area) {
         Ok(records) => Ok(Tried {
@@ -101,7 +101,7 @@ pub fn try_append(
             records,
             faults,
         }),
-        Err(fault) => Err(TryFault::Read(fault)),
+        Err(fault) => Err(TryError::Read(fault)),
     }
 }
 
@@ -112,7 +112,7 @@ pub fn try_three(
     first: &[u8],
     second: &[u8],
     third: &[u8],
-) -> Result<Result<(), JournalFault>, TryFault>
+) -> Result<Result<(), JournalError>, TryError>
     requires some { 0 < len }
     requires first_short { length first.now < 2 ^ 32 }
     requires second_short { length second.now < 2 ^ 32 }
@@ -120,10 +120,10 @@ pub fn try_three(
 {
     let (mut disk, mut journal) = fresh(alloc, len, len)?;
     if let Err(fault) = journal.append(alloc, &mut disk, first) {
-        return Err(TryFault::Before(fault));
+        return Err(TryError::Before(fault));
     }
     if let Err(fault) = journal.append(alloc, &mut disk, second) {
-        return Err(TryFault::Before(fault));
+        return Err(TryError::Before(fault));
     }
     Ok(journal.append(alloc, &mut disk, third))
 }

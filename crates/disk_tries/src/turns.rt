@@ -3,45 +3,45 @@ ghost use Rattle.std.specs.Prelude.{◌≡◌, ◌≢◌, ◌≤◌, length, OnO
 ghost use Rattle.disk_core.specs.Images.{Only};
 ghost use Rattle.disk_core.specs.Plans.{no_faults};
 ghost use Rattle.checkpoint.specs.Counting.{newest, HasHalf, IsNewer};
-ghost use Rattle.disk_tries.specs.declared.turns.TurnFault.TheVariants.{Read as not_read, Store as not_stored};
+ghost use Rattle.disk_tries.specs.declared.turns.TurnError.TheVariants.{Read as not_read, Store as not_stored};
 
-use crate::TryFault;
-use checkpoint::{HalfBytes, StoreFault, open_half, prepare, read_half};
-use disk_core::{Disk, FaultPlan, ReadFail};
+use crate::TryError;
+use checkpoint::{HalfBytes, StoreError, open_half, prepare, read_half};
+use disk_core::{Disk, FaultPlan, ReadError};
 use disk_mem::MemDisk;
 use std::alloc::{AllocError, Global};
 
 /// Why a switch didn't end well.
 #[derive(Clone, Copy, Debug, PartialEq, Eq, Drop)]
-pub enum TurnFault {
+pub enum TurnError {
     /// No generation is left.
     Last,
     /// A half wasn't read.
-    Read(ReadFail),
+    Read(ReadError),
     /// A half wasn't prepared or opened.
-    Store(StoreFault),
+    Store(StoreError),
 }
 
-impl From<ReadFail> for TurnFault {
+impl From<ReadError> for TurnError {
     ghost from_gives = { λ fault e. e ≡ not_read fault };
 
-    fn from(fault: ReadFail) -> Self {
-        TurnFault::Read(fault)
+    fn from(fault: ReadError) -> Self {
+        TurnError::Read(fault)
     }
 }
 
-impl From<StoreFault> for TurnFault {
+impl From<StoreError> for TurnError {
     ghost from_gives = { λ fault e. e ≡ not_stored fault };
 
-    fn from(fault: StoreFault) -> Self {
-        TurnFault::Store(fault)
+    fn from(fault: StoreError) -> Self {
+        TurnError::Store(fault)
     }
 }
 
 /// How the last of three switches ended, what the halves read as after a restart, and how often the disk had failed.
 #[derive(Drop)]
 pub struct Turned {
-    pub ended: Result<(), TurnFault>,
+    pub ended: Result<(), TurnError>,
     pub half_0: Option<HalfBytes>,
     pub half_1: Option<HalfBytes>,
     pub faults: u64,
@@ -53,7 +53,7 @@ pub fn try_third(
     size: u64,
     plan: &FaultPlan,
     state: &[u8],
-) -> Result<Turned, TryFault>
+) -> Result<Turned, TryError>
     requires room { 4194304 ≤ size }
     requires short { length state.now ≤ 131072 }
 {
@@ -64,7 +64,7 @@ pub fn try_third(
     let ended = turn(alloc, &mut disk, state);
     let faults = disk.faults();
     if let Err(_) = disk.restart() {
-        return Err(TryFault::Restart);
+        return Err(TryError::Restart);
     }
     let half_0 = read_half(&mut disk, 0)?;
     let half_1 = read_half(&mut disk, 1)?;
@@ -88,7 +88,7 @@ fn two_halves(alloc: Global, size: u64) -> Result<MemDisk, AllocError>
 }
 
 /// Switches to the half that doesn't count.
-fn turn(alloc: Global, disk: &mut MemDisk, state: &[u8]) -> Result<(), TurnFault>
+fn turn(alloc: Global, disk: &mut MemDisk, state: &[u8]) -> Result<(), TurnError>
     requires nothing_pending { Only (⟦<MemDisk as Disk>⟧.seen disk.old)
         (⟦<MemDisk as Disk>⟧.images disk.old) }
     requires inside { HasHalf 1 (⟦<MemDisk as Disk>⟧.seen disk.old) }
@@ -103,7 +103,7 @@ fn turn(alloc: Global, disk: &mut MemDisk, state: &[u8]) -> Result<(), TurnFault
     let half_1 = read_half(disk, 1)?;
     let (half, generation) = match next(&half_0, &half_1) {
         Some(next) => next,
-        None => return Err(TurnFault::Last),
+        None => return Err(TurnError::Last),
     };
     prepare(alloc, disk, half, generation, state)?;
     Ok(open_half(disk, half)?)

@@ -5,8 +5,8 @@ ghost use Rattle.disk_core.specs.Moments.{LeavesOnly};
 ghost use Rattle.event_log.specs.Log.{Holds, BeforeOrWith, Doubt};
 ghost use Rattle.event_log.specs.Runs.{HoldsFirst, Acknowledges};
 
-use disk_core::{Disk, ReadFail};
-use journal::{Journal, JournalFault, Payload, Records, list};
+use disk_core::{Disk, ReadError};
+use journal::{Journal, JournalError, Payload, Records, list};
 use std::alloc::Global;
 
 /// A disk and the journal on it.
@@ -17,7 +17,7 @@ pub struct EventLog<D: Disk> {
 
 impl<D: Disk> EventLog<D> {
     /// Adds an event. After `Failed` it is in doubt, until `recover` says whether it stood.
-    pub fn record(&mut self, alloc: Global, event: &[u8]) -> Result<(), JournalFault>
+    pub fn record(&mut self, alloc: Global, event: &[u8]) -> Result<(), JournalError>
         ghost before: { List (List ℕ) }
         requires open { EachImage (D.images self.old.disk)
             (Holds self.old.journal.area self.old.journal.used before) }
@@ -28,14 +28,14 @@ impl<D: Disk> EventLog<D> {
         // A crash at any moment of the call leaves the list before it, or with the event.
         ensures any_moment { LeavesOnly D.moment D.left_since self.old.disk self.new.disk
             (BeforeOrWith self.old.journal.area self.old.journal.used before event.now) }
-        ensures unchanged { (IsErrOf result JournalFault.Full ⊎ IsErrOf result JournalFault.OutOfMemory)
+        ensures unchanged { (IsErrOf result JournalError.Full ⊎ IsErrOf result JournalError.OutOfMemory)
             → EachImage (D.images self.new.disk)
             (Holds self.old.journal.area self.old.journal.used before) }
         ensures journal { OnErr result (self.new.journal ≡ self.old.journal) }
         ensures area { self.new.journal.area ≡ self.old.journal.area }
-        ensures full { IsErrOf result JournalFault.Full
+        ensures full { IsErrOf result JournalError.Full
             ↔ (self.old.journal.area.len < self.old.journal.used + 6 + length event.now) }
-        ensures cause { IsErrOf result JournalFault.Failed
+        ensures cause { IsErrOf result JournalError.Failed
             → HasRisen (D.fault_count self.old.disk) (D.fault_count self.new.disk) }
         ensures faults { D.fault_count self.old.disk ≤ D.fault_count self.new.disk }
         ensures plan { D.armed self.new.disk ≡ D.armed self.old.disk }
@@ -45,7 +45,7 @@ impl<D: Disk> EventLog<D> {
     }
 
     /// Restarts the disk and reads the list again: with the event in doubt or without.
-    pub fn recover(&mut self, alloc: Global) -> Result<Records, ReadFail>
+    pub fn recover(&mut self, alloc: Global) -> Result<Records, ReadError>
         ghost doubt: { Doubt }
         requires in_doubt { EachImage (D.images self.old.disk)
             (BeforeOrWith self.old.journal.area self.old.journal.used doubt.before doubt.event) }
@@ -57,7 +57,7 @@ impl<D: Disk> EventLog<D> {
             (BeforeOrWith self.old.journal.area self.old.journal.used doubt.before doubt.event) }
         ensures journal { OnErr result (self.new.journal ≡ self.old.journal) }
         ensures area { self.new.journal.area ≡ self.old.journal.area }
-        ensures cause { IsErrOf result ReadFail.Failed
+        ensures cause { IsErrOf result ReadError.Failed
             → HasRisen (D.fault_count self.old.disk) (D.fault_count self.new.disk) }
         ensures faults { D.fault_count self.old.disk ≤ D.fault_count self.new.disk }
         ensures plan { D.armed self.new.disk ≡ D.armed self.old.disk }
@@ -74,7 +74,7 @@ impl<D: Disk> EventLog<D> {
         &mut self,
         alloc: Global,
         events: &[Payload],
-    ) -> (usize, Result<(), JournalFault>)
+    ) -> (usize, Result<(), JournalError>)
         ghost before: { List (List ℕ) }
         requires open { EachImage (D.images self.old.disk)
             (Holds self.old.journal.area self.old.journal.used before) }
@@ -95,10 +95,10 @@ impl<D: Disk> EventLog<D> {
             → Acknowledges D.moment D.left_since self.old.journal.area before events.now
             (result.0 + 1)
             self.old.disk self.new.disk k }
-        ensures full { IsErrOf result.1 JournalFault.Full
+        ensures full { IsErrOf result.1 JournalError.Full
             → IsSomeAnd (slice_get events.now result.0) (λ event.
             self.new.journal.area.len < self.new.journal.used + 6 + length event) }
-        ensures cause { IsErrOf result.1 JournalFault.Failed
+        ensures cause { IsErrOf result.1 JournalError.Failed
             → HasRisen (D.fault_count self.old.disk) (D.fault_count self.new.disk) }
         ensures faults { D.fault_count self.old.disk ≤ D.fault_count self.new.disk }
         ensures plan { D.armed self.new.disk ≡ D.armed self.old.disk }

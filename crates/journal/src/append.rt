@@ -6,7 +6,7 @@ ghost use Rattle.disk_area.specs.Windows.{InArea};
 ghost use Rattle.wire.specs.Fields.{bytes_field};
 ghost use Rattle.journal.specs.Ready.{IsReady, Grows, MayGrow};
 
-use crate::fault::JournalFault;
+use crate::fault::JournalError;
 use disk_area::Area;
 use disk_core::Disk;
 use std::alloc::{AllocError, Global};
@@ -44,7 +44,7 @@ impl Journal {
         alloc: Global,
         disk: &mut D,
         payload: &[u8],
-    ) -> Result<(), JournalFault>
+    ) -> Result<(), JournalError>
         requires ready { EachImage (D.images disk.old) (IsReady self.old.area self.old.used) }
         requires short { length payload.now < 2 ^ 32 }
 
@@ -58,18 +58,18 @@ impl Journal {
         ensures any_moment { LeavesOnly D.moment D.left_since disk.old disk.new
             (From (D.images disk.old) (InArea self.old.area (MayGrow self.old.used payload.now))) }
 
-        ensures full { IsErrOf result JournalFault.Full
+        ensures full { IsErrOf result JournalError.Full
             ↔ (self.old.area.len < self.old.used + 6 + length payload.now) }
-        ensures full_disk { IsErrOf result JournalFault.Full
+        ensures full_disk { IsErrOf result JournalError.Full
             → (D.seen disk.new ≡ D.seen disk.old)
             × SameImages (D.images disk.old) (D.images disk.new) }
-        ensures full_journal { IsErrOf result JournalFault.Full → self.new ≡ self.old }
-        ensures memory_disk { IsErrOf result JournalFault.OutOfMemory
+        ensures full_journal { IsErrOf result JournalError.Full → self.new ≡ self.old }
+        ensures memory_disk { IsErrOf result JournalError.OutOfMemory
             → (D.seen disk.new ≡ D.seen disk.old)
             × SameImages (D.images disk.old) (D.images disk.new) }
-        ensures memory_journal { IsErrOf result JournalFault.OutOfMemory → self.new ≡ self.old }
-        ensures failed_journal { IsErrOf result JournalFault.Failed → self.new ≡ self.old }
-        ensures cause { IsErrOf result JournalFault.Failed
+        ensures memory_journal { IsErrOf result JournalError.OutOfMemory → self.new ≡ self.old }
+        ensures failed_journal { IsErrOf result JournalError.Failed → self.new ≡ self.old }
+        ensures cause { IsErrOf result JournalError.Failed
             → HasRisen (D.fault_count disk.old) (D.fault_count disk.new) }
         ensures faults { D.fault_count disk.old ≤ D.fault_count disk.new }
         ensures area { self.new.area ≡ self.old.area }
@@ -78,7 +78,7 @@ impl Journal {
     {
         let taken = 5 + payload.len() as u64;
         if self.area.len - self.used <= taken {
-            return Err(JournalFault::Full);
+            return Err(JournalError::Full);
         }
         let body = body_of(alloc, payload)?;
         disk.reserve(2, body.len() as u64 + 1)?;

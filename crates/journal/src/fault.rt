@@ -1,12 +1,12 @@
 //! Why an append didn't succeed.
 ghost use Rattle.std.specs.Prelude.{◌≡◌};
-ghost use Rattle.journal.specs.declared.fault.JournalFault.TheVariants.{Failed as faulted, OutOfMemory as no_memory};
+ghost use Rattle.journal.specs.declared.fault.JournalError.TheVariants.{Failed as faulted, OutOfMemory as no_memory};
 
 use disk_core::Failed;
 use std::alloc::AllocError;
 
 #[derive(Clone, Copy, Debug, PartialEq, Eq, Drop)]
-pub enum JournalFault {
+pub enum JournalError {
     /// The record doesn't fit into the area; nothing was written.
     Full,
     /// The disk failed; the list is as before or has the payload.
@@ -15,18 +15,18 @@ pub enum JournalFault {
     OutOfMemory,
 }
 
-impl From<AllocError> for JournalFault {
+impl From<AllocError> for JournalError {
     ghost from_gives = { λ _ e. e ≡ no_memory };
 
     fn from(_: AllocError) -> Self {
-        JournalFault::OutOfMemory
+        JournalError::OutOfMemory
     }
 }
 
-impl From<Failed> for JournalFault {
+impl From<Failed> for JournalError {
     ghost from_gives = { λ _ e. e ≡ faulted };
 
     fn from(_: Failed) -> Self {
-        JournalFault::Failed
+        JournalError::Failed
     }
 }

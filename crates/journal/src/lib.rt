@@ -13,6 +13,6 @@ mod reading;
 mod records;
 
 pub use append::Journal;
-pub use fault::JournalFault;
+pub use fault::JournalError;
 pub use reading::list;
 pub use records::{Payload, Records};

@@ -7,12 +7,12 @@ ghost use Rattle.journal.specs.Records.{journal_list};
 
 use crate::records::{Payload, Records};
 use disk_area::Area;
-use disk_core::{Disk, ReadFail};
+use disk_core::{Disk, ReadError};
 use std::alloc::{AllocError, Global};
 use wire::take_bytes;
 
 /// The records of the area, up to the first place whose gate byte isn't 1 or whose record isn't whole: one read.
-pub fn list<D: Disk>(alloc: Global, disk: &mut D, area: Area) -> Result<Records, ReadFail>
+pub fn list<D: Disk>(alloc: Global, disk: &mut D, area: Area) -> Result<Records, ReadError>
     requires { IsInside area (D.seen disk.old) }
     ensures list { IfOk result (λ records. records ≡ journal_list (window area (D.seen disk.old))) }
     ensures reads { D.seen disk.new ≡ D.seen disk.old }
@@ -20,7 +20,7 @@ pub fn list<D: Disk>(alloc: Global, disk: &mut D, area: Area) -> Result<Records,
     ensures time { Elapses (D.moment disk.old) (D.moment disk.new)
         (D.left_since disk.old) (D.left_since disk.new) (D.images disk.new) }
     ensures faults { D.fault_count disk.old ≤ D.fault_count disk.new }
-    ensures cause { IsErrOf result ReadFail.Failed
+    ensures cause { IsErrOf result ReadError.Failed
         → HasRisen (D.fault_count disk.old) (D.fault_count disk.new) }
     ensures plan { D.armed disk.new ≡ D.armed disk.old }
     ensures room { D.room disk.new ≡ D.room disk.old }

@@ -4,7 +4,7 @@
 
 use anyhow::{Result, anyhow};
 use disk_core::Disk;
-use disk_tries::{TryFault, fresh};
+use disk_tries::{TryError, fresh};
 use journal::list;
 use std::alloc::Global;
 use std::env;
@@ -15,16 +15,16 @@ const DISK: u64 = 46_137_344;
 const JOURNAL: u64 = 1_835_008;
 
 /// How many records are read after so many appends, and how often the disk failed.
-fn append_many(alloc: Global, count: u64) -> std::result::Result<(usize, u64), TryFault> {
+fn append_many(alloc: Global, count: u64) -> std::result::Result<(usize, u64), TryError> {
     let (mut disk, mut journal) = fresh(alloc, DISK, JOURNAL)?;
     for _record in 0..count {
         if let Err(fault) = journal.append(alloc, &mut disk, &[7; 15]) {
-            return Err(TryFault::Before(fault));
+            return Err(TryError::Before(fault));
         }
     }
     match list(alloc, &mut disk, journal.area) {
         Ok(records) => Ok((records.len(), disk.faults())),
-        Err(fault) => Err(TryFault::Read(fault)),
+        Err(fault) => Err(TryError::Read(fault)),
     }
 }
 

@@ -11,4 +11,4 @@ mod read;
 mod tests;
 
 pub use print::print_manifest;
-pub use read::{ManifestFault, read_manifest};
+pub use read::{ManifestError, read_manifest};

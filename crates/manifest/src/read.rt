@@ -3,7 +3,7 @@ ghost use Rattle.std.specs.Prelude.{◌≡◌, ◌==◌, IfOk, IfErr, Some, None
 ghost use Rattle.serde_json.specs.Find.{as_str, get};
 ghost use Rattle.serde_json.specs.View.{view};
 ghost use Rattle.ucm_base.specs.Limits.{need_limit};
-ghost use Rattle.manifest.specs.declared.read.ManifestFault.TheVariants.{InvalidManifest};
+ghost use Rattle.manifest.specs.declared.read.ManifestError.TheVariants.{InvalidManifest};
 ghost use Rattle.manifest.specs.Trees.{all_of, field, has_keys};
 ghost use Rattle.manifest.specs.Read.{IsRead};
 ghost use Rattle.manifest.specs.Form.{action_named, action_of_tree, digest_of_tree, manifest_of, manifest_of_tree, name_of_tree, need_of_tree, needs_of_tree, req_of_tree, version_of_tree};
@@ -12,35 +12,35 @@ use crate::digest::digest_of_hex;
 use serde_json::Value;
 use std::alloc::{AllocError, AllocFailed, Global};
 use ucm_base::limits::NEED_LIMIT;
-use ucm_base::{Action, ClusterName, Manifest, Need, Needs, ReqText, TextFault, VersionText};
+use ucm_base::{Action, ClusterName, Manifest, Need, Needs, ReqText, TextError, VersionText};
 
 /// Why no manifest was read.
 #[derive(Clone, Copy, PartialEq, Eq, Debug)]
-pub enum ManifestFault {
+pub enum ManifestError {
     /// The text is no manifest.
     InvalidManifest,
     OutOfMemory,
 }
 
-impl From<AllocError> for ManifestFault {
+impl From<AllocError> for ManifestError {
     ghost use Rattle.std.specs.Prelude.{◌≡◌};
-    ghost use Rattle.manifest.specs.declared.read.ManifestFault.TheVariants.{OutOfMemory};
+    ghost use Rattle.manifest.specs.declared.read.ManifestError.TheVariants.{OutOfMemory};
 
     ghost from_gives = { λ _ e. e ≡ OutOfMemory };
 
-    fn from(_refused: AllocError) -> ManifestFault {
-        ManifestFault::OutOfMemory
+    fn from(_refused: AllocError) -> ManifestError {
+        ManifestError::OutOfMemory
     }
 }
 
-impl<T: Drop> From<AllocFailed<T>> for ManifestFault {
+impl<T: Drop> From<AllocFailed<T>> for ManifestError {
     ghost use Rattle.std.specs.Prelude.{◌≡◌};
-    ghost use Rattle.manifest.specs.declared.read.ManifestFault.TheVariants.{OutOfMemory};
+    ghost use Rattle.manifest.specs.declared.read.ManifestError.TheVariants.{OutOfMemory};
 
     ghost from_gives = { λ _ e. e ≡ OutOfMemory };
 
-    fn from(_refused: AllocFailed<T>) -> ManifestFault {
-        ManifestFault::OutOfMemory
+    fn from(_refused: AllocFailed<T>) -> ManifestError {
+        ManifestError::OutOfMemory
     }
 }
 
@@ -100,46 +100,46 @@ fn action_at(value: &Value, key: &str) -> Option<Action>
     }
 }
 
-fn version_at(alloc: Global, value: &Value, key: &str) -> Result<VersionText, ManifestFault>
+fn version_at(alloc: Global, value: &Value, key: &str) -> Result<VersionText, ManifestError>
     ensures { IsRead result (field key.now version_of_tree (view value.now)) }
 {
     match text_at(value, key) {
         Some(text) => match VersionText::of(alloc, text.as_bytes()) {
             Ok(version) => Ok(version),
-            Err(TextFault::BadText) => Err(ManifestFault::InvalidManifest),
-            Err(TextFault::OutOfMemory) => Err(ManifestFault::OutOfMemory),
+            Err(TextError::BadText) => Err(ManifestError::InvalidManifest),
+            Err(TextError::OutOfMemory) => Err(ManifestError::OutOfMemory),
         },
-        None => Err(ManifestFault::InvalidManifest),
+        None => Err(ManifestError::InvalidManifest),
     }
 }
 
-fn req_at(alloc: Global, value: &Value, key: &str) -> Result<ReqText, ManifestFault>
+fn req_at(alloc: Global, value: &Value, key: &str) -> Result<ReqText, ManifestError>
     ensures { IsRead result (field key.now req_of_tree (view value.now)) }
 {
     match text_at(value, key) {
         Some(text) => match ReqText::of(alloc, text.as_bytes()) {
             Ok(version) => Ok(version),
-            Err(TextFault::BadText) => Err(ManifestFault::InvalidManifest),
-            Err(TextFault::OutOfMemory) => Err(ManifestFault::OutOfMemory),
+            Err(TextError::BadText) => Err(ManifestError::InvalidManifest),
+            Err(TextError::OutOfMemory) => Err(ManifestError::OutOfMemory),
         },
-        None => Err(ManifestFault::InvalidManifest),
+        None => Err(ManifestError::InvalidManifest),
     }
 }
 
-fn need_in(alloc: Global, value: &Value) -> Result<Need, ManifestFault>
+fn need_in(alloc: Global, value: &Value) -> Result<Need, ManifestError>
     ensures { IsRead result (need_of_tree (view value.now)) }
 {
     if !has_count(value, 2) {
-        return Err(ManifestFault::InvalidManifest);
+        return Err(ManifestError::InvalidManifest);
     }
     let Some(name) = name_at(value, "name") else {
-        return Err(ManifestFault::InvalidManifest);
+        return Err(ManifestError::InvalidManifest);
     };
     let req = req_at(alloc, value, "req")?;
     Ok(Need { name, req })
 }
 
-fn all_needs(alloc: Global, values: &[Value]) -> Result<Vec<Need>, ManifestFault>
+fn all_needs(alloc: Global, values: &[Value]) -> Result<Vec<Need>, ManifestError>
     ensures ok { IfOk result (λ v. all_of need_of_tree (map view values.now) ≡ Some v.items) }
     ensures count { IfOk result (λ v. length v.items ≡ length values.now) }
     ensures invalid { IfErr result
@@ -159,43 +159,43 @@ fn are_few(values: &[Value]) -> bool
     values.len() as u64 <= NEED_LIMIT
 }
 
-fn needs_in(alloc: Global, value: &Value) -> Result<Needs, ManifestFault>
+fn needs_in(alloc: Global, value: &Value) -> Result<Needs, ManifestError>
     ensures { IsRead result (needs_of_tree (view value.now)) }
 {
     let Some(list) = value.as_array() else {
-        return Err(ManifestFault::InvalidManifest);
+        return Err(ManifestError::InvalidManifest);
     };
     let values = list.as_slice();
     if !are_few(values) {
-        return Err(ManifestFault::InvalidManifest);
+        return Err(ManifestError::InvalidManifest);
     }
     let items = all_needs(alloc, values)?;
     Ok(Needs::of(items))
 }
 
-fn needs_at(alloc: Global, value: &Value, key: &str) -> Result<Needs, ManifestFault>
+fn needs_at(alloc: Global, value: &Value, key: &str) -> Result<Needs, ManifestError>
     ensures { IsRead result (field key.now needs_of_tree (view value.now)) }
 {
     match value.get(key) {
         Some(inner) => needs_in(alloc, inner),
-        None => Err(ManifestFault::InvalidManifest),
+        None => Err(ManifestError::InvalidManifest),
     }
 }
 
-fn manifest_in(alloc: Global, value: &Value) -> Result<Manifest, ManifestFault>
+fn manifest_in(alloc: Global, value: &Value) -> Result<Manifest, ManifestError>
     ensures { IsRead result (manifest_of_tree (view value.now)) }
 {
     if !has_count(value, 5) {
-        return Err(ManifestFault::InvalidManifest);
+        return Err(ManifestError::InvalidManifest);
     }
     let Some(action) = action_at(value, "action") else {
-        return Err(ManifestFault::InvalidManifest);
+        return Err(ManifestError::InvalidManifest);
     };
     let Some(name) = name_at(value, "name") else {
-        return Err(ManifestFault::InvalidManifest);
+        return Err(ManifestError::InvalidManifest);
     };
     let Some(sha256) = digest_at(value, "sha256") else {
-        return Err(ManifestFault::InvalidManifest);
+        return Err(ManifestError::InvalidManifest);
     };
     let version = version_at(alloc, value, "version")?;
     let needs = needs_at(alloc, value, "needs")?;
@@ -209,12 +209,12 @@ fn manifest_in(alloc: Global, value: &Value) -> Result<Manifest, ManifestFault>
 }
 
 /// The manifest of a text, if it is one: JSON (RFC 8259), an object of exactly five keys.
-pub fn read_manifest(alloc: Global, bytes: &[u8]) -> Result<Manifest, ManifestFault>
+pub fn read_manifest(alloc: Global, bytes: &[u8]) -> Result<Manifest, ManifestError>
     ensures { IsRead result (manifest_of bytes.now) }
 {
     match Value::from_slice(alloc, bytes) {
         Ok(value) => manifest_in(alloc, &value),
-        Err(e) if e.is_memory() => Err(ManifestFault::OutOfMemory),
-        Err(_) => Err(ManifestFault::InvalidManifest),
+        Err(e) if e.is_memory() => Err(ManifestError::OutOfMemory),
+        Err(_) => Err(ManifestError::InvalidManifest),
     }
 }

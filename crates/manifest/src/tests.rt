@@ -1,5 +1,5 @@
 //! The canonical text, texts that are no manifest, and texts that say one in other ways.
-use crate::{ManifestFault, print_manifest, read_manifest};
+use crate::{ManifestError, print_manifest, read_manifest};
 use std::alloc::Global;
 use std::test::Fail;
 use ucm_base::{Action, ClusterName, Manifest, Needs, VersionText};
@@ -92,14 +92,14 @@ fn texts_that_are_no_manifest_are_refused(rt: HostRuntime) -> Result<(), Fail> {
         let text = changed(alloc, piece, by)?;
         let read = read_manifest(alloc, text.as_bytes());
         assert!(rt;
-            matches!(read, Err(ManifestFault::InvalidManifest)),
+            matches!(read, Err(ManifestError::InvalidManifest)),
             "at {by}"
         );
     }
     let many = with_needs(alloc, 17)?;
     for text in [many.as_bytes(), b"", b"\"install\"", b"\xff"] {
         let read = read_manifest(alloc, text);
-        assert!(rt; matches!(read, Err(ManifestFault::InvalidManifest)));
+        assert!(rt; matches!(read, Err(ManifestError::InvalidManifest)));
     }
     Ok(())
 }

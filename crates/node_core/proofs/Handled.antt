@@ -1,7 +1,7 @@
 -- What a unit of a package leaves of a sound node.
 use Rattle.node_core.proofs.Names.{AllByRecursion, Areas, BeingProcessed, Bool, Bytes, Err, Extent, Holding, IfSome, IsCopiedIn}
 use Rattle.node_core.proofs.Names.{IsPackageReady, IsPartCopied, IsPartReady, IsPlaced, IsRead, IsSomeAnd, IsSound, IsUnit, IsUnitReady}
-use Rattle.node_core.proofs.Names.{IsWholeFromTransferred, List, Manifest, NodeState, None, Ok, Option, Package, PackageFault, Part}
+use Rattle.node_core.proofs.Names.{IsWholeFromTransferred, List, Manifest, NodeState, None, Ok, Option, Package, PackageError, Part}
 use Rattle.node_core.proofs.Names.{Prepared, Processing, Result, SessionOf, Some, State, StoredTransfer, Transfer, all_units, ap, arith}
 use Rattle.node_core.proofs.Names.{block_limit, content_of, drop, each-both, each-unmap, eq-eqb, found-has, goes_to, if◌then◌else◌}
 use Rattle.node_core.proofs.Names.{is-processing, is_in, length, length-drop, length-take, ltb-true, map, nat_lt, nat_tests, node_of}
@@ -47,7 +47,7 @@ one-unit part = sum_by-cons (λ (q : Part Bytes). units_of (length q.payload)) p
 pub stored-one : (part : Part ℕ) → stored_units (part ∷ []) ≡ units_of part.payload
 stored-one part = sum_by-cons (λ (q : Part ℕ). units_of q.payload) part [] ∙ omega arith
 
-unless-payload : (f : Option PackageFault) (m : Option Manifest) (y : Bytes) (p : Package) → unless f m y ≡ Ok p → y ≡ p.payload
+unless-payload : (f : Option PackageError) (m : Option Manifest) (y : Bytes) (p : Package) → unless f m y ≡ Ok p → y ≡ p.payload
 unless-payload f m y p e = grind arith
 
 -- a package's payload lies in its bytes
@@ -68,7 +68,7 @@ in-hand v x id sound = go (stored_of v.state.transfers x.owner id) refl
     sound.fit.consistent.processing.unfinished)
   where
     read : (u : StoredTransfer) → stored_of v.state.transfers x.owner id ≡ Some u → u.header.phase ≡ BeingProcessed
-        → x.units_done < all_units (transfer_meaning package_reading v.areas u).parts → (r : Result Package PackageFault)
+        → x.units_done < all_units (transfer_meaning package_reading v.areas u).parts → (r : Result Package PackageError)
         → reading (bytes_of v.areas u) ≡ r → (transfer_meaning package_reading v.areas u).parts ≡ parts_read (verdict_of r)
         → 0 < length (transfer_meaning package_reading v.areas u).parts → InHand v x id
     read u e phase left (Ok p) q parts some = record {

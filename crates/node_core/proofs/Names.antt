@@ -30,7 +30,7 @@ pub use Rattle.node_laws.proofs.Sessions.{free-of}
 pub use Rattle.node_laws.specs.Fit.{IsFit, IsRead, IsReading}
 pub use Rattle.package_reader.specs.Fields.{number_at, payload_in, payload_place, text_in}
 pub use Rattle.package_reader.specs.Reading.{content_faults, field_faults, first_fault, is_payload_of, unless}
-pub use Rattle.package_reader.specs.declared.fault.PackageFault.{PackageFault}
+pub use Rattle.package_reader.specs.declared.fault.PackageError.{PackageError}
 pub use Rattle.package_reader.specs.declared.package.Package.{Package}
 pub use Rattle.pm_types.specs.Clusters.{all_units, brought, changed_as, changed_by, cluster_at, cluster_of, has_cluster, planned, stored_units, units_of}
 pub use Rattle.pm_types.specs.Clusters.{unmet_among, with_cluster}

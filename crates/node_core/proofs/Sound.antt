@@ -1,6 +1,6 @@
 -- A sound node has a table, and each step leaves it sound.
 use Rattle.node_core.proofs.Names.{Bytes, Call, CallNo, Holding, IsBounded, IsFit, IsReading, IsSound, IsTable, IsTrue, List, NodeState}
-use Rattle.node_core.proofs.Names.{None, Ok, Option, Package, PackageFault, Part, Reply, Result, SessionMark, Transfer, Verdict}
+use Rattle.node_core.proofs.Names.{None, Ok, Option, Package, PackageError, Part, Reply, Result, SessionMark, Transfer, Verdict}
 use Rattle.node_core.proofs.Names.{after_call, all_differ, ap, arith, both_true, client_limit, cluster_of, each-both, each-imp}
 use Rattle.node_core.proofs.Names.{each-unmap, ids-mean, ids_of, keeps-fit, length, length-map, map, mark_of, nat_tests, node_of, not}
 use Rattle.node_core.proofs.Names.{numbers_rise, of_client, option_map, package_limit, package_reading, refl, repeat_of, reply_by}
@@ -17,7 +17,7 @@ use Rattle.node_core.proofs.Stored.{rise, ids}
 pub reading-is : IsReading package_reading
 reading-is = record { parts_of = λ bytes parts e. of (reading bytes) parts e }
   where
-    of : (r : Result Package PackageFault) (parts : List (Part Bytes)) → verdict_of r ≡ Ok parts
+    of : (r : Result Package PackageError) (parts : List (Part Bytes)) → verdict_of r ≡ Ok parts
         → (0 < length parts) × IsTrue (all_differ (map cluster_of parts))
     of r parts e = grind arith
 

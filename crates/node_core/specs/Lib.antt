@@ -3,6 +3,6 @@ pub mod Prepared
 pub mod Places
 pub mod Sessions
 pub mod Core
-pub mod Holds
+pub mod Errors
 pub mod Units
 pub mod Format

@@ -4,19 +4,19 @@ use Rattle.pm_types.specs.declared.replies.Refusal.{Refusal}
 use Rattle.pm_types.specs.declared.replies.Refusal.TheVariants.{PackageInconsistent, InvalidManifest}
 use Rattle.pm_types.specs.Histories.{Reading}
 use Rattle.pm_types.specs.Transfers.{Verdict}
-use Rattle.package_reader.specs.declared.fault.PackageFault.{PackageFault}
-use Rattle.package_reader.specs.declared.fault.PackageFault.TheVariants.{PackageInconsistent as Inconsistent, InvalidManifest as NoManifest, OutOfMemory}
+use Rattle.package_reader.specs.declared.fault.PackageError.{PackageError}
+use Rattle.package_reader.specs.declared.fault.PackageError.TheVariants.{PackageInconsistent as Inconsistent, InvalidManifest as NoManifest, OutOfMemory}
 use Rattle.package_reader.specs.declared.package.Package.{Package}
 use Rattle.package_reader.specs.Reading.{reading}
 
 -- what the node answers where the bytes are no package
-abbrev pub refusal_of : PackageFault → Refusal
+abbrev pub refusal_of : PackageError → Refusal
 refusal_of (Inconsistent place) = PackageInconsistent place
 refusal_of NoManifest = InvalidManifest
 refusal_of OutOfMemory = InvalidManifest
 
 -- a package has one part
-abbrev pub verdict_of : Result Package PackageFault → Verdict
+abbrev pub verdict_of : Result Package PackageError → Verdict
 verdict_of (Ok p) = Ok (record { manifest = p.manifest; payload = p.payload } ∷ [])
 verdict_of (Err fault) = Err (refusal_of fault)
 

@@ -10,7 +10,7 @@ ghost use Rattle.node_core.specs.Core.{IsKept, IsSound};
 ghost use Rattle.node_core.specs.Units.{IsNextUnit, IsReservedWork, change_due, payload_start};
 
 use crate::held::Held;
-use crate::node::Hold;
+use crate::node::ReserveError;
 use crate::prepared::Prepared;
 use pm_types::{Change, Contents, Extent, Part};
 use std::alloc::{AllocError, Global};
@@ -32,12 +32,12 @@ pub(crate) struct NextUnit {
 
 impl<S: Staging> Held<S> {
     /// Copies the next unit's bytes behind the done ones, and makes ready the change that the last unit plans.
-    pub(crate) fn reserve_unit(&mut self, alloc: Global) -> Result<(), Hold>
+    pub(crate) fn reserve_unit(&mut self, alloc: Global) -> Result<(), ReserveError>
         requires status { self.old.state.status ≡ Processing }
         requires sound { IsSound self.old }
         ensures kept { IsKept self.old self.new }
         ensures ready { OnOk result (IsReservedWork self.new) }
-        ensures cause { IsErrOf result Hold.StagingFailed
+        ensures cause { IsErrOf result ReserveError.StagingFailed
             → HasRisen self.old.faults self.new.faults }
     {
         let Some(next) = self.next_unit(alloc)? else {
@@ -93,7 +93,7 @@ impl<S: Staging> Held<S> {
     }
 
     /// Copies so many bytes of a slot's payload to the same place of a side.
-    fn copy(&mut self, slot: u8, area: Area, at: u64, len: u64) -> Result<(), Hold>
+    fn copy(&mut self, slot: u8, area: Area, at: u64, len: u64) -> Result<(), ReserveError>
         requires slot { IsArea (Transfer slot) }
         requires area { IsArea area }
         requires head { 8 ≤ length (content_of (Transfer slot) self.old.areas) }
@@ -110,7 +110,7 @@ impl<S: Staging> Held<S> {
             (payload_start (content_of (Transfer slot) self.old.areas) + at + len))
             (content_of area self.old.areas)) self.old.areas) }
         ensures faults { self.old.faults ≤ self.new.faults }
-        ensures cause { IsErrOf result Hold.StagingFailed
+        ensures cause { IsErrOf result ReserveError.StagingFailed
             → HasRisen self.old.faults self.new.faults }
     {
         let from = Area::Transfer { slot };

@@ -12,10 +12,10 @@ ghost use Rattle.node_core.specs.Core.{IsSound, holding};
 ghost use Rattle.node_core.specs.Format.{AreInstalled, in_order, named_before, placed};
 ghost use Rattle.node_core.specs.Packages.{package_reading};
 
-use crate::node::Hold;
+use crate::node::ReserveError;
 use pm_types::{Cluster, Clusters, Extent, State};
 use std::alloc::{AllocError, Global};
-use transfer_blocks::{Area, Staging, StagingFault};
+use transfer_blocks::{Area, Staging, StagingError};
 use ucm_base::{Block, ClusterName};
 
 /// A cluster that a node begins with, and its bytes.
@@ -27,7 +27,7 @@ pub fn format_areas<S: Staging>(
     alloc: Global,
     staging: &mut S,
     installed: Vec<Installed>,
-) -> Result<State, Hold>
+) -> Result<State, ReserveError>
     requires empty { S.areas staging.old ≡ no_contents }
     requires differ { IsTrue (all_differ (map (λ c. c.name) installed.items)) }
     requires few { length installed.items ≤ cluster_limit }
@@ -37,7 +37,7 @@ pub fn format_areas<S: Staging>(
     ensures sound { IfOk result (λ s.
         IsSound (holding (S.areas staging.new) (S.fault_count staging.new) s)) }
     ensures entries { IfOk result (λ s. s.entries ≡ 0) }
-    ensures cause { IsErrOf result Hold.StagingFailed
+    ensures cause { IsErrOf result ReserveError.StagingFailed
         → HasRisen (S.fault_count staging.old) (S.fault_count staging.new) }
     ensures faults { S.fault_count staging.old ≤ S.fault_count staging.new }
 {
@@ -76,13 +76,13 @@ fn install<S: Staging>(
     alloc: Global,
     staging: &mut S,
     clusters: Vec<Installed>,
-) -> Result<Clusters, Hold>
+) -> Result<Clusters, ReserveError>
     requires empty { S.areas staging.old ≡ no_contents }
     requires few { length clusters.items ≤ cluster_limit }
     requires short { AllByRecursion (λ c. length c.content ≤ package_limit) clusters.items }
     ensures installed { IfOk result (λ running.
         AreInstalled (S.areas staging.new) running clusters.items) }
-    ensures cause { IsErrOf result Hold.StagingFailed
+    ensures cause { IsErrOf result ReserveError.StagingFailed
         → HasRisen (S.fault_count staging.old) (S.fault_count staging.new) }
     ensures faults { S.fault_count staging.old ≤ S.fault_count staging.new }
 {
@@ -96,13 +96,13 @@ fn install<S: Staging>(
 }
 
 /// Puts a cluster's bytes to the first side of a place where nothing lies.
-fn put<S: Staging>(staging: &mut S, place: u8, bytes: &[u8]) -> Result<(), StagingFault>
+fn put<S: Staging>(staging: &mut S, place: u8, bytes: &[u8]) -> Result<(), StagingError>
     requires place { place < cluster_limit }
     requires empty { content_of (Side place 0) (S.areas staging.old) ≡ [] }
     requires short { length bytes.now ≤ package_limit }
     ensures put { OnOk result
         (S.areas staging.new ≡ with_content (Side place 0) bytes.now (S.areas staging.old)) }
-    ensures cause { IsErrOf result StagingFault.Failed
+    ensures cause { IsErrOf result StagingError.Failed
         → HasRisen (S.fault_count staging.old) (S.fault_count staging.new) }
     ensures faults { S.fault_count staging.old ≤ S.fault_count staging.new }
 {

@@ -21,5 +21,5 @@ mod transfers;
 mod units;
 
 pub use format::{Installed, format_areas};
-pub use node::{Core, Hold};
+pub use node::{Core, ReserveError};
 pub use prepared::Prepared;

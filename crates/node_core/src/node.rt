@@ -12,38 +12,38 @@ use crate::prepared::Prepared;
 use pm_types::{Call, Reached, State, Status, Worked};
 use std::alloc::{AllocError, Global};
 use std::marker::Model;
-use transfer_blocks::{Staging, StagingFault, Transfers};
+use transfer_blocks::{Staging, StagingError, Transfers};
 use ucm_base::{CallNo, ClientId, ClusterName};
 
 /// Why nothing was reserved.
 #[derive(Clone, Copy, Debug, PartialEq, Eq)]
-pub enum Hold {
+pub enum ReserveError {
     /// What keeps the areas failed; its count of faults rose in this call.
     StagingFailed,
     OutOfMemory,
 }
 
-impl From<AllocError> for Hold {
+impl From<AllocError> for ReserveError {
     ghost use Rattle.std.specs.Prelude.{◌≡◌};
-    ghost use Rattle.node_core.specs.declared.node.Hold.TheVariants.{OutOfMemory};
+    ghost use Rattle.node_core.specs.declared.node.ReserveError.TheVariants.{OutOfMemory};
 
     ghost from_gives = { λ _ h. h ≡ OutOfMemory };
 
-    fn from(_refused: AllocError) -> Hold {
-        Hold::OutOfMemory
+    fn from(_refused: AllocError) -> ReserveError {
+        ReserveError::OutOfMemory
     }
 }
 
-impl From<StagingFault> for Hold {
+impl From<StagingError> for ReserveError {
     ghost use Rattle.std.specs.Prelude.{◌≡◌};
-    ghost use Rattle.node_core.specs.Holds.{hold_of};
+    ghost use Rattle.node_core.specs.Errors.{error_of};
 
-    ghost from_gives = { λ fault h. h ≡ hold_of fault };
+    ghost from_gives = { λ fault h. h ≡ error_of fault };
 
-    fn from(fault: StagingFault) -> Hold {
+    fn from(fault: StagingError) -> ReserveError {
         match fault {
-            StagingFault::Failed => Hold::StagingFailed,
-            StagingFault::OutOfMemory => Hold::OutOfMemory,
+            StagingError::Failed => ReserveError::StagingFailed,
+            StagingError::OutOfMemory => ReserveError::OutOfMemory,
         }
     }
 }
@@ -105,11 +105,11 @@ impl<S: Staging> Core<S> {
         client: ClientId,
         no: CallNo,
         call: &Call,
-    ) -> Result<(), Hold>
+    ) -> Result<(), ReserveError>
         ensures state { self.new.state ≡ self.old.state }
         ensures node { node_of self.new ≡ node_of self.old }
         ensures reserved { OnOk result (IsReserved self.new client no call.now) }
-        ensures cause { IsErrOf result Hold.StagingFailed
+        ensures cause { IsErrOf result ReserveError.StagingFailed
             → HasRisen self.old.faults self.new.faults }
         ensures faults { self.old.faults ≤ self.new.faults }
     {
@@ -144,11 +144,11 @@ impl<S: Staging> Core<S> {
     }
 
     /// Takes all memory that the next unit of work needs, and copies what it brings of a package. The node stays as it is.
-    pub fn reserve_work(&mut self, alloc: Global) -> Result<(), Hold>
+    pub fn reserve_work(&mut self, alloc: Global) -> Result<(), ReserveError>
         ensures state { self.new.state ≡ self.old.state }
         ensures node { node_of self.new ≡ node_of self.old }
         ensures reserved { OnOk result (IsReservedWork self.new) }
-        ensures cause { IsErrOf result Hold.StagingFailed
+        ensures cause { IsErrOf result ReserveError.StagingFailed
             → HasRisen self.old.faults self.new.faults }
         ensures faults { self.old.faults ≤ self.new.faults }
     {

@@ -9,7 +9,7 @@ ghost use Rattle.node_core.specs.Core.{IsKept, IsReady, IsSound, node_of};
 ghost use Rattle.node_core.specs.Sessions.{missing_dependencies, needing_of, opened};
 
 use crate::held::Held;
-use crate::node::Hold;
+use crate::node::ReserveError;
 use crate::plan::planned;
 use crate::prepared::Prepared;
 use dependency_check::missing;
@@ -26,11 +26,11 @@ impl<S: Staging> Held<S> {
         client: ClientId,
         id: u32,
         tag: u32,
-    ) -> Result<(), Hold>
+    ) -> Result<(), ReserveError>
         requires sound { IsSound self.old }
         ensures kept { IsKept self.old self.new }
         ensures ready { OnOk result (IsReady self.new client (ProcessSwPackage id tag)) }
-        ensures cause { IsErrOf result Hold.StagingFailed
+        ensures cause { IsErrOf result ReserveError.StagingFailed
             → HasRisen self.old.faults self.new.faults }
     {
         if self.session.is_some() || self.processing(client, id, tag).is_err() {
@@ -41,11 +41,11 @@ impl<S: Staging> Held<S> {
     }
 
     /// Makes what refuses an activation ready, where the session and the table let it pass.
-    pub(crate) fn look(&mut self, alloc: Global, client: ClientId) -> Result<(), Hold>
+    pub(crate) fn look(&mut self, alloc: Global, client: ClientId) -> Result<(), ReserveError>
         requires sound { IsSound self.old }
         ensures kept { IsKept self.old self.new }
         ensures ready { OnOk result (IsReady self.new client Activate) }
-        ensures cause { IsErrOf result Hold.StagingFailed
+        ensures cause { IsErrOf result ReserveError.StagingFailed
             → HasRisen self.old.faults self.new.faults }
     {
         if self.goal(client, &Call::Activate).is_err() {

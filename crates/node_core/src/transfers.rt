@@ -7,9 +7,9 @@ ghost use Rattle.node_core.specs.Packages.{package_reading};
 ghost use Rattle.node_core.specs.Prepared.{IsVerdict};
 
 use crate::held::Held;
-use crate::node::Hold;
+use crate::node::ReserveError;
 use crate::prepared::Prepared;
-use package_reader::{PackageFault, read_contents};
+use package_reader::{PackageError, read_contents};
 use pm_types::{ExitVerdict, Part, Refusal, Reply};
 use std::alloc::{AllocError, Global};
 use transfer_blocks::{Area, Staging};
@@ -64,12 +64,12 @@ impl<S: Staging> Held<S> {
         id: u32,
         counter: u64,
         block: &[u8],
-    ) -> Result<(), Hold>
+    ) -> Result<(), ReserveError>
         requires sound { IsSound self.old }
         ensures kept { IsKept self.old self.new }
         ensures ready { OnOk result
             (IsReady self.new client (TransferData id counter block.now)) }
-        ensures cause { IsErrOf result Hold.StagingFailed
+        ensures cause { IsErrOf result ReserveError.StagingFailed
             → HasRisen self.old.faults self.new.faults }
     {
         let length = block.len() as u64;
@@ -82,11 +82,16 @@ impl<S: Staging> Held<S> {
     }
 
     /// Reads the bytes of a transfer that can be closed, and keeps what they are.
-    pub(crate) fn read(&mut self, alloc: Global, client: ClientId, id: u32) -> Result<(), Hold>
+    pub(crate) fn read(
+        &mut self,
+        alloc: Global,
+        client: ClientId,
+        id: u32,
+    ) -> Result<(), ReserveError>
         requires sound { IsSound self.old }
         ensures kept { IsKept self.old self.new }
         ensures ready { OnOk result (IsReady self.new client (TransferExit id)) }
-        ensures cause { IsErrOf result Hold.StagingFailed
+        ensures cause { IsErrOf result ReserveError.StagingFailed
             → HasRisen self.old.faults self.new.faults }
     {
         let Some(found) = self.transfers.ending(client, id) else {
@@ -108,10 +113,10 @@ fn verdict(alloc: Global, bytes: &[u8]) -> Result<ExitVerdict, AllocError>
             manifest: package.manifest,
             payload: package.payload.len() as u32,
         })),
-        Err(PackageFault::PackageInconsistent { place }) => {
+        Err(PackageError::PackageInconsistent { place }) => {
             Ok(ExitVerdict::Bad(Refusal::PackageInconsistent { place }))
         }
-        Err(PackageFault::InvalidManifest) => Ok(ExitVerdict::Bad(Refusal::InvalidManifest)),
-        Err(PackageFault::OutOfMemory) => Err(AllocError),
+        Err(PackageError::InvalidManifest) => Ok(ExitVerdict::Bad(Refusal::InvalidManifest)),
+        Err(PackageError::OutOfMemory) => Err(AllocError),
     }
 }

@@ -14,7 +14,7 @@ ghost use Rattle.node_core.specs.Places.{IsCopied};
 ghost use Rattle.node_core.specs.Units.{IsReservedWork, IsUnit, after_work, answer_to};
 
 use crate::held::Held;
-use crate::node::Hold;
+use crate::node::ReserveError;
 use crate::plan::planned;
 use crate::prepared::Prepared;
 use pm_types::{EndMark, Happened, Outcome, Session, Status, Worked};
@@ -24,11 +24,11 @@ use ucm_base::ClusterName;
 
 impl<S: Staging> Held<S> {
     /// Makes ready what the next unit needs.
-    pub(crate) fn reserve_work(&mut self, alloc: Global) -> Result<(), Hold>
+    pub(crate) fn reserve_work(&mut self, alloc: Global) -> Result<(), ReserveError>
         requires sound { IsSound self.old }
         ensures kept { IsKept self.old self.new }
         ensures ready { OnOk result (IsReservedWork self.new) }
-        ensures cause { IsErrOf result Hold.StagingFailed
+        ensures cause { IsErrOf result ReserveError.StagingFailed
             → HasRisen self.old.faults self.new.faults }
     {
         match self.status {

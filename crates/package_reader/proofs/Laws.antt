@@ -14,17 +14,17 @@ use Rattle.manifest.specs.Form.{manifest_of}
 use Rattle.ucm_base.specs.declared.parts.Action.{Action}
 use Rattle.ucm_base.specs.declared.parts.Action.TheVariants.{Install, Update, Remove}
 use Rattle.ucm_base.specs.declared.parts.Manifest.{Manifest}
-use Rattle.package_reader.specs.declared.fault.PackageFault.{PackageFault}
+use Rattle.package_reader.specs.declared.fault.PackageError.{PackageError}
 use Rattle.package_reader.specs.declared.package.Package.{Package}
 use Rattle.package_reader.specs.Fields.{mark, manifest_limit, number_at, payload_place, digest_place, text_in, payload_in}
 use Rattle.package_reader.specs.Spelling.{sealed, unsealed, IsPackage, AreBytes}
 use Rattle.package_reader.specs.Reading.{is_remove, is_payload_of, faults, first_fault, fault, unless, reading}
 use Rattle.package_reader.proofs.Blocks.{spelled_block, block_is_spelled, number_fits}
 
-abbrev NoneHolds : List (Bool × PackageFault) → Type 0
+abbrev NoneHolds : List (Bool × PackageError) → Type 0
 NoneHolds rows = AllByRecursion (λ row. row.0 ≡ false) rows
 
-none_holds : (rows : List (Bool × PackageFault)) → first_fault rows ≡ None → NoneHolds rows
+none_holds : (rows : List (Bool × PackageError)) → first_fault rows ≡ None → NoneHolds rows
 none_holds [] e = tt
 none_holds (row ∷ rows) e =
     elim (cases_Bool row.0) [
@@ -32,11 +32,11 @@ none_holds (row ∷ rows) e =
       | inr t ↦ (t, none_holds rows (rw t at e))
     ]
 
-no_fault : (rows : List (Bool × PackageFault)) → NoneHolds rows → first_fault rows ≡ None
+no_fault : (rows : List (Bool × PackageError)) → NoneHolds rows → first_fault rows ≡ None
 no_fault [] h = refl
 no_fault (row ∷ rows) h = rw h.0 (no_fault rows h.1)
 
-unless_ok : (f : Option PackageFault) (m : Option Manifest) (y : List ℕ) (p : Package) → unless f m y ≡ Ok p → (f ≡ None) × (m ≡ Some p.manifest) × (y ≡ p.payload)
+unless_ok : (f : Option PackageError) (m : Option Manifest) (y : List ℕ) (p : Package) → unless f m y ≡ Ok p → (f ≡ None) × (m ≡ Some p.manifest) × (y ≡ p.payload)
 unless_ok (Some f) m y p e = absurd cc
 unless_ok None (Some m) y p e =
     let same : record { manifest = m; payload = y } ≡ p = cc in
@@ -167,33 +167,33 @@ pub read_is_faultless : (bytes : List ℕ) (p : Package) → reading bytes ≡ O
 unfolding fault reading
 read_is_faultless bytes p e = (unless_ok (fault bytes) (manifest_of (text_in bytes)) (payload_in bytes) p e).0
 
-pub fault_is_read : (bytes : List ℕ) (f : PackageFault) → fault bytes ≡ Some f → reading bytes ≡ Err f
+pub fault_is_read : (bytes : List ℕ) (f : PackageError) → fault bytes ≡ Some f → reading bytes ≡ Err f
 unfolding reading
-fault_is_read bytes f e = ap (λ (o : Option PackageFault). unless o (manifest_of (text_in bytes)) (payload_in bytes)) e
+fault_is_read bytes f e = ap (λ (o : Option PackageError). unless o (manifest_of (text_in bytes)) (payload_in bytes)) e
 
-fault_cases : (o : Option PackageFault) → (o ≡ None) ⊎ ((f : PackageFault) × (o ≡ Some f))
+fault_cases : (o : Option PackageError) → (o ≡ None) ⊎ ((f : PackageError) × (o ≡ Some f))
 fault_cases None = inl refl
 fault_cases (Some f) = inr (f, refl)
 
 -- the answers of a reading are of two kinds, and each holds one value
-abbrev pub ok : Package → Result Package PackageFault
+abbrev pub ok : Package → Result Package PackageError
 ok p = Ok p
 
-abbrev pub err : PackageFault → Result Package PackageFault
+abbrev pub err : PackageError → Result Package PackageError
 err f = Err f
 
 pub same_ok : (p q : Package) → ok p ≡ ok q → p ≡ q
 same_ok p q e = cc
 
-same_err : (f g : PackageFault) → err f ≡ err g → f ≡ g
+same_err : (f g : PackageError) → err f ≡ err g → f ≡ g
 same_err f g e = cc
 
-pub never_both : (p : Package) (f : PackageFault) → ok p ≡ err f → ⊥
+pub never_both : (p : Package) (f : PackageError) → ok p ≡ err f → ⊥
 never_both p f e = cc
 
-pub refusal_is_fault : (bytes : List ℕ) (f : PackageFault) → reading bytes ≡ Err f → fault bytes ≡ Some f
+pub refusal_is_fault : (bytes : List ℕ) (f : PackageError) → reading bytes ≡ Err f → fault bytes ≡ Some f
 refusal_is_fault bytes f e =
     elim (fault_cases (fault bytes)) [
       | inl none ↦ absurd (let p = faultless_is_read bytes none in never_both p.0 f (sym p.1 ∙ e))
-      | inr g ↦ g.1 ∙ ap (λ (x : PackageFault). Some x) (same_err g.0 f (sym (fault_is_read bytes g.0 g.1) ∙ e))
+      | inr g ↦ g.1 ∙ ap (λ (x : PackageError). Some x) (same_err g.0 f (sym (fault_is_read bytes g.0 g.1) ∙ e))
     ]

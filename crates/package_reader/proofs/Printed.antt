@@ -9,8 +9,8 @@ use Rattle.manifest.specs.Form.{manifest_of}
 use Rattle.manifest.specs.Text.{manifest_text}
 use Rattle.ucm_base.specs.Limits.{package_limit}
 use Rattle.package_reader.specs.declared.package.Package.{Package}
-use Rattle.package_reader.specs.declared.print.PrintFault.{PrintFault}
-use Rattle.package_reader.specs.declared.print.PrintFault.TheVariants.{TooLarge, WrongDigest}
+use Rattle.package_reader.specs.declared.print.PrintError.{PrintError}
+use Rattle.package_reader.specs.declared.print.PrintError.TheVariants.{TooLarge, WrongDigest}
 use Rattle.package_reader.specs.Fields.{mark, manifest_limit}
 use Rattle.package_reader.specs.Spelling.{sealed, unsealed, IsPackage}
 use Rattle.package_reader.specs.Reading.{is_payload_of}
@@ -22,7 +22,7 @@ whole_len text payload =
     let body = unsealed text payload in
     omega (arith, length-append body (sha256 body), length-sha256 body, length-append (mark ++ bytes_field text) (bytes_field payload))
 
-chosen : Bool → Bool → List ℕ → Result (List ℕ) PrintFault
+chosen : Bool → Bool → List ℕ → Result (List ℕ) PrintError
 chosen large belongs bytes = if large then Err TooLarge else if not belongs then Err WrongDigest else Ok bytes
 
 passes : List ℕ → List ℕ → Bool

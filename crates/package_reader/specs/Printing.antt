@@ -6,8 +6,8 @@ use Rattle.package_reader.specs.Fields.{manifest_limit}
 use Rattle.package_reader.specs.Reading.{is_payload_of}
 use Rattle.package_reader.specs.Spelling.{sealed, unsealed}
 use Rattle.package_reader.specs.declared.package.Package.{Package}
-use Rattle.package_reader.specs.declared.print.PrintFault.{PrintFault}
-use Rattle.package_reader.specs.declared.print.PrintFault.TheVariants.{TooLarge, WrongDigest}
+use Rattle.package_reader.specs.declared.print.PrintError.{PrintError}
+use Rattle.package_reader.specs.declared.print.PrintError.TheVariants.{TooLarge, WrongDigest}
 
 -- the bytes of a package
 unfoldable pub package_text : Package → List ℕ
@@ -18,7 +18,7 @@ unfoldable pub is_too_large : Package → Bool
 is_too_large p = nat_lt manifest_limit (length (manifest_text p.manifest)) || nat_lt package_limit (length (package_text p))
 
 -- the first fault, or the bytes
-unfoldable pub printing : Package → Result (List ℕ) PrintFault
+unfoldable pub printing : Package → Result (List ℕ) PrintError
 printing p = if is_too_large p then Err TooLarge
     else if not (is_payload_of p.manifest p.payload) then Err WrongDigest
     else Ok (package_text p)

@@ -3,7 +3,7 @@ ghost use Rattle.std.specs.Prelude.{◌≡◌, ◌+◌, ◌<◌, ◌≤◌, ◌^
 ghost use Rattle.package_reader.specs.Fields.{number_at, block_at, text_in, payload_in};
 ghost use Rattle.package_reader.specs.Reading.{text_faults, block_faults, digest_faults, field_faults, first_fault};
 
-use crate::{MANIFEST_LIMIT, PackageFault};
+use crate::{MANIFEST_LIMIT, PackageError};
 use sha2::{Digest, Sha256};
 use wire::take_u32;
 
@@ -19,10 +19,10 @@ pub(crate) struct Fields<'a> {
 }
 
 /// Bytes that don't fit from a place on.
-fn inconsistent(place: usize) -> PackageFault
-    ensures { result ≡ PackageFault.PackageInconsistent place }
+fn inconsistent(place: usize) -> PackageError
+    ensures { result ≡ PackageError.PackageInconsistent place }
 {
-    PackageFault::PackageInconsistent {
+    PackageError::PackageInconsistent {
         place: place as u64,
     }
 }
@@ -54,7 +54,7 @@ fn bytes_at(bytes: &[u8], place: usize, len: usize) -> Option<&[u8]>
 }
 
 /// The manifest's text, behind the mark and its length.
-fn text_of(bytes: &[u8]) -> Result<&[u8], PackageFault>
+fn text_of(bytes: &[u8]) -> Result<&[u8], PackageError>
     ensures text { IfOk result (λ t. t.now ≡ text_in bytes.now) }
     ensures len { IfOk result (λ t. length t.now ≡ number_at bytes.now 4) }
     ensures limit { IfOk result (λ t. length t.now ≤ MANIFEST_LIMIT) }
@@ -77,7 +77,7 @@ fn text_of(bytes: &[u8]) -> Result<&[u8], PackageFault>
 }
 
 /// The bytes behind the length at a place.
-fn block_of(bytes: &[u8], place: usize) -> Result<&[u8], PackageFault>
+fn block_of(bytes: &[u8], place: usize) -> Result<&[u8], PackageError>
     requires { place < 2 ^ 32 }
     ensures block { IfOk result (λ b. b.now ≡ block_at bytes.now place) }
     ensures len { IfOk result (λ b. length b.now ≡ number_at bytes.now place) }
@@ -95,7 +95,7 @@ fn block_of(bytes: &[u8], place: usize) -> Result<&[u8], PackageFault>
 }
 
 /// Refuses bytes that don't end with the digest (FIPS 180-4) of all before a place.
-fn check_digest(bytes: &[u8], place: usize) -> Result<(), PackageFault>
+fn check_digest(bytes: &[u8], place: usize) -> Result<(), PackageError>
     requires { place ≤ length bytes.now }
     ensures ok { OnOk result (first_fault (digest_faults bytes.now place) ≡ None) }
     ensures err { IfErr result (λ e. first_fault (digest_faults bytes.now place) ≡ Some e) }
@@ -112,7 +112,7 @@ fn check_digest(bytes: &[u8], place: usize) -> Result<(), PackageFault>
 }
 
 /// The fields, where each of them is whole and the digest is that of all bytes before it.
-pub(crate) fn fields_of(bytes: &[u8]) -> Result<Fields<'_>, PackageFault>
+pub(crate) fn fields_of(bytes: &[u8]) -> Result<Fields<'_>, PackageError>
     ensures text { IfOk result (λ f. f.text.now ≡ text_in bytes.now) }
     ensures payload { IfOk result (λ f. f.payload.now ≡ payload_in bytes.now) }
     ensures text_len { IfOk result (λ f. length f.text.now ≡ number_at bytes.now 4) }

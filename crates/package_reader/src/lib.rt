@@ -13,9 +13,9 @@ mod print;
 mod read;
 mod unique;
 
-pub use fault::PackageFault;
+pub use fault::PackageError;
 pub use package::{Contents, Package};
-pub use print::{PrintFault, print_package, seal_package};
+pub use print::{PrintError, print_package, seal_package};
 pub use read::{read_contents, read_package};
 pub use unique::a_package_is_one;
 

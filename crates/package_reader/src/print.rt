@@ -16,7 +16,7 @@ use wire::put_bytes;
 
 /// Why a package was not printed.
 #[derive(Clone, Copy, Debug, PartialEq, Eq)]
-pub enum PrintFault {
+pub enum PrintError {
     /// The manifest's text or the whole passes its limit.
     TooLarge,
     /// The manifest hasn't the payload's digest, or a removal has a payload.
@@ -24,14 +24,14 @@ pub enum PrintFault {
     OutOfMemory,
 }
 
-impl From<AllocError> for PrintFault {
+impl From<AllocError> for PrintError {
     ghost use Rattle.std.specs.Prelude.{◌≡◌};
-    ghost use Rattle.package_reader.specs.declared.print.PrintFault.TheVariants.{OutOfMemory};
+    ghost use Rattle.package_reader.specs.declared.print.PrintError.TheVariants.{OutOfMemory};
 
     ghost from_gives = { λ _ e. e ≡ OutOfMemory };
 
-    fn from(_refused: AllocError) -> PrintFault {
-        PrintFault::OutOfMemory
+    fn from(_refused: AllocError) -> PrintError {
+        PrintError::OutOfMemory
     }
 }
 
@@ -68,10 +68,10 @@ pub fn seal_package(alloc: Global, package: &Package) -> Result<Vec<u8>, AllocEr
 
 /// The bytes of a package, which are read as it: at most 1,048,576, with a manifest's text of at most 16,384. The
 /// payload is hashed once, and all bytes before the digest once.
-pub fn print_package(alloc: Global, package: &Package) -> Result<Vec<u8>, PrintFault>
+pub fn print_package(alloc: Global, package: &Package) -> Result<Vec<u8>, PrintError>
     ensures ok { IfOk result (λ b. printing «package».now ≡ Ok b.items) }
     // What isn't want of memory is the first fault.
-    ensures err { IfErr result (λ e. (e ≡ PrintFault.OutOfMemory)
+    ensures err { IfErr result (λ e. (e ≡ PrintError.OutOfMemory)
         ⊎ (printing «package».now ≡ Err e)) }
     ensures spelled { IfOk result (λ b. IsPackage b.items «package».now) }
     ensures back { IfOk result (λ b. reading b.items ≡ Ok «package».now) }
@@ -80,10 +80,10 @@ pub fn print_package(alloc: Global, package: &Package) -> Result<Vec<u8>, PrintF
     let payload = package.payload.as_slice();
     let total = (44 + text.len() + payload.len()) as u64;
     if total > PACKAGE_LIMIT {
-        return Err(PrintFault::TooLarge);
+        return Err(PrintError::TooLarge);
     }
     if !is_payload_of(&package.manifest, payload) {
-        return Err(PrintFault::WrongDigest);
+        return Err(PrintError::WrongDigest);
     }
     let bytes = sealed_bytes(alloc, text.as_slice(), payload)?;
     Ok(bytes)

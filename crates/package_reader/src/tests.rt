@@ -1,7 +1,7 @@
 //! Packages made by hand: what they are read as, and where they are refused.
 use crate::print::sealed_bytes;
 use crate::{
-    Package, PackageFault, PrintFault, print_package, read_contents, read_package, seal_package,
+    Package, PackageError, PrintError, print_package, read_contents, read_package, seal_package,
 };
 use sha2::{Digest, Sha256};
 use std::alloc::Global;
@@ -57,15 +57,15 @@ fn core(alloc: Global, action: Action, payload: &[u8], told: &[u8]) -> Result<Pa
     })
 }
 
-fn fault_of(alloc: Global, bytes: &[u8]) -> Option<PackageFault> {
+fn fault_of(alloc: Global, bytes: &[u8]) -> Option<PackageError> {
     match read_package(alloc, bytes) {
         Ok(_) => None,
         Err(fault) => Some(fault),
     }
 }
 
-fn inconsistent(place: u64) -> Option<PackageFault> {
-    Some(PackageFault::PackageInconsistent { place })
+fn inconsistent(place: u64) -> Option<PackageError> {
+    Some(PackageError::PackageInconsistent { place })
 }
 
 /// How bytes are made.
@@ -123,7 +123,7 @@ fn bytes_of(alloc: Global, made: Made) -> Result<Vec<u8>, Fail> {
 #[test]
 fn faults_have_their_places(rt: HostRuntime) -> Result<(), Fail> {
     let alloc = rt.alloc();
-    let invalid = Some(PackageFault::InvalidManifest);
+    let invalid = Some(PackageError::InvalidManifest);
     for (row, made, fault) in [
         ("another mark", Made::Changed(3, b'2'), inconsistent(0)),
         (
@@ -221,7 +221,7 @@ fn printed(
     action: Action,
     payload: &[u8],
     told: &[u8],
-) -> Result<Result<usize, PrintFault>, Fail> {
+) -> Result<Result<usize, PrintError>, Fail> {
     let package = core(alloc, action, payload, told)?;
     match print_package(alloc, &package) {
         Ok(bytes) => Ok(Ok(bytes.len())),
@@ -240,19 +240,19 @@ fn what_is_not_printed(rt: HostRuntime) -> Result<(), Fail> {
     };
     for (action, payload, told, outcome) in [
         (Action::Install, most, most, Ok(1_048_576)),
-        (Action::Install, more, more, Err(PrintFault::TooLarge)),
-        (Action::Install, more, most, Err(PrintFault::TooLarge)),
+        (Action::Install, more, more, Err(PrintError::TooLarge)),
+        (Action::Install, more, most, Err(PrintError::TooLarge)),
         (
             Action::Install,
             b"abd".as_slice(),
             b"abc".as_slice(),
-            Err(PrintFault::WrongDigest),
+            Err(PrintError::WrongDigest),
         ),
         (
             Action::Remove,
             b"abc".as_slice(),
             b"abc".as_slice(),
-            Err(PrintFault::WrongDigest),
+            Err(PrintError::WrongDigest),
         ),
     ] {
         assert_eq!(rt; printed(alloc, action, payload, told)?, outcome);

@@ -2,7 +2,7 @@
 ghost use Rattle.std.specs.Prelude.{◌≡◌, ◌↔◌, List, ℕ, Some, None, Ok, Err};
 ghost use Rattle.package_reader.specs.Reading.{fault, reading};
 ghost use Rattle.package_reader.specs.Spelling.{AreBytes, IsPackage};
-ghost use Rattle.package_reader.specs.declared.fault.PackageFault.{PackageFault as AnyFault};
+ghost use Rattle.package_reader.specs.declared.fault.PackageError.{PackageError as AnyFault};
 ghost use Rattle.package_reader.specs.declared.package.Package.{Package as AnyPackage};
 
 /// Bytes are the package of at most one manifest and payload, which is what reading gives; where they are of

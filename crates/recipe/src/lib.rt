@@ -14,6 +14,6 @@ mod recipe;
 #[cfg(test)]
 mod tests;
 
-pub use fault::PackFault;
+pub use fault::PackError;
 pub use made::MADE_LIMIT;
 pub use packing::{Kind, pack};

@@ -9,7 +9,7 @@ ghost use Rattle.recipe.specs.Recipes.{added, has_named, printed};
 
 use crate::packages::NamedPackage;
 use package_reader::seal_package;
-use scenario::{Why, WordFault};
+use scenario::{Why, WordError};
 use std::alloc::{AllocError, Global};
 use std::marker::Model;
 use ucm_base::ClusterName;
@@ -78,15 +78,15 @@ fn is_named_above(made: &[Attachment], name: &ClusterName) -> bool
 }
 
 /// The package as bytes, where it is within the limits of a package.
-fn within_limit(alloc: Global, named: &NamedPackage) -> Result<Vec<u8>, WordFault>
+fn within_limit(alloc: Global, named: &NamedPackage) -> Result<Vec<u8>, WordError>
     ensures bytes { IfOk result (λ b. b.items ≡ package_text named.now.contents) }
     ensures within { IfOk result (λ _. is_too_large named.now.contents ≡ false) }
-    ensures refused { IfErr result (λ e. (why : Why) → e ≡ WordFault.Refused why
+    ensures refused { IfErr result (λ e. (why : Why) → e ≡ WordError.Refused why
         → (why ≡ Why.Limit) × (is_too_large named.now.contents ≡ true)) }
 {
     let bytes = seal_package(alloc, &named.contents)?;
     if bytes.len() as u64 > PACKAGE_LIMIT {
-        return Err(WordFault::Refused(Why::Limit));
+        return Err(WordError::Refused(Why::Limit));
     }
     Ok(bytes)
 }
@@ -96,16 +96,16 @@ pub fn attachment_of(
     alloc: Global,
     made: &[Attachment],
     named: &NamedPackage,
-) -> Result<Attachment, WordFault>
+) -> Result<Attachment, WordError>
     ensures printed { IfOk result (λ a. a ≡ printed named.now) }
     ensures added { IfOk result (λ a. added made.now named.now ≡ Ok (made.now ++ a ∷ [])) }
     ensures refused { IsRefusedAs result (added made.now named.now) }
 {
     if is_named_above(made, &named.name) {
-        return Err(WordFault::Refused(Why::Twice));
+        return Err(WordError::Refused(Why::Twice));
     }
     if made.len() as u64 >= MADE_LIMIT {
-        return Err(WordFault::Refused(Why::Limit));
+        return Err(WordError::Refused(Why::Limit));
     }
     let bytes = within_limit(alloc, named)?;
     Ok(Attachment {

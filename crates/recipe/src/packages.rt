@@ -8,7 +8,7 @@ ghost use Rattle.recipe.specs.Packages.{by_words, free_name_in, package_form, pa
 
 use package_reader::Package;
 use scenario::{
-    BlockSource, Why, WordFault, action, first_piece, name, needs, plain_block, version,
+    BlockSource, Why, WordError, action, first_piece, name, needs, plain_block, version,
 };
 use sha2::{Digest, Sha256};
 use std::alloc::{AllocError, Global};
@@ -36,12 +36,12 @@ fn free_name(word: &[u8]) -> Result<ClusterName, Why>
 }
 
 /// Where a payload comes from.
-fn payload(alloc: Global, action: Action, word: &[u8]) -> Result<BlockSource, WordFault>
+fn payload(alloc: Global, action: Action, word: &[u8]) -> Result<BlockSource, WordError>
     ensures { IsRead result (payload_in action word.now) }
 {
     let block = plain_block(alloc, word)?;
     if action == Action::Remove && block.len() != 0 {
-        return Err(WordFault::Refused(Why::Value));
+        return Err(WordError::Refused(Why::Value));
     }
     Ok(block)
 }
@@ -85,12 +85,12 @@ fn read_package(
     alloc: Global,
     words: &PackageWords<'_>,
     needed: &[&[u8]],
-) -> Result<NamedPackage, WordFault>
+) -> Result<NamedPackage, WordError>
     requires { length needed.now ≤ need_limit }
     ensures package { IfOk result (λ p. package_words words.now.name.now words.now.action.now
         words.now.cluster.now words.now.version.now words.now.block.now
         (map (λ w. w.now) needed.now) ≡ Ok p) }
-    ensures refused { IfErr result (λ e. (why : Why) → e ≡ WordFault.Refused why
+    ensures refused { IfErr result (λ e. (why : Why) → e ≡ WordError.Refused why
         → package_words words.now.name.now words.now.action.now words.now.cluster.now
         words.now.version.now words.now.block.now (map (λ w. w.now) needed.now) ≡ Err why) }
 {
@@ -105,15 +105,15 @@ fn read_package(
 }
 
 /// The package of a package line, by its words behind the first.
-fn read_form(alloc: Global, words: &[&[u8]]) -> Result<NamedPackage, WordFault>
+fn read_form(alloc: Global, words: &[&[u8]]) -> Result<NamedPackage, WordError>
     ensures package { IfOk result (λ p. package_form (map (λ w. w.now) words.now) ≡ Ok p) }
-    ensures refused { IfErr result (λ e. (why : Why) → e ≡ WordFault.Refused why
+    ensures refused { IfErr result (λ e. (why : Why) → e ≡ WordError.Refused why
         → package_form (map (λ w. w.now) words.now) ≡ Err why) }
 {
     match words {
         [name, action, cluster, version, block, needed @ ..] => {
             if needed.len() as u64 > NEED_LIMIT {
-                return Err(WordFault::Refused(Why::Form));
+                return Err(WordError::Refused(Why::Form));
             }
             let words = PackageWords {
                 name,
@@ -124,7 +124,7 @@ fn read_form(alloc: Global, words: &[&[u8]]) -> Result<NamedPackage, WordFault>
             };
             read_package(alloc, &words, needed)
         }
-        _ => Err(WordFault::Refused(Why::Form)),
+        _ => Err(WordError::Refused(Why::Form)),
     }
 }
 
@@ -133,11 +133,11 @@ fn read_named(
     alloc: Global,
     first: &[u8],
     words: &[&[u8]],
-) -> Result<Option<NamedPackage>, WordFault>
+) -> Result<Option<NamedPackage>, WordError>
     ensures { IsRead result (package_named first.now (map (λ w. w.now) words.now)) }
 {
     if first == b"step".as_slice() {
-        Err(WordFault::Refused(Why::Later))
+        Err(WordError::Refused(Why::Later))
     } else if first == b"package".as_slice() {
         let package = read_form(alloc, words)?;
         Ok(Some(package))
@@ -147,7 +147,7 @@ fn read_named(
 }
 
 /// The package of these words, if they make one.
-fn read_words(alloc: Global, words: &[&[u8]]) -> Result<Option<NamedPackage>, WordFault>
+fn read_words(alloc: Global, words: &[&[u8]]) -> Result<Option<NamedPackage>, WordError>
     ensures { IsRead result (by_words (map (λ w. w.now) words.now)) }
 {
     match words {
@@ -165,7 +165,7 @@ fn is_plain(line: &[u8]) -> bool
 }
 
 /// The package of a line, if it makes one. A line that isn't a recipe's own takes no memory.
-pub fn read_line(alloc: Global, line: &[u8]) -> Result<Option<NamedPackage>, WordFault>
+pub fn read_line(alloc: Global, line: &[u8]) -> Result<Option<NamedPackage>, WordError>
     ensures { IsRead result (package_in line.now) }
 {
     if is_plain(line) {

@@ -5,7 +5,7 @@ ghost use Rattle.scenario.specs.declared.why.Why.{Why};
 ghost use Rattle.recipe.specs.Lines.{lines_in};
 ghost use Rattle.recipe.specs.Packing.{package_of, packed, script_of, text_of};
 
-use crate::fault::PackFault;
+use crate::fault::PackError;
 use crate::made::Attachment;
 use crate::recipe::{Recipe, read_recipe};
 use scenario::Why;
@@ -21,12 +21,12 @@ pub enum Kind {
 }
 
 /// The bytes of the one package that is made.
-fn one_package(mut made: Vec<Attachment>) -> Result<Vec<u8>, PackFault>
+fn one_package(mut made: Vec<Attachment>) -> Result<Vec<u8>, PackError>
     ensures package { IfOk result (λ b. package_of made.items ≡ Ok b.items) }
-    ensures refused { IfErr result (λ e. (line : ℕ) (why : Why) → e ≡ PackFault.Refused line why
+    ensures refused { IfErr result (λ e. (line : ℕ) (why : Why) → e ≡ PackError.Refused line why
         → package_of made.items ≡ Err (record { line = line; why = why })) }
 {
-    let missing = PackFault::Refused {
+    let missing = PackError::Refused {
         line: 0,
         why: Why::Missing,
     };
@@ -68,9 +68,9 @@ fn script(alloc: Global, input: &[u8], recipe: Recipe) -> Result<Vec<u8>, AllocE
 ///
 /// A payload is hashed once (SHA-256, FIPS 180-4), and all bytes of a package before its digest
 /// once. The time is linear in the recipe and what it makes.
-pub fn pack(alloc: Global, input: &[u8], kind: Kind) -> Result<Vec<u8>, PackFault>
+pub fn pack(alloc: Global, input: &[u8], kind: Kind) -> Result<Vec<u8>, PackError>
     ensures packed { IfOk result (λ b. packed kind input.now ≡ Ok b.items) }
-    ensures refused { IfErr result (λ e. (line : ℕ) (why : Why) → e ≡ PackFault.Refused line why
+    ensures refused { IfErr result (λ e. (line : ℕ) (why : Why) → e ≡ PackError.Refused line why
         → packed kind input.now ≡ Err (record { line = line; why = why })) }
 {
     let recipe = read_recipe(alloc, input)?;

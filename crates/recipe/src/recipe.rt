@@ -6,10 +6,10 @@ ghost use Rattle.recipe.specs.Lines.{lines_in};
 ghost use Rattle.recipe.specs.Packing.{attach_text, line_text, text_of};
 ghost use Rattle.recipe.specs.Recipes.{added, below, printed, recipe_of};
 
-use crate::fault::{PackFault, fault_at};
+use crate::fault::{PackError, fault_at};
 use crate::made::{Attachment, attachment_of};
 use crate::packages::{NamedPackage, read_line};
-use scenario::{WordFault, first_piece};
+use scenario::{WordError, first_piece};
 use std::alloc::{AllocError, Global};
 
 /// What the lines so far make.
@@ -43,7 +43,7 @@ impl Recipe {
     }
 
     /// Adds what a package line makes, and the line that attaches it.
-    fn attach(&mut self, alloc: Global, named: &NamedPackage) -> Result<(), WordFault>
+    fn attach(&mut self, alloc: Global, named: &NamedPackage) -> Result<(), WordError>
         ensures made { Becomes result self.new.made.items (added self.old.made.items named.now) }
         ensures text { OnOk result (self.new.text.items
             ≡ self.old.text.items ++ attach_text (printed named.now) ++ 10 ∷ []) }
@@ -56,7 +56,7 @@ impl Recipe {
     }
 
     /// Adds a line.
-    fn add(&mut self, alloc: Global, line: &[u8]) -> Result<(), WordFault>
+    fn add(&mut self, alloc: Global, line: &[u8]) -> Result<(), WordError>
         ensures made { Becomes result self.new.made.items (below self.old.made.items line.now) }
         ensures text { OnOk result (self.new.text.items
             ≡ self.old.text.items ++ line_text line.now ++ 10 ∷ []) }
@@ -82,10 +82,10 @@ fn first_line(text: &[u8]) -> (&[u8], &[u8])
 }
 
 /// What all lines of a recipe make.
-pub fn read_recipe(alloc: Global, input: &[u8]) -> Result<Recipe, PackFault>
+pub fn read_recipe(alloc: Global, input: &[u8]) -> Result<Recipe, PackError>
     ensures made { IfOk result (λ r. recipe_of input.now ≡ Ok r.made.items) }
     ensures text { IfOk result (λ r. r.text.items ≡ text_of (lines_in input.now)) }
-    ensures refused { IfErr result (λ e. (line : ℕ) (why : Why) → e ≡ PackFault.Refused line why
+    ensures refused { IfErr result (λ e. (line : ℕ) (why : Why) → e ≡ PackError.Refused line why
         → recipe_of input.now ≡ Err (record { line = line; why = why })) }
 {
     let mut recipe = Recipe::new(alloc);

@@ -1,5 +1,5 @@
 //! Recipes by hand: what is packed of them, and where they are refused.
-use crate::{Kind, PackFault, pack};
+use crate::{Kind, PackError, pack};
 use scenario::Why;
 use std::alloc::{AllocError, Global};
 use std::test::Fail;
@@ -135,7 +135,7 @@ fn the_first_refused_line_is_answered(rt: HostRuntime) -> Result<(), Fail> {
     for (recipe, line, why) in rows {
         let found = pack(rt.alloc(), recipe, Kind::Package);
         assert!(rt;
-            matches!(found, Err(PackFault::Refused { line: at, why: as_said }) if at == line && as_said == why)
+            matches!(found, Err(PackError::Refused { line: at, why: as_said }) if at == line && as_said == why)
         );
     }
     Ok(())
@@ -165,7 +165,7 @@ fn a_recipe_makes_128_packages(rt: HostRuntime) -> Result<(), Fail> {
         let recipe = many(alloc, 128, last)?;
         let found = pack(alloc, recipe.as_bytes(), Kind::Script);
         assert!(rt;
-            matches!(found, Err(PackFault::Refused { line: 129, why: as_said }) if as_said == why)
+            matches!(found, Err(PackError::Refused { line: 129, why: as_said }) if as_said == why)
         );
     }
     Ok(())

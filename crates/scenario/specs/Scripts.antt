@@ -6,8 +6,8 @@ use Rattle.std.specs.Borrow.{Bor}
 use Rattle.ucm_base.specs.Limits.{cluster_limit, package_limit, input_limit}
 use Rattle.scenario.specs.declared.why.Why.{Why}
 use Rattle.scenario.specs.declared.why.Why.TheVariants.{Twice, Limit, Bytes}
-use Rattle.scenario.specs.declared.why.ScriptFault.{ScriptFault}
-use Rattle.scenario.specs.declared.why.ScriptFault.TheVariants.{BadScenario}
+use Rattle.scenario.specs.declared.why.ScriptError.{ScriptError}
+use Rattle.scenario.specs.declared.why.ScriptError.TheVariants.{BadScenario}
 use Rattle.scenario.specs.declared.lines.Installed.{Installed as Cluster}
 use Rattle.scenario.specs.declared.lines.ScriptLine.{ScriptLine}
 use Rattle.scenario.specs.declared.lines.ScriptLine.TheVariants.{Time, Installed, Happens, Fails, Attach}
@@ -115,7 +115,7 @@ abbrev pub script_of : Command → List ℕ → Result Script Refused
 script_of Replay input = read_from (length input) nothing_above 0 1 (lines_of input)
 
 -- what is answered is the script, or its refusal, unless memory was wanting
-abbrev pub IsScript : Result Script ScriptFault → Result Script Refused → Type 0
+abbrev pub IsScript : Result Script ScriptError → Result Script Refused → Type 0
 IsScript result reading = IfOk result (λ s. reading ≡ Ok s) × IfErr result (λ e. (line : ℕ) (why : Why)
     → e ≡ BadScenario line why → reading ≡ Err (record { line = line; why = why }))
 

@@ -4,7 +4,7 @@ ghost use Rattle.scenario.specs.Readings.{IsRead};
 ghost use Rattle.scenario.specs.Blocks.{block_in, block_of, bytes_meant, fill_in, hex_in, known, length_in, length_meant, part_in, part_of, piece_in, piece_of, plain_block, plain_block_in, size_in};
 
 use crate::attachments::{Attached, Attachments};
-use crate::why::{Why, WordFault};
+use crate::why::{Why, WordError};
 use crate::words::{byte, cut, from_one, name, number};
 use std::alloc::{AllocError, Global};
 use ucm_base::limits::BLOCK_LIMIT;
@@ -89,20 +89,20 @@ fn fill(rest: &[u8]) -> Result<BlockSource, Why>
 }
 
 /// What stands behind `hex:`, as an even number of digits.
-fn hex(alloc: Global, digits: &[u8]) -> Result<BlockSource, WordFault>
+fn hex(alloc: Global, digits: &[u8]) -> Result<BlockSource, WordError>
     ensures { IsRead result (hex_in digits.now) }
 {
     if digits.len() > HEX_LIMIT {
-        return Err(WordFault::Refused(Why::Value));
+        return Err(WordError::Refused(Why::Value));
     }
     match bytes_of_hex(alloc, digits)? {
         Some(bytes) => Ok(BlockSource::Bytes(Block::of(bytes))),
-        None => Err(WordFault::Refused(Why::Value)),
+        None => Err(WordError::Refused(Why::Value)),
     }
 }
 
 /// A block that needs no attachment, by what stands before its first colon and behind it.
-fn plain_block_of(alloc: Global, kind: &[u8], rest: &[u8]) -> Result<BlockSource, WordFault>
+fn plain_block_of(alloc: Global, kind: &[u8], rest: &[u8]) -> Result<BlockSource, WordError>
     ensures { IsRead result (plain_block kind.now rest.now) }
 {
     if kind == b"fill".as_slice() {
@@ -110,16 +110,16 @@ fn plain_block_of(alloc: Global, kind: &[u8], rest: &[u8]) -> Result<BlockSource
     } else if kind == b"hex".as_slice() {
         hex(alloc, rest)
     } else {
-        Err(WordFault::Refused(Why::Value))
+        Err(WordError::Refused(Why::Value))
     }
 }
 
 /// A block that needs no attachment: `fill:<length>:<byte>` or `hex:<digits>`.
-pub fn plain_block(alloc: Global, word: &[u8]) -> Result<BlockSource, WordFault>
+pub fn plain_block(alloc: Global, word: &[u8]) -> Result<BlockSource, WordError>
     ensures { IsRead result (plain_block_in word.now) }
 {
     let Some((kind, rest)) = cut(word, b':') else {
-        return Err(WordFault::Refused(Why::Value));
+        return Err(WordError::Refused(Why::Value));
     };
     plain_block_of(alloc, kind, rest)
 }
@@ -194,7 +194,7 @@ fn block_named(
     attachments: &Attachments,
     kind: &[u8],
     rest: &[u8],
-) -> Result<BlockSource, WordFault>
+) -> Result<BlockSource, WordError>
     ensures { IsRead result (block_of attachments.now kind.now rest.now) }
 {
     if kind == b"block".as_slice() {
@@ -211,11 +211,11 @@ pub(crate) fn block(
     alloc: Global,
     attachments: &Attachments,
     word: &[u8],
-) -> Result<BlockSource, WordFault>
+) -> Result<BlockSource, WordError>
     ensures { IsRead result (block_in attachments.now word.now) }
 {
     let Some((kind, rest)) = cut(word, b':') else {
-        return Err(WordFault::Refused(Why::Value));
+        return Err(WordError::Refused(Why::Value));
     };
     block_named(alloc, attachments, kind, rest)
 }

@@ -5,7 +5,7 @@ ghost use Rattle.scenario.specs.Events.{call_alone, call_in, call_meant, call_wi
 
 use crate::attachments::Attachments;
 use crate::blocks::{BlockSource, block, size};
-use crate::why::{Why, WordFault};
+use crate::why::{Why, WordError};
 use crate::words::{number, small};
 use pm_types::{Call, Query};
 use std::alloc::{AllocError, Global};
@@ -156,12 +156,12 @@ fn data(
     id: &[u8],
     counter: &[u8],
     bytes: &[u8],
-) -> Result<ScriptCall, WordFault>
+) -> Result<ScriptCall, WordError>
     ensures { IsRead result
         (data_call attachments.now name.now id.now counter.now bytes.now) }
 {
     if name != b"data".as_slice() {
-        return Err(WordFault::Refused(Why::Value));
+        return Err(WordError::Refused(Why::Value));
     }
     let id = small(id)?;
     let counter = number(counter)?;
@@ -174,7 +174,7 @@ pub(crate) fn call(
     alloc: Global,
     attachments: &Attachments,
     words: &[&[u8]],
-) -> Result<ScriptCall, WordFault>
+) -> Result<ScriptCall, WordError>
     ensures { IsRead result (call_in attachments.now (map (λ w. w.now) words.now)) }
 {
     match words {
@@ -182,7 +182,7 @@ pub(crate) fn call(
         [name, word] => Ok(call_with_word(attachments, name, word)?),
         [name, id, tag] => Ok(process(name, id, tag)?),
         [name, id, counter, bytes] => data(alloc, attachments, name, id, counter, bytes),
-        _ => Err(WordFault::Refused(Why::Form)),
+        _ => Err(WordError::Refused(Why::Form)),
     }
 }
 

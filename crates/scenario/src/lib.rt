@@ -20,5 +20,5 @@ pub use blocks::{BlockSource, plain_block};
 pub use events::{Event, EventLine, ScriptCall, call_of};
 pub use lines::Installed;
 pub use script::{Command, Script, read_script};
-pub use why::{ScriptFault, Why, WordFault};
+pub use why::{ScriptError, Why, WordError};
 pub use words::{action, first_piece, name, need, needs, number, small, version};

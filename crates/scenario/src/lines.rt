@@ -8,7 +8,7 @@ ghost use Rattle.scenario.specs.Lines.{ask_line, attach_line, call_line, cluster
 use crate::attachments::Attachments;
 use crate::blocks::{BlockSource, block};
 use crate::events::{Event, call, query};
-use crate::why::{Why, WordFault};
+use crate::why::{Why, WordError};
 use crate::words::{call_no, client, name, needs, node, number, version};
 use std::alloc::Global;
 use ucm_base::limits::NEED_LIMIT;
@@ -69,11 +69,11 @@ fn read_cluster(
     versioned: &[u8],
     bytes: &[u8],
     needed: &[&[u8]],
-) -> Result<ScriptLine, WordFault>
+) -> Result<ScriptLine, WordError>
     requires { length needed.now ≤ need_limit }
     ensures line { IfOk result (λ l. cluster_line attachments.now named.now versioned.now bytes.now
         (map (λ w. w.now) needed.now) ≡ Ok l) }
-    ensures refused { IfErr result (λ e. (why : Why) → e ≡ WordFault.Refused why
+    ensures refused { IfErr result (λ e. (why : Why) → e ≡ WordError.Refused why
         → cluster_line attachments.now named.now versioned.now bytes.now
         (map (λ w. w.now) needed.now) ≡ Err why) }
 {
@@ -94,21 +94,21 @@ fn read_installed(
     alloc: Global,
     attachments: &Attachments,
     words: &[&[u8]],
-) -> Result<ScriptLine, WordFault>
+) -> Result<ScriptLine, WordError>
     ensures line { IfOk result (λ l. installed_line attachments.now (map (λ w. w.now) words.now)
         ≡ Ok l) }
-    ensures refused { IfErr result (λ e. (why : Why) → e ≡ WordFault.Refused why
+    ensures refused { IfErr result (λ e. (why : Why) → e ≡ WordError.Refused why
         → installed_line attachments.now (map (λ w. w.now) words.now) ≡ Err why) }
 {
     match words {
         [at, named, versioned, bytes, needed @ ..] => {
             if needed.len() as u64 > NEED_LIMIT {
-                return Err(WordFault::Refused(Why::Form));
+                return Err(WordError::Refused(Why::Form));
             }
             let _node = node(at)?;
             read_cluster(alloc, attachments, named, versioned, bytes, needed)
         }
-        _ => Err(WordFault::Refused(Why::Form)),
+        _ => Err(WordError::Refused(Why::Form)),
     }
 }
 
@@ -126,7 +126,7 @@ fn client_call(
     client_word: &[u8],
     number_word: &[u8],
     words: &[&[u8]],
-) -> Result<ScriptLine, WordFault>
+) -> Result<ScriptLine, WordError>
     ensures { IsRead result
         (numbered_call attachments.now client_word.now number_word.now
         (map (λ w. w.now) words.now)) }
@@ -142,18 +142,18 @@ fn read_call(
     alloc: Global,
     attachments: &Attachments,
     words: &[&[u8]],
-) -> Result<ScriptLine, WordFault>
+) -> Result<ScriptLine, WordError>
     ensures { IsRead result (call_line attachments.now (map (λ w. w.now) words.now)) }
 {
     match words {
         [at, client, number, call @ ..] => {
             if !is_call(call) {
-                return Err(WordFault::Refused(Why::Form));
+                return Err(WordError::Refused(Why::Form));
             }
             let _node = node(at)?;
             client_call(alloc, attachments, client, number, call)
         }
-        _ => Err(WordFault::Refused(Why::Form)),
+        _ => Err(WordError::Refused(Why::Form)),
     }
 }
 
@@ -241,12 +241,12 @@ pub(crate) fn read_line(
     alloc: Global,
     attachments: &Attachments,
     words: &[&[u8]],
-) -> Result<ScriptLine, WordFault>
+) -> Result<ScriptLine, WordError>
     ensures { IsRead result (line_in attachments.now (map (λ w. w.now) words.now)) }
 {
     match words {
         [first, words @ ..] => read_named(alloc, attachments, first, words),
-        _ => Err(WordFault::Refused(Why::Form)),
+        _ => Err(WordError::Refused(Why::Form)),
     }
 }
 
@@ -263,11 +263,11 @@ fn read_named(
     attachments: &Attachments,
     first: &[u8],
     words: &[&[u8]],
-) -> Result<ScriptLine, WordFault>
+) -> Result<ScriptLine, WordError>
     ensures { IsRead result (line_named attachments.now first.now (map (λ w. w.now) words.now)) }
 {
     if is_later_word(first) {
-        Err(WordFault::Refused(Why::Later))
+        Err(WordError::Refused(Why::Later))
     } else if first == b"installed".as_slice() {
         read_installed(alloc, attachments, words)
     } else if first == b"call".as_slice() {

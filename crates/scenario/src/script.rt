@@ -8,7 +8,7 @@ ghost use Rattle.scenario.specs.Scripts.{IsScript, added, attach_added, attached
 use crate::attachments::{Attached, Attachments};
 use crate::events::EventLine;
 use crate::lines::{Installed, ScriptLine, read_line};
-use crate::why::{ScriptFault, Why, WordFault};
+use crate::why::{ScriptError, Why, WordError};
 use crate::words::first_piece;
 use std::alloc::{AllocError, Global};
 use ucm_base::limits::{CLUSTER_LIMIT, INPUT_LIMIT, PACKAGE_LIMIT};
@@ -76,11 +76,11 @@ impl Above {
     }
 
     /// Adds the start time, which stands once.
-    fn add_time(&mut self, n: u64) -> Result<(), WordFault>
+    fn add_time(&mut self, n: u64) -> Result<(), WordError>
         ensures { Becomes result self.new (time_added self.old n) }
     {
         if self.time.is_some() {
-            return Err(WordFault::Refused(Why::Twice));
+            return Err(WordError::Refused(Why::Twice));
         }
         self.time = Some(n);
         Ok(())
@@ -102,14 +102,14 @@ impl Above {
     }
 
     /// Adds a cluster, whose name stands once.
-    fn add_installed(&mut self, cluster: Installed) -> Result<(), WordFault>
+    fn add_installed(&mut self, cluster: Installed) -> Result<(), WordError>
         ensures { Becomes result self.new (installed_added self.old cluster) }
     {
         if self.installs(&cluster.name) {
-            return Err(WordFault::Refused(Why::Twice));
+            return Err(WordError::Refused(Why::Twice));
         }
         if !self.has_room_for(&cluster) {
-            return Err(WordFault::Refused(Why::Limit));
+            return Err(WordError::Refused(Why::Limit));
         }
         self.installed.push(cluster)?;
         Ok(())
@@ -126,14 +126,14 @@ impl Above {
     }
 
     /// Adds an attachment, whose name stands once.
-    fn add_attachment(&mut self, name: ClusterName, len: u64) -> Result<(), WordFault>
+    fn add_attachment(&mut self, name: ClusterName, len: u64) -> Result<(), WordError>
         ensures { Becomes result self.new (attach_added self.old name len) }
     {
         if self.attachments.named(name).is_some() {
-            return Err(WordFault::Refused(Why::Twice));
+            return Err(WordError::Refused(Why::Twice));
         }
         let Some(all) = self.attached_with(len) else {
-            return Err(WordFault::Refused(Why::Limit));
+            return Err(WordError::Refused(Why::Limit));
         };
         let place = Attached {
             at: self.attached,
@@ -145,7 +145,7 @@ impl Above {
     }
 
     /// Adds what a line says.
-    fn add(&mut self, number: u64, line: ScriptLine) -> Result<(), WordFault>
+    fn add(&mut self, number: u64, line: ScriptLine) -> Result<(), WordError>
         ensures { Becomes result self.new (added number self.old line) }
     {
         match line {
@@ -168,7 +168,7 @@ impl Above {
 }
 
 /// The script of all lines, where the bytes from a place on are as many as the attached ones.
-fn finish(above: Above, size: u64, at: u64) -> Result<Script, ScriptFault>
+fn finish(above: Above, size: u64, at: u64) -> Result<Script, ScriptError>
     ensures { IsScript result (finished size above at) }
 {
     let Above {
@@ -181,7 +181,7 @@ fn finish(above: Above, size: u64, at: u64) -> Result<Script, ScriptFault>
     } = above;
     drop(attachments);
     if u64::from(attached) != size.saturating_sub(at) {
-        return Err(ScriptFault::BadScenario {
+        return Err(ScriptError::BadScenario {
             line: 0,
             why: Why::Bytes,
         });
@@ -196,13 +196,13 @@ fn finish(above: Above, size: u64, at: u64) -> Result<Script, ScriptFault>
 }
 
 /// What a line's fault is at its number.
-fn fault_at(number: u64, fault: WordFault) -> ScriptFault
-    ensures { (line : ℕ) (why : Why) → result ≡ ScriptFault.BadScenario line why
-        → (line ≡ number) × (fault ≡ WordFault.Refused why) }
+fn fault_at(number: u64, fault: WordError) -> ScriptError
+    ensures { (line : ℕ) (why : Why) → result ≡ ScriptError.BadScenario line why
+        → (line ≡ number) × (fault ≡ WordError.Refused why) }
 {
     match fault {
-        WordFault::Refused(why) => ScriptFault::BadScenario { line: number, why },
-        WordFault::OutOfMemory => ScriptFault::OutOfMemory,
+        WordError::Refused(why) => ScriptError::BadScenario { line: number, why },
+        WordError::OutOfMemory => ScriptError::OutOfMemory,
     }
 }
 
@@ -238,7 +238,7 @@ fn read_words(
     alloc: Global,
     attachments: &Attachments,
     line: &[u8],
-) -> Result<ScriptLine, WordFault>
+) -> Result<ScriptLine, WordError>
     ensures { IsRead result (line_in attachments.now (words_of line.now)) }
 {
     let words = first_words(alloc, line, WORD_LIMIT)?;
@@ -246,7 +246,7 @@ fn read_words(
 }
 
 /// Takes in a line.
-fn take_in(alloc: Global, above: &mut Above, number: u64, line: &[u8]) -> Result<(), WordFault>
+fn take_in(alloc: Global, above: &mut Above, number: u64, line: &[u8]) -> Result<(), WordError>
     ensures { Becomes result above.new (line_read number above.old line.now) }
 {
     if is_passed(line) {
@@ -264,7 +264,7 @@ fn is_last(line: &[u8]) -> bool
 }
 
 /// The script of an input for the command `replay`.
-fn read_replay(alloc: Global, input: &[u8]) -> Result<Script, ScriptFault>
+fn read_replay(alloc: Global, input: &[u8]) -> Result<Script, ScriptError>
     ensures { IsScript result (script_of Command.Replay input.now) }
 {
     let mut above = Above::new(alloc);
@@ -288,7 +288,7 @@ fn read_replay(alloc: Global, input: &[u8]) -> Result<Script, ScriptFault>
 }
 
 /// The script that an input is. It is read line by line; blocks are not spelled out.
-pub fn read_script(alloc: Global, input: &[u8], kind: Command) -> Result<Script, ScriptFault>
+pub fn read_script(alloc: Global, input: &[u8], kind: Command) -> Result<Script, ScriptError>
     ensures { IsScript result (script_of kind input.now) }
 {
     match kind {

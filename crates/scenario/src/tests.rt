@@ -1,6 +1,6 @@
 //! Scripts that are refused, with line and reason, and one that is read whole.
 use crate::{
-    BlockSource, Command, Event, Script, ScriptCall, ScriptFault, Why, action, call_of, name, need,
+    BlockSource, Command, Event, Script, ScriptCall, ScriptError, Why, action, call_of, name, need,
     number, plain_block, read_script, small, version,
 };
 use pm_types::{Call, Query};
@@ -74,7 +74,7 @@ fn the_first_refused_line_is_answered(rt: HostRuntime) -> Result<(), Fail> {
     for (text, line, why) in rows {
         let found = read_script(rt.alloc(), text, Command::Replay);
         assert!(rt;
-            matches!(found, Err(ScriptFault::BadScenario { line: at, why: as_said }) if at == line && as_said == why)
+            matches!(found, Err(ScriptError::BadScenario { line: at, why: as_said }) if at == line && as_said == why)
         );
     }
     Ok(())

@@ -47,59 +47,59 @@ impl fmt::Display for Why {
 
 /// Why a word or a line was not read.
 #[derive(Clone, Copy, Debug, PartialEq, Eq)]
-pub enum WordFault {
+pub enum WordError {
     Refused(Why),
     OutOfMemory,
 }
 
-impl From<Why> for WordFault {
+impl From<Why> for WordError {
     ghost use Rattle.std.specs.Prelude.{◌≡◌};
-    ghost use Rattle.scenario.specs.declared.why.WordFault.TheVariants.{Refused};
+    ghost use Rattle.scenario.specs.declared.why.WordError.TheVariants.{Refused};
 
     ghost from_gives = { λ why e. e ≡ Refused why };
 
-    fn from(why: Why) -> WordFault {
-        WordFault::Refused(why)
+    fn from(why: Why) -> WordError {
+        WordError::Refused(why)
     }
 }
 
-impl From<AllocError> for WordFault {
+impl From<AllocError> for WordError {
     ghost use Rattle.std.specs.Prelude.{◌≡◌};
-    ghost use Rattle.scenario.specs.declared.why.WordFault.TheVariants.{OutOfMemory};
+    ghost use Rattle.scenario.specs.declared.why.WordError.TheVariants.{OutOfMemory};
 
     ghost from_gives = { λ _ e. e ≡ OutOfMemory };
 
-    fn from(_refused: AllocError) -> WordFault {
-        WordFault::OutOfMemory
+    fn from(_refused: AllocError) -> WordError {
+        WordError::OutOfMemory
     }
 }
 
-impl<T: Drop> From<AllocFailed<T>> for WordFault {
+impl<T: Drop> From<AllocFailed<T>> for WordError {
     ghost use Rattle.std.specs.Prelude.{◌≡◌};
-    ghost use Rattle.scenario.specs.declared.why.WordFault.TheVariants.{OutOfMemory};
+    ghost use Rattle.scenario.specs.declared.why.WordError.TheVariants.{OutOfMemory};
 
     ghost from_gives = { λ _ e. e ≡ OutOfMemory };
 
-    fn from(_refused: AllocFailed<T>) -> WordFault {
-        WordFault::OutOfMemory
+    fn from(_refused: AllocFailed<T>) -> WordError {
+        WordError::OutOfMemory
     }
 }
 
 /// Why no script was read.
 #[derive(Clone, Copy, Debug, PartialEq, Eq)]
-pub enum ScriptFault {
+pub enum ScriptError {
     /// The first line that is refused, counted from 1, or 0 for what is judged behind all lines.
     BadScenario { line: u64, why: Why },
     OutOfMemory,
 }
 
-impl From<AllocError> for ScriptFault {
+impl From<AllocError> for ScriptError {
     ghost use Rattle.std.specs.Prelude.{◌≡◌};
-    ghost use Rattle.scenario.specs.declared.why.ScriptFault.TheVariants.{OutOfMemory};
+    ghost use Rattle.scenario.specs.declared.why.ScriptError.TheVariants.{OutOfMemory};
 
     ghost from_gives = { λ _ e. e ≡ OutOfMemory };
 
-    fn from(_refused: AllocError) -> ScriptFault {
-        ScriptFault::OutOfMemory
+    fn from(_refused: AllocError) -> ScriptError {
+        ScriptError::OutOfMemory
     }
 }

@@ -5,10 +5,10 @@ ghost use Rattle.scenario.specs.Readings.{IsRead};
 ghost use Rattle.scenario.specs.Words.{action_in, byte_in, call_no_in, client_in, cut, digit_value, from_one_in, name_in, need_in, needs_in, node_in, number_in, req_in, small_in, version_in};
 ghost use Rattle.scenario.specs.Scripts.{pieces, pieces_left, size_left, text_left};
 
-use crate::why::{Why, WordFault};
+use crate::why::{Why, WordError};
 use std::alloc::Global;
 use ucm_base::{
-    Action, CallNo, ClientId, ClusterName, Need, Needs, ReqText, TextFault, VersionText,
+    Action, CallNo, ClientId, ClusterName, Need, Needs, ReqText, TextError, VersionText,
 };
 use ucm_text::number_of;
 
@@ -154,33 +154,33 @@ fn byte_of(high: u8, low: u8) -> Result<u8, Why>
 }
 
 /// A version.
-pub fn version(alloc: Global, word: &[u8]) -> Result<VersionText, WordFault>
+pub fn version(alloc: Global, word: &[u8]) -> Result<VersionText, WordError>
     ensures { IsRead result (version_in word.now) }
 {
     match VersionText::of(alloc, word) {
         Ok(version) => Ok(version),
-        Err(TextFault::BadText) => Err(WordFault::Refused(Why::Value)),
-        Err(TextFault::OutOfMemory) => Err(WordFault::OutOfMemory),
+        Err(TextError::BadText) => Err(WordError::Refused(Why::Value)),
+        Err(TextError::OutOfMemory) => Err(WordError::OutOfMemory),
     }
 }
 
 /// A version requirement.
-fn req(alloc: Global, word: &[u8]) -> Result<ReqText, WordFault>
+fn req(alloc: Global, word: &[u8]) -> Result<ReqText, WordError>
     ensures { IsRead result (req_in word.now) }
 {
     match ReqText::of(alloc, word) {
         Ok(req) => Ok(req),
-        Err(TextFault::BadText) => Err(WordFault::Refused(Why::Value)),
-        Err(TextFault::OutOfMemory) => Err(WordFault::OutOfMemory),
+        Err(TextError::BadText) => Err(WordError::Refused(Why::Value)),
+        Err(TextError::OutOfMemory) => Err(WordError::OutOfMemory),
     }
 }
 
 /// A cluster and a requirement, joined by `@`.
-pub fn need(alloc: Global, word: &[u8]) -> Result<Need, WordFault>
+pub fn need(alloc: Global, word: &[u8]) -> Result<Need, WordError>
     ensures { IsRead result (need_in word.now) }
 {
     let Some((cluster, accepted)) = cut(word, b'@') else {
-        return Err(WordFault::Refused(Why::Value));
+        return Err(WordError::Refused(Why::Value));
     };
     let name = name(cluster)?;
     let req = req(alloc, accepted)?;
@@ -188,7 +188,7 @@ pub fn need(alloc: Global, word: &[u8]) -> Result<Need, WordFault>
 }
 
 /// The needs of these words, of which there are at most 16.
-pub fn needs(alloc: Global, words: &[&[u8]]) -> Result<Needs, WordFault>
+pub fn needs(alloc: Global, words: &[&[u8]]) -> Result<Needs, WordError>
     requires { length words.now ≤ need_limit }
     ensures { IsRead result (needs_in (map (λ w. w.now) words.now)) }
 {

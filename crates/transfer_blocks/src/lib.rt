@@ -18,7 +18,7 @@ mod staging;
 mod transfers;
 
 pub use area::Area;
-pub use fault::StagingFault;
+pub use fault::StagingError;
 pub use found::Found;
 pub use mem::MemStaging;
 pub use staging::Staging;

@@ -3,7 +3,7 @@ ghost use Rattle.std.specs.Prelude.{◌≡◌, IfOk};
 ghost use Rattle.transfer_blocks.specs.Areas.{no_contents, AreasFit};
 
 use crate::contents::Contents;
-use crate::{Area, Staging, StagingFault};
+use crate::{Area, Staging, StagingError};
 use std::alloc::{AllocError, Global};
 
 /// Areas in memory. It never fails but for want of memory.
@@ -29,12 +29,12 @@ impl Staging for MemStaging {
 
     ghost fault_count = { λ _. 0 };
 
-    fn put(&mut self, area: Area, at: u64, bytes: &[u8]) -> Result<(), StagingFault> {
+    fn put(&mut self, area: Area, at: u64, bytes: &[u8]) -> Result<(), StagingError> {
         self.contents.put(area, at as usize, bytes)?;
         Ok(())
     }
 
-    fn get(&mut self, area: Area, at: u64, len: usize) -> Result<Vec<u8>, StagingFault> {
+    fn get(&mut self, area: Area, at: u64, len: usize) -> Result<Vec<u8>, StagingError> {
         let bytes = self
             .contents
             .content(area)

@@ -5,7 +5,7 @@ ghost use Rattle.pm_types.specs.Stored.{Areas};
 ghost use Rattle.transfer_blocks.specs.Areas.{content_of, with_content, overwritten, IsArea, AreasFit, LeavesOutside};
 ghost use Rattle.transfer_blocks.specs.Faults.{HasRisen};
 
-use crate::{Area, StagingFault};
+use crate::{Area, StagingError};
 
 /// The bytes of eight transfers, and of sixteen clusters with two sides each. Places and lengths are in bytes.
 pub trait Staging {
@@ -17,7 +17,7 @@ pub trait Staging {
 
     /// Puts the bytes at `at` in place of those that lie there. The area grows where the range ends
     /// behind it. After a failure the bytes of the range may be any, and all others stand.
-    fn put(&mut self, area: Area, at: u64, bytes: &[u8]) -> Result<(), StagingFault>
+    fn put(&mut self, area: Area, at: u64, bytes: &[u8]) -> Result<(), StagingError>
         requires area { IsArea area }
         requires at { at ≤ length (content_of area (areas self.old)) }
         requires fits { at + length bytes.now ≤ package_limit }
@@ -26,18 +26,18 @@ pub trait Staging {
         ensures outside { OnErr result
             (LeavesOutside area at (length bytes.now) (areas self.old) (areas self.new)) }
         ensures faults { fault_count self.old ≤ fault_count self.new }
-        ensures cause { IsErrOf result StagingFault.Failed
+        ensures cause { IsErrOf result StagingError.Failed
             → HasRisen (fault_count self.old) (fault_count self.new) };
 
     /// The `len` bytes of the area from `at` on.
-    fn get(&mut self, area: Area, at: u64, len: usize) -> Result<Vec<u8>, StagingFault>
+    fn get(&mut self, area: Area, at: u64, len: usize) -> Result<Vec<u8>, StagingError>
         requires area { IsArea area }
         requires range { at + len ≤ length (content_of area (areas self.old)) }
         ensures bytes { IfOk result (λ v. v.items
             ≡ slice_range (content_of area (areas self.old)) at (at + len)) }
         ensures areas { areas self.new ≡ areas self.old }
         ensures faults { fault_count self.old ≤ fault_count self.new }
-        ensures cause { IsErrOf result StagingFault.Failed
+        ensures cause { IsErrOf result StagingError.Failed
             → HasRisen (fault_count self.old) (fault_count self.new) };
 
     /// How often a put or a get has failed; it stays at the last value of a u64.

@@ -1,12 +1,12 @@
 //! Rows over areas in memory, and over the transfer table. A put goes over bytes that lie there and past their end; a
 //! slot that becomes free is taken again; a whole transfer has the contents that were read, and goes no further.
-use crate::{Area, MemStaging, Staging, StagingFault, Transfers};
+use crate::{Area, MemStaging, Staging, StagingError, Transfers};
 use pm_types::{Contents, ExitVerdict, Phase, Refusal, Reply, TransferList};
 use std::alloc::{AllocError, Global};
 use ucm_base::{Action, ClientId, ClusterName, Manifest, Needs, VersionText};
 
 #[test]
-fn an_area_holds_what_was_put(rt: HostRuntime) -> Result<(), StagingFault> {
+fn an_area_holds_what_was_put(rt: HostRuntime) -> Result<(), StagingError> {
     let mut staging = MemStaging::new(rt.alloc())?;
     let area = Area::Transfer { slot: 7 };
     staging.put(area, 0, b"abcd")?;

@@ -4,8 +4,8 @@ use Rattle.std.specs.Result.{is_ok}
 use Rattle.semver.specs.declared.error.Error.{Error}
 use Rattle.semver.specs.Parse.{IsRefused, memory_error}
 use Rattle.ucm_base.specs.Short.{is_short}
-use Rattle.ucm_base.specs.declared.versions.TextFault.{TextFault}
-use Rattle.ucm_base.specs.declared.versions.TextFault.TheVariants.{BadText, OutOfMemory}
+use Rattle.ucm_base.specs.declared.versions.TextError.{TextError}
+use Rattle.ucm_base.specs.declared.versions.TextError.TheVariants.{BadText, OutOfMemory}
 use Rattle.ucm_base.proofs.Memory.{Plain, not_memory}
 
 some_only : (b : Bool) (t xs : List ℕ) → Some t ≡ cond b (Some xs) None → b ≡ true
@@ -22,6 +22,6 @@ no_memory : {A : Type 0} (T : Type 0) (r : Result A Error) (e : Error) → is_ok
 no_memory T (Ok x) e bad plain refused m = true≢false bad
 no_memory T (Err k) e bad plain refused m = not_memory (Err k) plain (ap Err (sym (same_error e k refused) ∙ m))
 
-pub bad-fault : {A : Type 0} (T : Type 0) (r : Result A Error) (e : Error) (f : TextFault) → (f ≡ OutOfMemory) ↔ (e ≡ memory_error) → is_ok r ≡ false → Plain r → IsRefused {T = T} r (Err e) → f ≡ BadText
+pub bad-fault : {A : Type 0} (T : Type 0) (r : Result A Error) (e : Error) (f : TextError) → (f ≡ OutOfMemory) ↔ (e ≡ memory_error) → is_ok r ≡ false → Plain r → IsRefused {T = T} r (Err e) → f ≡ BadText
 bad-fault T r e BadText iff bad plain refused = refl
 bad-fault T r e OutOfMemory iff bad plain refused = absurd (no_memory T r e bad plain refused (iff.0 refl))

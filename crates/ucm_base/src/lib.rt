@@ -14,8 +14,8 @@ mod short;
 mod versions;
 
 pub use ids::{CallNo, ClientId, NodeId, NodeSet};
-pub use name::{BadName, ClusterName};
+pub use name::{ClusterName, NameError};
 pub use parts::{Action, Block, Manifest, Need, Needs};
 pub use rows::Rows;
 pub use short::ShortText;
-pub use versions::{ReqText, TextFault, VersionText};
+pub use versions::{ReqText, TextError, VersionText};

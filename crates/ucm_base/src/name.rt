@@ -43,7 +43,7 @@ impl Model for ClusterName {
 
 /// The bytes are no name.
 #[derive(Clone, Copy, PartialEq, Eq, Debug)]
-pub struct BadName;
+pub struct NameError;
 
 fn is_letter_byte(b: u8) -> bool
     ensures { result ≡ is_letter b }
@@ -81,13 +81,13 @@ fn is_name(bytes: &[u8]) -> bool
 
 impl ClusterName {
     /// The name of these bytes, if they are one.
-    pub fn of(bytes: &[u8]) -> Result<ClusterName, BadName>
+    pub fn of(bytes: &[u8]) -> Result<ClusterName, NameError>
         ensures { result ≡ (if is_cluster_name bytes.now then Ok bytes.now else Err (record {})) }
     {
         if is_name(bytes) {
             Ok(ClusterName::padded(bytes))
         } else {
-            Err(BadName)
+            Err(NameError)
         }
     }
 

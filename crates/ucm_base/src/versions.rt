@@ -14,7 +14,7 @@ use std::str;
 
 /// Why a text was not taken.
 #[derive(Clone, Copy, PartialEq, Eq, Debug)]
-pub enum TextFault {
+pub enum TextError {
     BadText,
     OutOfMemory,
 }
@@ -57,21 +57,21 @@ impl Model for ReqText {
     ghost invariant = { λ s. req_of s.text ≡ Ok (map comparator_view s.req.comparators.items) };
 }
 
-fn fault_of(e: Error) -> TextFault
-    ensures { (result ≡ TextFault.OutOfMemory) ↔ (e ≡ memory_error) }
+fn fault_of(e: Error) -> TextError
+    ensures { (result ≡ TextError.OutOfMemory) ↔ (e ≡ memory_error) }
 {
     if e == Error::from(AllocError) {
-        TextFault::OutOfMemory
+        TextError::OutOfMemory
     } else {
-        TextFault::BadText
+        TextError::BadText
     }
 }
 
-fn version_in(alloc: Global, text: &str) -> Result<Version, TextFault>
+fn version_in(alloc: Global, text: &str) -> Result<Version, TextError>
     ensures ok { IfOk result (λ v. version_parts text.now ≡ Ok (parts_of v)) }
-    ensures bad { IfErr result (λ e. e ≡ TextFault.BadText
+    ensures bad { IfErr result (λ e. e ≡ TextError.BadText
         → is_ok (version_parts text.now) ≡ false) }
-    ensures refused { is_ok (version_parts text.now) ≡ false → result ≡ Err TextFault.BadText }
+    ensures refused { is_ok (version_parts text.now) ≡ false → result ≡ Err TextError.BadText }
 {
     match Version::parse(alloc, text) {
         Ok(version) => Ok(version),
@@ -79,10 +79,10 @@ fn version_in(alloc: Global, text: &str) -> Result<Version, TextFault>
     }
 }
 
-fn req_in(alloc: Global, text: &str) -> Result<VersionReq, TextFault>
+fn req_in(alloc: Global, text: &str) -> Result<VersionReq, TextError>
     ensures ok { IfOk result (λ r. req_of text.now ≡ Ok (map comparator_view r.comparators.items)) }
-    ensures bad { IfErr result (λ e. e ≡ TextFault.BadText → is_ok (req_of text.now) ≡ false) }
-    ensures refused { is_ok (req_of text.now) ≡ false → result ≡ Err TextFault.BadText }
+    ensures bad { IfErr result (λ e. e ≡ TextError.BadText → is_ok (req_of text.now) ≡ false) }
+    ensures refused { is_ok (req_of text.now) ≡ false → result ≡ Err TextError.BadText }
 {
     match VersionReq::parse(alloc, text) {
         Ok(req) => Ok(req),
@@ -92,17 +92,17 @@ fn req_in(alloc: Global, text: &str) -> Result<VersionReq, TextFault>
 
 impl VersionText {
     /// The version of these bytes, if they are one.
-    pub fn of(alloc: Global, bytes: &[u8]) -> Result<VersionText, TextFault>
+    pub fn of(alloc: Global, bytes: &[u8]) -> Result<VersionText, TextError>
         ensures ok { IfOk result (λ v. (v ≡ bytes.now) × (is_version_text bytes.now ≡ true)) }
-        ensures bad { IfErr result (λ e. e ≡ TextFault.BadText
+        ensures bad { IfErr result (λ e. e ≡ TextError.BadText
             → is_version_text bytes.now ≡ false) }
-        ensures refused { is_version_text bytes.now ≡ false → result ≡ Err TextFault.BadText }
+        ensures refused { is_version_text bytes.now ≡ false → result ≡ Err TextError.BadText }
     {
         let Some(text) = ShortText::of(bytes) else {
-            return Err(TextFault::BadText);
+            return Err(TextError::BadText);
         };
         let Ok(ascii) = str::from_utf8(bytes) else {
-            return Err(TextFault::BadText);
+            return Err(TextError::BadText);
         };
         let version = version_in(alloc, ascii)?;
         Ok(VersionText { text, version })
@@ -127,16 +127,16 @@ impl VersionText {
 
 impl ReqText {
     /// The requirement of these bytes, if they are one.
-    pub fn of(alloc: Global, bytes: &[u8]) -> Result<ReqText, TextFault>
+    pub fn of(alloc: Global, bytes: &[u8]) -> Result<ReqText, TextError>
         ensures ok { IfOk result (λ v. (v ≡ bytes.now) × (is_req_text bytes.now ≡ true)) }
-        ensures bad { IfErr result (λ e. e ≡ TextFault.BadText → is_req_text bytes.now ≡ false) }
-        ensures refused { is_req_text bytes.now ≡ false → result ≡ Err TextFault.BadText }
+        ensures bad { IfErr result (λ e. e ≡ TextError.BadText → is_req_text bytes.now ≡ false) }
+        ensures refused { is_req_text bytes.now ≡ false → result ≡ Err TextError.BadText }
     {
         let Some(text) = ShortText::of(bytes) else {
-            return Err(TextFault::BadText);
+            return Err(TextError::BadText);
         };
         let Ok(ascii) = str::from_utf8(bytes) else {
-            return Err(TextFault::BadText);
+            return Err(TextError::BadText);
         };
         let req = req_in(alloc, ascii)?;
         Ok(ReqText { text, req })
@@ -158,8 +158,8 @@ impl ReqText {
         let text = self.text();
         match ReqText::of(alloc, text.as_bytes()) {
             Ok(copy) => Ok(copy),
-            Err(TextFault::OutOfMemory) => Err(AllocError),
-            Err(TextFault::BadText) => unreachable!(),
+            Err(TextError::OutOfMemory) => Err(AllocError),
+            Err(TextError::BadText) => unreachable!(),
         }
     }
 
@@ -203,7 +203,7 @@ mod tests {
         assert!(rt; req.accepts(&new));
         assert!(rt; !req.accepts(&old));
         assert!(rt; new.clone()?.text().as_bytes() == b"1.0.0".as_slice());
-        assert!(rt; matches!(VersionText::of(alloc, b"1.0"), Err(TextFault::BadText)));
+        assert!(rt; matches!(VersionText::of(alloc, b"1.0"), Err(TextError::BadText)));
         Ok(())
     }
 }

@@ -14,5 +14,5 @@ mod standard;
 pub use fails::{Failed, Fails};
 pub use memory::{MemSink, MemSource};
 pub use sink::{Sink, put_all};
-pub use source::{ReadFault, Source, read_all};
+pub use source::{ReadError, Source, read_all};
 pub use standard::{StdSink, StdSource};

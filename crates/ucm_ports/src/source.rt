@@ -34,7 +34,7 @@ pub trait Source {
 
 /// Why not all bytes of a source were read.
 #[derive(Clone, Copy, Debug, PartialEq, Eq)]
-pub enum ReadFault {
+pub enum ReadError {
     /// A call of the source failed.
     Failed,
     /// More bytes came than the limit.
@@ -42,25 +42,25 @@ pub enum ReadFault {
     OutOfMemory,
 }
 
-impl From<Failed> for ReadFault {
+impl From<Failed> for ReadError {
     ghost use Rattle.std.specs.Prelude.{◌≡◌};
-    ghost use Rattle.ucm_ports.specs.declared.source.ReadFault.TheVariants as fault;
+    ghost use Rattle.ucm_ports.specs.declared.source.ReadError.TheVariants as fault;
 
     ghost from_gives = { λ _ e. e ≡ fault.Failed };
 
-    fn from(_failed: Failed) -> ReadFault {
-        ReadFault::Failed
+    fn from(_failed: Failed) -> ReadError {
+        ReadError::Failed
     }
 }
 
-impl From<AllocError> for ReadFault {
+impl From<AllocError> for ReadError {
     ghost use Rattle.std.specs.Prelude.{◌≡◌};
-    ghost use Rattle.ucm_ports.specs.declared.source.ReadFault.TheVariants as fault;
+    ghost use Rattle.ucm_ports.specs.declared.source.ReadError.TheVariants as fault;
 
     ghost from_gives = { λ _ e. e ≡ fault.OutOfMemory };
 
-    fn from(_refused: AllocError) -> ReadFault {
-        ReadFault::OutOfMemory
+    fn from(_refused: AllocError) -> ReadError {
+        ReadError::OutOfMemory
     }
 }
 
@@ -69,13 +69,13 @@ pub fn read_all<S: Source>(
     alloc: Global,
     source: &mut S,
     limit: usize,
-) -> Result<Vec<u8>, ReadFault>
+) -> Result<Vec<u8>, ReadError>
     ensures all { IfOk result (λ bytes. IfSome (S.left source.old) (λ left. bytes.items ≡ left)) }
     ensures end { OnOk result (IfSome (S.left source.new) (λ left. left ≡ [])) }
     ensures within { IfOk result (λ bytes. vec_len bytes ≤ limit) }
-    ensures too_long { IfErr result (λ e. e ≡ ReadFault.TooLong
+    ensures too_long { IfErr result (λ e. e ≡ ReadError.TooLong
         → IfSome (S.left source.old) (λ left. limit < length left)) }
-    ensures cause { IfErr result (λ e. e ≡ ReadFault.Failed
+    ensures cause { IfErr result (λ e. e ≡ ReadError.Failed
         → HasRisen (S.fault_count source.old) (S.fault_count source.new)) }
     ensures count { S.fault_count source.old ≤ S.fault_count source.new }
 {
@@ -87,7 +87,7 @@ pub fn read_all<S: Source>(
             return Ok(bytes);
         }
         if count > limit - bytes.len() {
-            return Err(ReadFault::TooLong);
+            return Err(ReadError::TooLong);
         }
         bytes.extend_from_slice(&piece[..count])?;
     }

@@ -6,7 +6,7 @@ use Rattle.ucm_base.specs.declared.parts.Action.{Action}
 use Rattle.ucm_base.specs.declared.parts.Action.TheVariants.{Install, Update, Remove}
 use Rattle.ucm_base.specs.declared.parts.Manifest.{Manifest}
 use Rattle.ucm_base.specs.declared.parts.Need.{Need}
-use Rattle.package_reader.specs.declared.fault.PackageFault.{PackageFault}
+use Rattle.package_reader.specs.declared.fault.PackageError.{PackageError}
 use Rattle.package_reader.specs.declared.package.Package.{Package}
 use Rattle.ucm_prog.specs.declared.status.ExitStatus.TheVariants.{Successful}
 use Rattle.ucm_prog.specs.Refusals.{Output, package_refusal, refused_output}
@@ -28,6 +28,6 @@ package_line m size =
 abbrev pub shown : Manifest → ℕ → List ℕ
 shown m size = package_line m size ++ flat_map need_line m.needs
 
-abbrev pub inspected : Result Package PackageFault → Output
+abbrev pub inspected : Result Package PackageError → Output
 inspected (Ok p) = record { status = Successful; text = shown p.manifest (length p.payload) }
 inspected (Err fault) = refused_output (package_refusal fault)

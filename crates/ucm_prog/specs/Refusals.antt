@@ -1,8 +1,8 @@
 -- What is written where an input is refused.
 use Rattle.std.specs.Prelude.{ℕ, List, [], ◌∷◌, ◌++◌, codes}
 use Rattle.std.specs.Fmt.{decimal}
-use Rattle.package_reader.specs.declared.fault.PackageFault.{PackageFault}
-use Rattle.package_reader.specs.declared.fault.PackageFault.TheVariants.{PackageInconsistent, InvalidManifest, OutOfMemory}
+use Rattle.package_reader.specs.declared.fault.PackageError.{PackageError}
+use Rattle.package_reader.specs.declared.fault.PackageError.TheVariants.{PackageInconsistent, InvalidManifest, OutOfMemory}
 use Rattle.scenario.specs.declared.why.Why.{Why}
 use Rattle.scenario.specs.Reasons.{why_text}
 use Rattle.ucm_prog.specs.declared.status.ExitStatus.{ExitStatus}
@@ -21,7 +21,7 @@ abbrev pub line_refusal : ℕ → Why → List ℕ
 line_refusal line why = codes "line " ++ decimal line ++ codes " " ++ why_text why
 
 -- the fault of bytes that are no package
-abbrev pub package_refusal : PackageFault → List ℕ
+abbrev pub package_refusal : PackageError → List ℕ
 package_refusal (PackageInconsistent place) = codes "PackageInconsistent " ++ decimal place
 package_refusal InvalidManifest = codes "InvalidManifest"
 package_refusal OutOfMemory = []

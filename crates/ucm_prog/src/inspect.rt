@@ -8,7 +8,7 @@ ghost use Rattle.ucm_prog.specs.Refusals.{package_refusal, refused_output};
 
 use crate::output::{Output, refused};
 use crate::status::ExitStatus;
-use package_reader::{PackageFault, read_contents};
+use package_reader::{PackageError, read_contents};
 use std::alloc::{AllocError, Global};
 use ucm_base::{Action, Manifest, Need};
 
@@ -24,22 +24,22 @@ pub fn inspect(alloc: Global, input: &[u8]) -> Result<Output, AllocError>
                 bytes: text.into_bytes(),
             })
         }
-        Err(PackageFault::OutOfMemory) => Err(AllocError),
+        Err(PackageError::OutOfMemory) => Err(AllocError),
         Err(fault) => refused_package(alloc, fault),
     }
 }
 
-fn refused_package(alloc: Global, fault: PackageFault) -> Result<Output, AllocError>
+fn refused_package(alloc: Global, fault: PackageError) -> Result<Output, AllocError>
     ensures { IfOk result (λ o. IsOutput (refused_output (package_refusal fault))
         o.status o.bytes.items) }
 {
     let mut text = String::new(alloc);
     match fault {
-        PackageFault::PackageInconsistent { place } => {
+        PackageError::PackageInconsistent { place } => {
             write!(text, "refused PackageInconsistent {place}\n")?
         }
-        PackageFault::InvalidManifest => write!(text, "refused InvalidManifest\n")?,
-        PackageFault::OutOfMemory => return Err(AllocError),
+        PackageError::InvalidManifest => write!(text, "refused InvalidManifest\n")?,
+        PackageError::OutOfMemory => return Err(AllocError),
     }
     Ok(refused(text))
 }

@@ -11,7 +11,7 @@ ghost use Rattle.ucm_prog.specs.Installed.{IsAllowed};
 ghost use Rattle.ucm_prog.specs.Replay.{asked, begun, called, cluster_meant};
 
 use crate::answers::Given;
-use node_core::{Core, Hold, format_areas};
+use node_core::{Core, ReserveError, format_areas};
 use pm_types::{Call, Cluster, Query};
 use scenario::Installed;
 use std::alloc::{AllocError, Global};
@@ -69,8 +69,8 @@ fn formatted(alloc: Global, clusters: Vec<Cluster<Block>>) -> Result<Core<MemSta
     let mut staging = MemStaging::new(alloc)?;
     match format_areas(alloc, &mut staging, clusters) {
         Ok(state) => Ok(Core::new(staging, state)),
-        Err(Hold::OutOfMemory) => Err(AllocError),
-        Err(Hold::StagingFailed) => unreachable!(),
+        Err(ReserveError::OutOfMemory) => Err(AllocError),
+        Err(ReserveError::StagingFailed) => unreachable!(),
     }
 }
 
@@ -92,7 +92,7 @@ pub fn called(
     match core.reserve(alloc, client, no, call) {
         Ok(()) => Ok(Given::Reached(core.exec(client, no, call))),
         // Areas in memory never fail but for want of memory.
-        Err(Hold::OutOfMemory | Hold::StagingFailed) => Err(AllocError),
+        Err(ReserveError::OutOfMemory | ReserveError::StagingFailed) => Err(AllocError),
     }
 }
 
@@ -111,7 +111,7 @@ pub fn worked(
     match core.reserve_work(alloc) {
         Ok(()) => Ok(Given::Worked(core.work(fails))),
         // Areas in memory never fail but for want of memory.
-        Err(Hold::OutOfMemory | Hold::StagingFailed) => Err(AllocError),
+        Err(ReserveError::OutOfMemory | ReserveError::StagingFailed) => Err(AllocError),
     }
 }
 

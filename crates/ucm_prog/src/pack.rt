@@ -5,7 +5,7 @@ ghost use Rattle.ucm_prog.specs.Outputs.{IsOutput, packed_output};
 
 use crate::output::{Output, refused_line};
 use crate::status::ExitStatus;
-use recipe::{Kind, PackFault, pack};
+use recipe::{Kind, PackError, pack};
 use std::alloc::{AllocError, Global};
 
 /// What packing of a whole input writes.
@@ -18,7 +18,7 @@ pub fn pack_input(alloc: Global, input: &[u8], kind: Kind) -> Result<Output, All
             status: ExitStatus::Successful,
             bytes,
         }),
-        Err(PackFault::Refused { line, why }) => refused_line(alloc, line, why),
-        Err(PackFault::OutOfMemory) => Err(AllocError),
+        Err(PackError::Refused { line, why }) => refused_line(alloc, line, why),
+        Err(PackError::OutOfMemory) => Err(AllocError),
     }
 }

@@ -14,7 +14,7 @@ use crate::status::ExitStatus;
 use disk_core::Disk;
 use std::alloc::{AllocError, Global};
 use ucm_base::limits::INPUT_LIMIT;
-use ucm_ports::{ReadFault, Sink, Source, put_all, read_all};
+use ucm_ports::{ReadError, Sink, Source, put_all, read_all};
 
 const USAGE: &str =
     "usage: ucm run [full] | demo <number> | replay | inspect | pack package|vehicle|script\n";
@@ -39,9 +39,9 @@ pub fn ucm_plain<S: Source, K: Sink, D: Disk>(
     ensures output { IsEnded result.0
         → IsOutputOf (command_of (map string_bytes words.now)) (S.left source.old) result.0
         (K.written sink.old) (K.written sink.new) }
-    ensures read_fault { result.0 ≡ ExitStatus.ReadFault
+    ensures read_fault { result.0 ≡ ExitStatus.ReadError
         → HasRisen (S.fault_count source.old) (S.fault_count source.new) }
-    ensures read_fault_writes_nothing { result.0 ≡ ExitStatus.ReadFault
+    ensures read_fault_writes_nothing { result.0 ≡ ExitStatus.ReadError
         → sink.new ≡ sink.old }
     ensures write_fault { result.0 ≡ ExitStatus.WriteFault
         → HasRisen (K.fault_count sink.old) (K.fault_count sink.new) }
@@ -59,7 +59,7 @@ pub fn ucm_plain<S: Source, K: Sink, D: Disk>(
     };
     match run(alloc, command, source) {
         Ok(output) => (written(sink, output.bytes.as_slice(), output.status), disks),
-        Err(RunFault::Failed) => (ExitStatus::ReadFault, disks),
+        Err(RunFault::Failed) => (ExitStatus::ReadError, disks),
         Err(RunFault::OutOfMemory) => (ExitStatus::OutOfMemory, disks),
     }
 }
@@ -83,12 +83,12 @@ fn run<S: Source>(alloc: Global, command: Command, source: &mut S) -> Result<Out
             Ok(output) => Ok(output),
             Err(AllocError) => Err(RunFault::OutOfMemory),
         },
-        Err(ReadFault::TooLong) => match too_long(alloc) {
+        Err(ReadError::TooLong) => match too_long(alloc) {
             Ok(output) => Ok(output),
             Err(AllocError) => Err(RunFault::OutOfMemory),
         },
-        Err(ReadFault::Failed) => Err(RunFault::Failed),
-        Err(ReadFault::OutOfMemory) => Err(RunFault::OutOfMemory),
+        Err(ReadError::Failed) => Err(RunFault::Failed),
+        Err(ReadError::OutOfMemory) => Err(RunFault::OutOfMemory),
     }
 }
 

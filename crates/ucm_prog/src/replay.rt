@@ -15,7 +15,7 @@ use crate::node::{asked, begin, called, worked};
 use crate::output::{Output, refused_line};
 use crate::status::ExitStatus;
 use node_core::Core;
-use scenario::{Command, Event, EventLine, Script, ScriptFault, call_of, read_script};
+use scenario::{Command, Event, EventLine, Script, ScriptError, call_of, read_script};
 use std::alloc::{AllocError, Global};
 use transfer_blocks::MemStaging;
 
@@ -32,8 +32,8 @@ pub fn replay(alloc: Global, input: &[u8]) -> Result<Output, AllocError>
                 bytes: text.into_bytes(),
             })
         }
-        Err(ScriptFault::BadScenario { line, why }) => refused_line(alloc, line, why),
-        Err(ScriptFault::OutOfMemory) => Err(AllocError),
+        Err(ScriptError::BadScenario { line, why }) => refused_line(alloc, line, why),
+        Err(ScriptError::OutOfMemory) => Err(AllocError),
     }
 }
 

@@ -8,7 +8,7 @@ pub enum ExitStatus {
     Usage = 2,
     InputRefused = 3,
     LeftUnfinished = 4,
-    ReadFault = 5,
+    ReadError = 5,
     WriteFault = 6,
     OutOfMemory = 7,
 }

@@ -219,10 +219,10 @@ fn words_and_faults_have_their_statuses(rt: HostRuntime) -> Result<(), Fail> {
     assert_eq!(rt; status, ExitStatus::Usage);
     assert!(rt; written.as_slice().starts_with(b"usage: ucm run [full] | "));
     let (status, written) = outcome(rt.alloc(), "replay", script, &[1], &[])?;
-    assert_eq!(rt; status, ExitStatus::ReadFault);
+    assert_eq!(rt; status, ExitStatus::ReadError);
     assert!(rt; written.is_empty());
     let (status, written) = outcome(rt.alloc(), "replay", script, &[2], &[])?;
-    assert_eq!(rt; status, ExitStatus::ReadFault);
+    assert_eq!(rt; status, ExitStatus::ReadError);
     assert!(rt; written.is_empty());
     let (status, written) = outcome(rt.alloc(), "replay", script, &[], &[1])?;
     assert_eq!(rt; status, ExitStatus::WriteFault);

@@ -48,10 +48,10 @@ Follows k ps [] = Unit {0}
 Follows k ps (e ∷ es) = (call_at k (stage_after ps es) ≡ Some e.message.call) × Follows k ps es
 
 -- these transfers hold these packages, one each
-abbrev pub Hold : (N : NodeRules) → N.State → List ℕ → List (List ℕ) → Type 0
-Hold N s [] [] = Unit {0}
-Hold N s (id ∷ ids) (p ∷ ps) = Contains (N.transfers s) id × (N.received s id ≡ p) × Hold N s ids ps
-Hold N s _ _ = ⊥
+abbrev pub ReserveError : (N : NodeRules) → N.State → List ℕ → List (List ℕ) → Type 0
+ReserveError N s [] [] = Unit {0}
+ReserveError N s (id ∷ ids) (p ∷ ps) = Contains (N.transfers s) id × (N.received s id ≡ p) × ReserveError N s ids ps
+ReserveError N s _ _ = ⊥
 
 -- the id is none of these
 abbrev pub Apart : ℕ → List ℕ → Type 0
@@ -68,7 +68,7 @@ pub record Sends (N : NodeRules) (s : N.State) (ids : List ℕ) (left ps : List 
   pub done : List (List ℕ)
   pub all : done ++ left ≡ ps
   pub none : N.mine s ≡ None
-  pub hold : Hold N s ids done
+  pub hold : ReserveError N s ids done
 
 -- and one more has received all but these bytes of the next
 pub record Fills (N : NodeRules) (s : N.State) (ids : List ℕ) (id : ℕ) (bytes : List ℕ) (left ps : List (List ℕ)) : Type 0 where
@@ -76,7 +76,7 @@ pub record Fills (N : NodeRules) (s : N.State) (ids : List ℕ) (id : ℕ) (byte
   pub whole : List ℕ
   pub all : done ++ whole ∷ left ≡ ps
   pub none : N.mine s ≡ None
-  pub hold : Hold N s ids done
+  pub hold : ReserveError N s ids done
   pub there : Contains (N.transfers s) id
   pub apart : Apart id ids
   pub so_far : N.received s id ++ bytes ≡ whole
@@ -87,7 +87,7 @@ pub record Processes (N : NodeRules) (s : N.State) (k : ℕ) (ids : List ℕ) (p
   pub left : List (List ℕ)
   pub all : done ++ left ≡ ps
   pub has : Has N s k (flat_map N.changes_of done)
-  pub hold : Hold N s ids left
+  pub hold : ReserveError N s ids left
 
 -- the session has all changes and goes on by itself
 pub record Activates (N : NodeRules) (s : N.State) (k : ℕ) (ps : List (List ℕ)) : Type 0 where
@@ -152,24 +152,24 @@ pub record KeptLive (N : NodeRules) (f : Fold) (n : ℕ) (x : NodeWorld N) : Typ
 
 -- What the node is at each stage of the rounds: kept by foreign calls and units, and led on by the stage's call. From the laws of a node alone.
 module _ (N : NodeRules) (laws : NodeLaws N) where
-  hold-same : (s t : N.State) → KeepsTransfers N s t → (ids : List ℕ) (ps : List (List ℕ)) → Hold N s ids ps → Hold N t ids ps
+  hold-same : (s t : N.State) → KeepsTransfers N s t → (ids : List ℕ) (ps : List (List ℕ)) → ReserveError N s ids ps → ReserveError N t ids ps
   hold-same s t keeps [] [] h = tt
   hold-same s t keeps (id ∷ ids) (p ∷ ps) h = grind (arith, hold-same s t keeps ids ps h.2)
   hold-same s t keeps _ _ h = absurd h
 
   -- all that these transfers need is that they stay, and that no other than id changes
-  hold-apart : (s t : N.State) (id : ℕ) → ((x : ℕ) → Contains (N.transfers s) x → Contains (N.transfers t) x) → ((x : ℕ) → x ≢ id → N.received t x ≡ N.received s x) → (ids : List ℕ) (ps : List (List ℕ)) → Apart id ids → Hold N s ids ps → Hold N t ids ps
+  hold-apart : (s t : N.State) (id : ℕ) → ((x : ℕ) → Contains (N.transfers s) x → Contains (N.transfers t) x) → ((x : ℕ) → x ≢ id → N.received t x ≡ N.received s x) → (ids : List ℕ) (ps : List (List ℕ)) → Apart id ids → ReserveError N s ids ps → ReserveError N t ids ps
   hold-apart s t id stay same [] [] a h = tt
   hold-apart s t id stay same (x ∷ ids) (p ∷ ps) a h = (stay x h.0, same x a.0 ∙ h.1, hold-apart s t id stay same ids ps a.1 h.2)
   hold-apart s t id stay same _ _ a h = absurd h
 
   -- an id that isn't among the transfers is none of these
-  fresh-apart : (s : N.State) (id : ℕ) → (Contains (N.transfers s) id → ⊥) → (ids : List ℕ) (ps : List (List ℕ)) → Hold N s ids ps → Apart id ids
+  fresh-apart : (s : N.State) (id : ℕ) → (Contains (N.transfers s) id → ⊥) → (ids : List ℕ) (ps : List (List ℕ)) → ReserveError N s ids ps → Apart id ids
   fresh-apart s id fresh [] [] h = tt
   fresh-apart s id fresh (x ∷ ids) (p ∷ ps) h = (λ e. fresh (subst (λ y. Contains (N.transfers s) y) e h.0), fresh-apart s id fresh ids ps h.2)
   fresh-apart s id fresh _ _ h = absurd h
 
-  hold-push : (s : N.State) (ids : List ℕ) (ps : List (List ℕ)) (id : ℕ) (p : List ℕ) → Hold N s ids ps → Contains (N.transfers s) id → N.received s id ≡ p → Hold N s (ids ++ id ∷ []) (ps ++ p ∷ [])
+  hold-push : (s : N.State) (ids : List ℕ) (ps : List (List ℕ)) (id : ℕ) (p : List ℕ) → ReserveError N s ids ps → Contains (N.transfers s) id → N.received s id ≡ p → ReserveError N s (ids ++ id ∷ []) (ps ++ p ∷ [])
   hold-push s [] [] id p h there e = (there, e, tt)
   hold-push s (x ∷ ids) (q ∷ ps) id p h there e = (h.0, h.1, hold-push s ids ps id p h.2 there e)
   hold-push s _ _ id p h there e = absurd h
@@ -261,12 +261,12 @@ module _ (N : NodeRules) (laws : NodeLaws N) where
   led-process : (s : N.State) (k : ℕ) (ps : List (List ℕ)) (id : ℕ) (ids : List ℕ) (taken : ℕ) → IsAt N s k ps (At_process (id ∷ ids) taken) → IsLed s (ProcessSwPackage id k) k ps (At_process (id ∷ ids) taken)
   led-process s k ps id ids taken h = grind (arith, from, laws.process_replies, led-to, led-refused)
     where
-      next : (done left : List (List ℕ)) → done ++ left ≡ ps → Has N (N.judge s (ProcessSwPackage id k)).0 k (flat_map N.changes_of done) → (js : List ℕ) → Hold N (N.judge s (ProcessSwPackage id k)).0 js left → IsAt N (N.judge s (ProcessSwPackage id k)).0 k ps (next_processed js (suc taken))
+      next : (done left : List (List ℕ)) → done ++ left ≡ ps → Has N (N.judge s (ProcessSwPackage id k)).0 k (flat_map N.changes_of done) → (js : List ℕ) → ReserveError N (N.judge s (ProcessSwPackage id k)).0 js left → IsAt N (N.judge s (ProcessSwPackage id k)).0 k ps (next_processed js (suc taken))
       next done [] all has [] hold = subst (λ l. Has N (N.judge s (ProcessSwPackage id k)).0 k (flat_map N.changes_of l)) (sym (append-nil done) ∙ all) has
       next done (p ∷ left) all has [] hold = absurd hold
       next done left all has (j ∷ js) hold = record { done = done; left = left; all = all; has = has; hold = hold }
 
-      goes : (done : List (List ℕ)) (p : List ℕ) (left : List (List ℕ)) → done ++ p ∷ left ≡ ps → Hold N s (id ∷ ids) (p ∷ left) → N.planned s ≡ flat_map N.changes_of done ⊎ (done ≡ []) → (N.judge s (ProcessSwPackage id k)).1 ≡ Done → (N.mine (N.judge s (ProcessSwPackage id k)).0 ≡ Some k) × (N.status (N.judge s (ProcessSwPackage id k)).0 ≡ Processing) × (N.planned (N.judge s (ProcessSwPackage id k)).0 ≡ flat_map N.changes_of done) × (N.in_process (N.judge s (ProcessSwPackage id k)).0 ≡ Some id) → IsAt N (N.judge s (ProcessSwPackage id k)).0 k ps (next_processed ids (suc taken))
+      goes : (done : List (List ℕ)) (p : List ℕ) (left : List (List ℕ)) → done ++ p ∷ left ≡ ps → ReserveError N s (id ∷ ids) (p ∷ left) → N.planned s ≡ flat_map N.changes_of done ⊎ (done ≡ []) → (N.judge s (ProcessSwPackage id k)).1 ≡ Done → (N.mine (N.judge s (ProcessSwPackage id k)).0 ≡ Some k) × (N.status (N.judge s (ProcessSwPackage id k)).0 ≡ Processing) × (N.planned (N.judge s (ProcessSwPackage id k)).0 ≡ flat_map N.changes_of done) × (N.in_process (N.judge s (ProcessSwPackage id k)).0 ≡ Some id) → IsAt N (N.judge s (ProcessSwPackage id k)).0 k ps (next_processed ids (suc taken))
       goes done p left all hold planned d u =
           let keeps = laws.process_received s id k in
           let received : N.received (N.judge s (ProcessSwPackage id k)).0 id ≡ p = keeps.received id ∙ hold.1 in
@@ -276,13 +276,13 @@ module _ (N : NodeRules) (laws : NodeLaws N) where
             planned = grind (arith, append-nil, flat_map-append);
           }) ids (hold-same s (N.judge s (ProcessSwPackage id k)).0 keeps ids left hold.2)
 
-      first : (done : List (List ℕ)) → done ++ [] ≡ ps → N.mine s ≡ None → Hold N s (id ∷ ids) done → (N.judge s (ProcessSwPackage id k)).1 ≡ Done → IsAt N (N.judge s (ProcessSwPackage id k)).0 k ps (next_processed ids (suc taken))
+      first : (done : List (List ℕ)) → done ++ [] ≡ ps → N.mine s ≡ None → ReserveError N s (id ∷ ids) done → (N.judge s (ProcessSwPackage id k)).1 ≡ Done → IsAt N (N.judge s (ProcessSwPackage id k)).0 k ps (next_processed ids (suc taken))
       first [] all none hold d = absurd hold
       first (p ∷ left) all none hold d =
           let u = laws.process_idle s id k none d in
           goes [] p left (sym (append-nil (p ∷ left)) ∙ all) hold (inr refl) d (u.1, u.2, u.3, u.4)
 
-      later : (done left : List (List ℕ)) → done ++ left ≡ ps → Has N s k (flat_map N.changes_of done) → Hold N s (id ∷ ids) left → (N.judge s (ProcessSwPackage id k)).1 ≡ Done → IsAt N (N.judge s (ProcessSwPackage id k)).0 k ps (next_processed ids (suc taken))
+      later : (done left : List (List ℕ)) → done ++ left ≡ ps → Has N s k (flat_map N.changes_of done) → ReserveError N s (id ∷ ids) left → (N.judge s (ProcessSwPackage id k)).1 ≡ Done → IsAt N (N.judge s (ProcessSwPackage id k)).0 k ps (next_processed ids (suc taken))
       later done [] all has hold d = absurd hold
       later done (p ∷ left) all has hold d = grind (arith, laws.process_ready, flat_map, goes)
 

@@ -1,7 +1,7 @@
 use Rattle.std.proofs.Common.{◌≡◌, ◌⊎◌, Result, Ok, Err, inl, inr, rules, sym, ◌∙◌}
 use Rattle.std.proofs.lemmas.Result.{IfOk-weaker, IfErr-weaker}
-use Rattle.package_reader.specs.declared.fault.PackageFault.{PackageFault}
-use Rattle.package_reader.specs.declared.fault.PackageFault.TheVariants.{OutOfMemory}
+use Rattle.package_reader.specs.declared.fault.PackageError.{PackageError}
+use Rattle.package_reader.specs.declared.fault.PackageError.TheVariants.{OutOfMemory}
 use Rattle.package_reader.specs.declared.package.Package.{Package}
 use Rattle.package_reader.specs.Reading.{reading}
 use Rattle.package_reader.specs.Spelling.{package_of}
@@ -12,7 +12,7 @@ pub returns-clause-package : goal.returns-clause-package
 returns-clause-package c =
     IfOk-weaker c.contents_of.result _ _ (λ x e. reading_is_package c.args.bytes.now (package_of x) (λ i. let small = c.type_inv.bytes i in search rules) e) c.contents_of.ensures.ok
 
-memory_or : (read : Result Package PackageFault) (p : Package) (e : PackageFault) → read ≡ Ok p → (e ≡ OutOfMemory) ⊎ (read ≡ Err e) → e ≡ OutOfMemory
+memory_or : (read : Result Package PackageError) (p : Package) (e : PackageError) → read ≡ Ok p → (e ≡ OutOfMemory) ⊎ (read ≡ Err e) → e ≡ OutOfMemory
 memory_or read p e is (inl memory) = memory
 memory_or read p e is (inr refused) = absurd (never_both p e (sym is ∙ refused))
 
