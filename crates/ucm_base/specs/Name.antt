@@ -1,6 +1,7 @@
 -- The form of a cluster's name: 1 to 32 of `a` to `z`, `0` to `9` and `_`, with a letter first.
 use Rattle.std.specs.Prelude.{◌&&◌, ◌||◌, ◌==◌, ℕ, nat_le, Bool, false, List, [], ◌∷◌, length}
 use Rattle.std.specs.List.{list_all}
+use Rattle.ucm_base.specs.Limits.{name_limit}
 
 -- `a` to `z`
 abbrev pub is_letter : ℕ → Bool
@@ -15,4 +16,4 @@ begins_with_letter [] = false
 begins_with_letter (b ∷ rest) = is_letter b
 
 abbrev pub is_cluster_name : List ℕ → Bool
-is_cluster_name text = begins_with_letter text && nat_le (length text) 32 && list_all is_name_byte text
+is_cluster_name text = begins_with_letter text && nat_le (length text) name_limit && list_all is_name_byte text

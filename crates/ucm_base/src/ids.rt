@@ -14,12 +14,13 @@ pub struct ClientId {
 
 impl Model for ClientId {
     ghost use Rattle.std.specs.Prelude.{ℕ, ◌<◌};
+    ghost use Rattle.ucm_base.specs.Limits.{client_limit};
 
     ghost Value = { ℕ };
 
     ghost view = { λ a. a.number };
 
-    ghost invariant = { λ a. a.number < 32 };
+    ghost invariant = { λ a. a.number < client_limit };
 
     ghost inverse = { λ n. record { number = n } };
 }
@@ -67,12 +68,13 @@ pub struct NodeId {
 
 impl Model for NodeId {
     ghost use Rattle.std.specs.Prelude.{ℕ, ◌≤◌};
+    ghost use Rattle.ucm_base.specs.Limits.{node_limit};
 
     ghost Value = { ℕ };
 
     ghost view = { λ a. a.number };
 
-    ghost invariant = { λ a. (1 ≤ a.number) × (a.number ≤ 8) };
+    ghost invariant = { λ a. (1 ≤ a.number) × (a.number ≤ node_limit) };
 
     ghost inverse = { λ n. record { number = n } };
 }
@@ -104,7 +106,7 @@ impl NodeId {
 /// A set of nodes: the flag of node n stands at place n - 1.
 #[derive(Clone, Copy, Debug, PartialEq, Eq)]
 pub struct NodeSet {
-    pub flags: [bool; 8],
+    pub flags: [bool; NODE_LIMIT as usize],
 }
 
 /// The number of a call: an epoch, and a number within it. Ordered by epoch, then by number.

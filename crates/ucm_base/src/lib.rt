@@ -15,7 +15,7 @@ mod versions;
 
 pub use ids::{CallNo, ClientId, NodeId, NodeSet};
 pub use name::{ClusterName, NameError};
-pub use parts::{Action, Block, Manifest, Need, Needs};
+pub use parts::{Action, Block, Manifest, Need, Needs, Part};
 pub use rows::Rows;
 pub use short::ShortText;
 pub use versions::{ReqText, TextError, VersionText};

@@ -4,25 +4,26 @@ ghost use Rattle.std.specs.List.{list_all};
 ghost use Rattle.std.specs.Ordering.{nat_cmp};
 ghost use Rattle.std.specs.Cmp.{partial_equiv_from_equiv};
 ghost use Rattle.std.specs.Cmp.Lexicographic.{nat_list_cmp_total, nat_list_eq_equiv, pointwise, slice_cmp, texts_po, texts_ties};
+ghost use Rattle.ucm_base.specs.Limits.{name_limit};
 ghost use Rattle.ucm_base.specs.Name.{begins_with_letter, is_cluster_name, is_letter, is_name_byte};
 
+use crate::limits::NAME_LIMIT;
 use std::cmp::Ordering;
 use std::marker::Model;
 use std::{fmt, str};
-
-const LIMIT: usize = 32;
 
 /// A name of 1 to 32 bytes `a`-`z`, `0`-`9` and `_`, a letter first, seen as its bytes.
 ///
 /// Names are ordered by their bytes.
 #[derive(Clone, Copy)]
 pub struct ClusterName {
-    bytes: [u8; 32],
+    bytes: [u8; NAME_LIMIT],
     len: usize,
 }
 
 impl Model for ClusterName {
     ghost use Rattle.std.specs.Prelude.{ℕ, List, ◌≡◌, length, take, true};
+    ghost use Rattle.ucm_base.specs.Limits.{name_limit};
     ghost use Rattle.ucm_base.specs.Name.{is_cluster_name};
     ghost use Rattle.ucm_base.specs.Padding.{IsPadded, padded, padded-again};
 
@@ -30,13 +31,13 @@ impl Model for ClusterName {
 
     ghost view = { λ s. take s.len s.bytes };
 
-    ghost invariant = { λ s. IsPadded 32 s.bytes s.len
+    ghost invariant = { λ s. IsPadded name_limit s.bytes s.len
         × (is_cluster_name (take s.len s.bytes) ≡ true) };
 
-    ghost inverse = { λ xs. record { bytes = padded 32 xs; len = length xs } };
+    ghost inverse = { λ xs. record { bytes = padded name_limit xs; len = length xs } };
 
     ghost inverse_ok = { λ s h i. record {
-      bytes = padded-again 32 s.bytes s.len h.0 i;
+      bytes = padded-again name_limit s.bytes s.len h.0 i;
       len = h.0.0 i;
     } };
 }
@@ -74,9 +75,9 @@ fn all_allowed(bytes: &[u8]) -> bool
 
 fn is_name(bytes: &[u8]) -> bool
     ensures name { result ≡ is_cluster_name bytes.now }
-    ensures fits { IsTrue result → length bytes.now ≤ 32 }
+    ensures fits { IsTrue result → length bytes.now ≤ name_limit }
 {
-    starts(bytes) && bytes.len() <= LIMIT && all_allowed(bytes)
+    starts(bytes) && bytes.len() <= NAME_LIMIT && all_allowed(bytes)
 }
 
 impl ClusterName {
@@ -92,11 +93,11 @@ impl ClusterName {
     }
 
     fn padded(text: &[u8]) -> ClusterName
-        requires fits { length text.now ≤ 32 }
+        requires fits { length text.now ≤ name_limit }
         requires name { is_cluster_name text.now ≡ true }
         ensures { result ≡ text.now }
     {
-        let mut bytes = [0u8; 32];
+        let mut bytes = [0u8; NAME_LIMIT];
         let len = text.len();
         bytes[..len].copy_from_slice(text);
         ClusterName { bytes, len }

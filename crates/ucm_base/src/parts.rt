@@ -75,13 +75,14 @@ pub struct Needs {
 
 impl Model for Needs {
     ghost use Rattle.std.specs.Prelude.{List, ◌≤◌, length};
+    ghost use Rattle.ucm_base.specs.Limits.{need_limit};
     ghost use Rattle.ucm_base.specs.declared.parts.Need.{Need};
 
     ghost Value = { List Need };
 
     ghost view = { λ a. a.items.items };
 
-    ghost invariant = { λ a. length a.items.items ≤ 16 };
+    ghost invariant = { λ a. length a.items.items ≤ need_limit };
 }
 
 impl Needs {
@@ -137,4 +138,11 @@ impl Manifest {
             sha256: self.sha256,
         })
     }
+}
+
+/// What a software package brings for one cluster. `C` is what its payload is: the bytes themselves, or where they lie.
+#[derive(Drop)]
+pub struct Part<C> {
+    pub manifest: Manifest,
+    pub payload: C,
 }

@@ -1,5 +1,5 @@
 //! Lists that contracts see as lists.
-ghost use Rattle.std.specs.Prelude.{◌≡◌, ◌++◌, ◌∷◌, [], OnOk};
+ghost use Rattle.std.specs.Prelude.{◌≡◌, ◌++◌, ◌∷◌, [], OnErr, OnOk};
 
 use std::alloc::{AllocError, Global};
 use std::marker::Model;
@@ -44,7 +44,8 @@ impl<T: Drop> Rows<T> {
 
     /// Adds an item behind the others.
     pub fn push(&mut self, item: T) -> Result<(), AllocError>
-        ensures { OnOk result (self.new ≡ self.old ++ item ∷ []) }
+        ensures ok { OnOk result (self.new ≡ self.old ++ item ∷ []) }
+        ensures err { OnErr result (self.new ≡ self.old) }
     {
         self.items.push(item)?;
         Ok(())

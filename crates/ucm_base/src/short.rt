@@ -1,22 +1,23 @@
 //! Short texts, which take no memory.
 ghost use Rattle.std.specs.Prelude.{◌≡◌, ◌≤◌, ◌<◌, ◌↔◌, length, IfSome, IsSome, IsTrue, true, option_map, if◌then◌else◌};
 ghost use Rattle.std.specs.List.{list_all};
+ghost use Rattle.ucm_base.specs.Limits.{text_limit};
 ghost use Rattle.ucm_base.specs.Short.{is_short, is_visible};
 
+use crate::limits::TEXT_LIMIT;
 use std::marker::Model;
 use std::{fmt, str};
-
-const LIMIT: usize = 64;
 
 /// A text of 1 to 64 visible ASCII characters, seen as its bytes.
 #[derive(Clone, Copy)]
 pub struct ShortText {
-    bytes: [u8; 64],
+    bytes: [u8; TEXT_LIMIT],
     len: usize,
 }
 
 impl Model for ShortText {
     ghost use Rattle.std.specs.Prelude.{ℕ, List, ◌≡◌, length, take, true};
+    ghost use Rattle.ucm_base.specs.Limits.{text_limit};
     ghost use Rattle.ucm_base.specs.Short.{is_short};
     ghost use Rattle.ucm_base.specs.Padding.{IsPadded, padded, padded-again};
 
@@ -24,12 +25,12 @@ impl Model for ShortText {
 
     ghost view = { λ s. take s.len s.bytes };
 
-    ghost invariant = { λ s. IsPadded 64 s.bytes s.len × (is_short (take s.len s.bytes) ≡ true) };
+    ghost invariant = { λ s. IsPadded text_limit s.bytes s.len × (is_short (take s.len s.bytes) ≡ true) };
 
-    ghost inverse = { λ xs. record { bytes = padded 64 xs; len = length xs } };
+    ghost inverse = { λ xs. record { bytes = padded text_limit xs; len = length xs } };
 
     ghost inverse_ok = { λ s h i. record {
-      bytes = padded-again 64 s.bytes s.len h.0 i;
+      bytes = padded-again text_limit s.bytes s.len h.0 i;
       len = h.0.0 i;
     } };
 }
@@ -42,10 +43,10 @@ fn is_visible_byte(b: u8) -> bool
 
 pub(crate) fn is_short_text(bytes: &[u8]) -> bool
     ensures short { result ≡ is_short bytes.now }
-    ensures fits { IsTrue result → length bytes.now ≤ 64 }
+    ensures fits { IsTrue result → length bytes.now ≤ text_limit }
 {
     let len = bytes.len();
-    len >= 1 && len <= LIMIT && is_visible_text(bytes)
+    len >= 1 && len <= TEXT_LIMIT && is_visible_text(bytes)
 }
 
 fn is_visible_text(bytes: &[u8]) -> bool
@@ -66,11 +67,11 @@ impl ShortText {
     }
 
     fn padded(text: &[u8]) -> ShortText
-        requires fits { length text.now ≤ 64 }
+        requires fits { length text.now ≤ text_limit }
         requires short { is_short text.now ≡ true }
         ensures { result ≡ text.now }
     {
-        let mut bytes = [0u8; 64];
+        let mut bytes = [0u8; TEXT_LIMIT];
         let len = text.len();
         bytes[..len].copy_from_slice(text);
         ShortText { bytes, len }
