@@ -17,7 +17,8 @@ pub found : (m v : ℕ) → Some v ≡ below_u64 m → v ≡ m
 found m v some = grind (arith, nat_tests)
 
 -- the digit at a place is the next one
-pub next : (value i : ℕ) (digits : List ℕ) → i < length digits → value_from value (drop i digits) ≡ value_from (value * 10 + (get_or digits i 0 - 48)) (drop (i + 1) digits)
+pub next : (value i : ℕ) (digits : List ℕ) → i < length digits
+    → value_from value (drop i digits) ≡ value_from (value * 10 + (get_or digits i 0 - 48)) (drop (i + 1) digits)
 next value i digits h = ap (value_from value) (drop-cons digits i 0 h) ∙ rw add-one refl
 
 -- a value that fits is found

@@ -7,6 +7,8 @@
 
 mod put;
 mod take;
+#[cfg(test)]
+mod tests;
 mod unique;
 
 pub use put::{put_bytes, put_u8, put_u16, put_u32, put_u64};
