@@ -1,2 +1,3 @@
-pub mod Faults
+pub mod Plan
 pub mod Memory
+pub mod Reading

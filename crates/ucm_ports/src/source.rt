@@ -1,8 +1,10 @@
 //! Sources of bytes.
-ghost use Rattle.std.specs.Prelude.{◌≡◌, ◌++◌, ◌+◌, ◌<◌, ◌≤◌, ℕ, List, [], Option, length, take, vec_len, option_map, IfOk, IfErr, OnErr, OnOk, IfSome};
-ghost use Rattle.ucm_ports.specs.Faults.{HasRisen};
+ghost use Rattle.std.specs.Prelude.{◌≡◌, ◌++◌, ◌+◌, ◌<◌, ◌≤◌, ℕ, List, [], Option, None, Some, length, take, vec_len, option_map, IfOk, IfErr, OnErr, OnOk, IfSome};
+ghost use Rattle.std.specs.Result.{result_ok};
+ghost use Rattle.fault_count.specs.Faults.{HasRisen};
+ghost use Rattle.ucm_ports.specs.Reading.{whole};
 
-use crate::Failed;
+use crate::PortError;
 use std::alloc::{AllocError, Global};
 
 /// The bytes that one call of [`read_all`] asks for at a time.
@@ -16,8 +18,12 @@ pub trait Source {
     // The failed calls so far, as far as a u64 counts.
     ghost fault_count: { Self → ℕ };
 
+    // What this kind of source says of a take into so many bytes, and how many it gave: nothing, unless an impl says
+    // more.
+    ghost obeys: { Self → ℕ → Option ℕ → Self → Type 0 } = { λ _ _ _ _. Unit {0} };
+
     /// Takes bytes from the front of what is left, and answers how many: 0 only at the end, or into an empty buffer.
-    fn take(&mut self, into: &mut [u8]) -> Result<usize, Failed>
+    fn take(&mut self, into: &mut [u8]) -> Result<usize, PortError>
         ensures within { IfOk result (λ n. n ≤ length into.new) }
         ensures taken { IfOk result (λ n. left self.old
             ≡ option_map (λ rest. take n into.new ++ rest) (left self.new)) }
@@ -25,7 +31,8 @@ pub trait Source {
             → IfSome (left self.old) (λ rest. rest ≡ [])) }
         ensures failed { OnErr result (left self.new ≡ left self.old) }
         ensures cause { OnErr result (HasRisen (fault_count self.old) (fault_count self.new)) }
-        ensures count { fault_count self.old ≤ fault_count self.new };
+        ensures count { fault_count self.old ≤ fault_count self.new }
+        ensures own { obeys self.old (length into.new) (result_ok result) self.new };
 
     /// The count of failed calls. It stays at `u64::MAX` once it is there.
     fn faults(&self) -> u64
@@ -42,13 +49,13 @@ pub enum ReadError {
     OutOfMemory,
 }
 
-impl From<Failed> for ReadError {
+impl From<PortError> for ReadError {
     ghost use Rattle.std.specs.Prelude.{◌≡◌};
     ghost use Rattle.ucm_ports.specs.declared.source.ReadError.TheVariants as fault;
 
     ghost from_gives = { λ _ e. e ≡ fault.Failed };
 
-    fn from(_failed: Failed) -> ReadError {
+    fn from(_failed: PortError) -> ReadError {
         ReadError::Failed
     }
 }
@@ -70,11 +77,12 @@ pub fn read_all<S: Source>(
     source: &mut S,
     limit: usize,
 ) -> Result<Vec<u8>, ReadError>
-    ensures all { IfOk result (λ bytes. IfSome (S.left source.old) (λ left. bytes.items ≡ left)) }
+    ensures all { IfOk result (λ bytes. IfSome (S.left source.old)
+        (λ left. whole limit left ≡ Some bytes.items)) }
     ensures end { OnOk result (IfSome (S.left source.new) (λ left. left ≡ [])) }
     ensures within { IfOk result (λ bytes. vec_len bytes ≤ limit) }
     ensures too_long { IfErr result (λ e. e ≡ ReadError.TooLong
-        → IfSome (S.left source.old) (λ left. limit < length left)) }
+        → IfSome (S.left source.old) (λ left. whole limit left ≡ None)) }
     ensures cause { IfErr result (λ e. e ≡ ReadError.Failed
         → HasRisen (S.fault_count source.old) (S.fault_count source.new)) }
     ensures count { S.fault_count source.old ≤ S.fault_count source.new }

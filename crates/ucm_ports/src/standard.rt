@@ -1,6 +1,7 @@
 //! Adapters over std's readers and writers, which tell nothing of their bytes.
 
-use crate::{Failed, Sink, Source};
+use crate::{PortError, Sink, Source};
+use fault_count::one_more;
 use std::io::{Read, Write};
 
 /// A reader of std as a source. Each `Err` is a fault.
@@ -24,12 +25,12 @@ impl<R: Read + Drop> Source for StdSource<R> {
 
     ghost fault_count = { λ s. s.faults };
 
-    fn take(&mut self, into: &mut [u8]) -> Result<usize, Failed> {
+    fn take(&mut self, into: &mut [u8]) -> Result<usize, PortError> {
         match self.reader.read(into) {
             Ok(count) => Ok(count),
             Err(_) => {
-                self.faults = self.faults.saturating_add(1);
-                Err(Failed)
+                self.faults = one_more(self.faults);
+                Err(PortError)
             }
         }
     }
@@ -60,12 +61,12 @@ impl<W: Write + Drop> Sink for StdSink<W> {
 
     ghost fault_count = { λ s. s.faults };
 
-    fn put(&mut self, bytes: &[u8]) -> Result<usize, Failed> {
+    fn put(&mut self, bytes: &[u8]) -> Result<usize, PortError> {
         match self.writer.write(bytes) {
             Ok(count) if count > 0 || bytes.is_empty() => Ok(count),
             _ => {
-                self.faults = self.faults.saturating_add(1);
-                Err(Failed)
+                self.faults = one_more(self.faults);
+                Err(PortError)
             }
         }
     }

@@ -4,5 +4,7 @@ use Rattle.ucm_ports.proofs.memory.MemSourceSource.take.Goals as goal
 
 pub returns-clause-taken : goal.returns-clause-taken
 returns-clause-taken c =
-    rw (← c.self.view_is, c.copy_front-count.ensures.copied, c.deref.ensures.value)
-    (ap Some (taken-next c.self.inside.at c.copy_front-count.result c.self.inside.bytes.items))
+    let bytes = c.self.inside.bytes.items in
+    rw (← c.self.view_is)
+    (ap Some (taken-next c.self.inside.at c.min-count.result bytes _
+    (rw c.deref.ensures.value at c.copy_at.ensures.copied)))
