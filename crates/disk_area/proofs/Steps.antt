@@ -10,14 +10,19 @@ pub torn_both : (at n : ℕ) (a b c : List ℕ) → Torn at n a b → Torn at n 
 torn_both at n a b c s t = record { size = t.size ∙ s.size; before = t.before ∙ s.before; after = t.after ∙ s.after }
 
 -- no step
-pub stays : (area : Area) (step : List ℕ → List ℕ → Type 0) (a : List ℕ) → step (window area a) (window area a) → InArea area step a a
+pub stays : (area : Area) (step : List ℕ → List ℕ → Type 0) (a : List ℕ) → step (window area a) (window area a)
+    → InArea area step a a
 stays area step a s = record { outside = torn_none area.at area.len a; inside = s }
 
 -- two steps
-pub both : (area : Area) (first second whole : List ℕ → List ℕ → Type 0) (a b c : List ℕ) → InArea area first a b → InArea area second b c
-    → (first (window area a) (window area b) → second (window area b) (window area c) → whole (window area a) (window area c)) → InArea area whole a c
-both area first second whole a b c s t join = record { outside = torn_both area.at area.len a b c s.outside t.outside; inside = join s.inside t.inside }
+pub both : (area : Area) (first second whole : List ℕ → List ℕ → Type 0) (a b c : List ℕ) → InArea area first a b
+    → InArea area second b c
+    → (first (window area a) (window area b) → second (window area b) (window area c)
+    → whole (window area a) (window area c)) → InArea area whole a c
+both area first second whole a b c s t join =
+    record { outside = torn_both area.at area.len a b c s.outside t.outside; inside = join s.inside t.inside }
 
 -- a weaker step
-pub as_step : (area : Area) (step weak : List ℕ → List ℕ → Type 0) (a b : List ℕ) → InArea area step a b → (step (window area a) (window area b) → weak (window area a) (window area b)) → InArea area weak a b
+pub as_step : (area : Area) (step weak : List ℕ → List ℕ → Type 0) (a b : List ℕ) → InArea area step a b
+    → (step (window area a) (window area b) → weak (window area a) (window area b)) → InArea area weak a b
 as_step area step weak a b s weaken = record { outside = s.outside; inside = weaken s.inside }

@@ -8,28 +8,35 @@ use Rattle.disk_area.specs.declared.area.Area.{Area}
 use Rattle.disk_area.specs.Windows.{window, IsInside, InArea}
 
 pub length-window : (area : Area) (bytes : List ℕ) → IsInside area bytes → length (window area bytes) ≡ area.len
-length-window area bytes inside = length-take-le area.len (drop area.at bytes) (omega (arith, length-drop area.at bytes, inside))
+length-window area bytes inside =
+    length-take-le area.len (drop area.at bytes) (omega (arith, length-drop area.at bytes, inside))
 
 -- a range of the window is one of the disk
-pub window_range : (area : Area) (bytes : List ℕ) (i j : ℕ) → i ≤ j → j ≤ area.len → slice_range bytes (area.at + i) (area.at + j) ≡ slice_range (window area bytes) i j
+pub window_range : (area : Area) (bytes : List ℕ) (i j : ℕ) → i ≤ j → j ≤ area.len
+    → slice_range bytes (area.at + i) (area.at + j) ≡ slice_range (window area bytes) i j
 window_range area bytes i j le fits =
-    (λ t. take (same t) (sym (drop-drop i area.at bytes) t)) ∙ sym (range_take (drop area.at bytes) area.len i j le fits)
+    (λ t. take (same t) (sym (drop-drop i area.at bytes) t))
+    ∙ sym (range_take (drop area.at bytes) area.len i j le fits)
   where
     same : area.at + j - (area.at + i) ≡ j - i
     same = omega (arith, le)
 
 -- what is behind k bytes of a window
-window_rest : (area : Area) (k : ℕ) (bytes : List ℕ) → k ≤ area.len → drop k (window area bytes) ≡ take (area.len - k) (drop (area.at + k) bytes)
+window_rest : (area : Area) (k : ℕ) (bytes : List ℕ) → k ≤ area.len
+    → drop k (window area bytes) ≡ take (area.len - k) (drop (area.at + k) bytes)
 window_rest area k bytes le =
     let is : area.len ≡ k + (area.len - k) = omega (arith, le) in
-    ap (λ (m : ℕ). drop k (take m (drop area.at bytes))) is ∙ drop-take k (area.len - k) (drop area.at bytes) ∙ ap (λ (xs : List ℕ). take (area.len - k) xs) (drop-drop k area.at bytes)
+    ap (λ (m : ℕ). drop k (take m (drop area.at bytes))) is ∙ drop-take k (area.len - k) (drop area.at bytes)
+    ∙ ap (λ (xs : List ℕ). take (area.len - k) xs) (drop-drop k area.at bytes)
 
 -- a torn range within the window
-pub window_torn : (area : Area) (k n : ℕ) (old new : List ℕ) → k + n ≤ area.len → IsInside area old → Torn (area.at + k) n old new → InArea area (Torn k n) old new
+pub window_torn : (area : Area) (k n : ℕ) (old new : List ℕ) → k + n ≤ area.len → IsInside area old
+    → Torn (area.at + k) n old new → InArea area (Torn k n) old new
 window_torn area k n old new fits inside torn = record {
   outside = record {
     size = torn.size;
-    before = sym (take-take area.at (area.at + k) new (omega arith)) ∙ ap (λ (xs : List ℕ). take area.at xs) torn.before ∙ take-take area.at (area.at + k) old (omega arith);
+    before = sym (take-take area.at (area.at + k) new (omega arith))
+        ∙ ap (λ (xs : List ℕ). take area.at xs) torn.before ∙ take-take area.at (area.at + k) old (omega arith);
     after = further new ∙ ap (λ (xs : List ℕ). drop (area.len - (k + n)) xs) torn.after ∙ sym (further old);
   };
   inside = record {
@@ -40,7 +47,8 @@ window_torn area k n old new fits inside torn = record {
 }
   where
     further : (xs : List ℕ) → drop (area.at + area.len) xs ≡ drop (area.len - (k + n)) (drop (area.at + k + n) xs)
-    further xs = ap (λ (m : ℕ). drop m xs) (omega (arith, fits)) ∙ sym (drop-drop (area.len - (k + n)) (area.at + k + n) xs)
+    further xs = ap (λ (m : ℕ). drop m xs) (omega (arith, fits))
+        ∙ sym (drop-drop (area.len - (k + n)) (area.at + k + n) xs)
 
     fronts : (xs : List ℕ) → take k (window area xs) ≡ drop area.at (take (area.at + k) xs)
     fronts xs = take-take k area.len (drop area.at xs) (omega (arith, fits)) ∙ sym (drop-take area.at k xs)
@@ -49,30 +57,46 @@ window_torn area k n old new fits inside torn = record {
     rest xs = window_rest area (k + n) xs fits ∙ ap (λ (m : ℕ). take (area.len - (k + n)) (drop m xs)) (omega arith)
 
 -- a piece that is put within the window
-pub window_put : (area : Area) (k : ℕ) (piece old new : List ℕ) → k + length piece ≤ area.len → IsInside area old → Puts (area.at + k) piece old new → InArea area (Puts k piece) old new
+pub window_put : (area : Area) (k : ℕ) (piece old new : List ℕ) → k + length piece ≤ area.len → IsInside area old
+    → Puts (area.at + k) piece old new → InArea area (Puts k piece) old new
 window_put area k piece old new fits inside is = record {
-  outside = (window_torn area k (length piece) old new fits inside (subst (λ (xs : List ℕ). Torn (area.at + k) (length piece) old xs) (sym is) (put_torn (area.at + k) piece old (omega (arith, fits, inside))))).outside;
+  outside = (window_torn area k (length piece) old new fits inside
+      (subst (λ (xs : List ℕ). Torn (area.at + k) (length piece) old xs) (sym is)
+      (put_torn (area.at + k) piece old (omega (arith, fits, inside))))).outside;
   inside = ap (λ (xs : List ℕ). window area xs) is
-      ∙ ap (λ (xs : List ℕ). take area.len xs) (ap (λ (xs : List ℕ). drop area.at (put_at xs (area.at + k) piece)) (sym (take-append-drop area.at old)) ∙ ap (λ (xs : List ℕ). drop area.at xs) behind ∙ drop_at (take area.at old) (put_at (drop area.at old) k piece) area.at front)
+      ∙ ap (λ (xs : List ℕ). take area.len xs)
+      (ap (λ (xs : List ℕ). drop area.at (put_at xs (area.at + k) piece)) (sym (take-append-drop area.at old))
+      ∙ ap (λ (xs : List ℕ). drop area.at xs) behind
+      ∙ drop_at (take area.at old) (put_at (drop area.at old) k piece) area.at front)
       ∙ put_take (drop area.at old) area.len k piece fits (omega (arith, length-drop area.at old, inside));
 }
   where
     front : length (take area.at old) ≡ area.at
     front = length-take-le area.at old (omega (arith, inside))
 
-    behind : put_at (take area.at old ++ drop area.at old) (area.at + k) piece ≡ take area.at old ++ put_at (drop area.at old) k piece
+    behind : put_at (take area.at old ++ drop area.at old) (area.at + k) piece ≡ take area.at old ++ put_at
+        (drop area.at old) k piece
     behind = put_back (take area.at old) (drop area.at old) (area.at + k) k piece (omega (arith, front))
 
 -- a window beside the one that changes
-pub window_apart : (area other : Area) (old new : List ℕ) → (other.at + other.len ≤ area.at) ⊎ (area.at + area.len ≤ other.at) → Torn area.at area.len old new → window other new ≡ window other old
-window_apart area other old new (inl before) torn = fronts new ∙ ap (λ (xs : List ℕ). drop other.at (take (other.at + other.len) xs)) torn.before ∙ sym (fronts old)
+pub window_apart : (area other : Area) (old new : List ℕ)
+    → (other.at + other.len ≤ area.at) ⊎ (area.at + area.len ≤ other.at) → Torn area.at area.len old new
+    → window other new ≡ window other old
+window_apart area other old new (inl before) torn =
+    fronts new ∙ ap (λ (xs : List ℕ). drop other.at (take (other.at + other.len) xs)) torn.before ∙ sym (fronts old)
   where
     fronts : (xs : List ℕ) → window other xs ≡ drop other.at (take (other.at + other.len) (take area.at xs))
-    fronts xs = sym (ap (λ (ys : List ℕ). drop other.at ys) (take-take (other.at + other.len) area.at xs before) ∙ drop-take other.at other.len xs)
-window_apart area other old new (inr behind) torn = backs new ∙ ap (λ (xs : List ℕ). take other.len (drop (other.at - (area.at + area.len)) xs)) torn.after ∙ sym (backs old)
+    fronts xs = sym (ap (λ (ys : List ℕ). drop other.at ys) (take-take (other.at + other.len) area.at xs before)
+        ∙ drop-take other.at other.len xs)
+window_apart area other old new (inr behind) torn =
+    backs new ∙ ap (λ (xs : List ℕ). take other.len (drop (other.at - (area.at + area.len)) xs)) torn.after
+    ∙ sym (backs old)
   where
     place : other.at ≡ area.at + area.len + (other.at - (area.at + area.len))
     place = omega (arith, behind)
 
-    backs : (xs : List ℕ) → window other xs ≡ take other.len (drop (other.at - (area.at + area.len)) (drop (area.at + area.len) xs))
-    backs xs = ap (λ (n : ℕ). take other.len (drop n xs)) place ∙ ap (λ (ys : List ℕ). take other.len ys) (sym (drop-drop (other.at - (area.at + area.len)) (area.at + area.len) xs))
+    backs : (xs : List ℕ) → window other xs ≡ take other.len
+        (drop (other.at - (area.at + area.len)) (drop (area.at + area.len) xs))
+    backs xs = ap (λ (n : ℕ). take other.len (drop n xs)) place
+        ∙ ap (λ (ys : List ℕ). take other.len ys)
+        (sym (drop-drop (other.at - (area.at + area.len)) (area.at + area.len) xs))

@@ -1,12 +1,13 @@
 //! A window of a disk.
-ghost use Rattle.std.specs.Prelude.{◌≡◌, ◌+◌, ◌≤◌, length, slice_range, IfOk, OnOk, OnErr, IsErrOf};
+ghost use Rattle.std.specs.Prelude.{◌≡◌, ◌+◌, ◌≤◌, length, slice_range, IfOk, OnOk, IsErr, IsErrOf};
 ghost use Rattle.disk_core.specs.Bytes.{Puts, Torn};
-ghost use Rattle.disk_core.specs.Images.{EachImage, Only, Within, SameImages, From, Follows, HasRisen};
+ghost use Rattle.disk_core.specs.Images.{EachImage, Only, Within, SameImages, From, Follows};
 ghost use Rattle.disk_core.specs.Moments.{Elapses, LeavesOnly};
 ghost use Rattle.disk_core.specs.Room.{HasRoom, UsesUp};
+ghost use Rattle.disk_core.specs.Served.{IsServed};
 ghost use Rattle.disk_area.specs.Windows.{window, IsInside, InArea};
 
-use disk_core::{Disk, Failed, ReadError};
+use disk_core::{DeviceError, Disk, ReadError};
 
 /// The `len` bytes of a disk from `at` on.
 #[derive(Clone, Copy, Debug, PartialEq, Eq, Drop)]
@@ -33,17 +34,15 @@ impl Area {
         ensures images { SameImages (D.images disk.old) (D.images disk.new) }
         ensures time { Elapses (D.moment disk.old) (D.moment disk.new)
             (D.left_since disk.old) (D.left_since disk.new) (D.images disk.new) }
-        ensures faults { D.fault_count disk.old ≤ D.fault_count disk.new }
-        ensures cause { IsErrOf result ReadError.Failed
-            → HasRisen (D.fault_count disk.old) (D.fault_count disk.new) }
-        ensures plan { D.armed disk.new ≡ D.armed disk.old }
         ensures room { D.room disk.new ≡ D.room disk.old }
+        ensures served { IsServed D.seen D.fault_count D.armed (IsErrOf result ReadError.Failed)
+            disk.old disk.new }
     {
         disk.read(self.at + at, len)
     }
 
     /// Puts the piece at `at` of the window.
-    pub fn write<D: Disk>(&self, disk: &mut D, at: u64, bytes: &[u8]) -> Result<(), Failed>
+    pub fn write<D: Disk>(&self, disk: &mut D, at: u64, bytes: &[u8]) -> Result<(), DeviceError>
         requires inside { IsInside self.now (D.seen disk.old) }
         requires range { at + length bytes.now ≤ self.now.len }
         requires room { HasRoom 1 (length bytes.now) (D.room disk.old) }
@@ -55,31 +54,32 @@ impl Area {
             (D.images disk.old) (D.images disk.new) }
         ensures time { Elapses (D.moment disk.old) (D.moment disk.new)
             (D.left_since disk.old) (D.left_since disk.new) (D.images disk.new) }
-        ensures faults { D.fault_count disk.old ≤ D.fault_count disk.new }
-        ensures cause { OnErr result (HasRisen (D.fault_count disk.old) (D.fault_count disk.new)) }
-        ensures plan { D.armed disk.new ≡ D.armed disk.old }
         ensures room { UsesUp (length bytes.now) (D.room disk.old) (D.room disk.new) }
+        ensures served { IsServed D.seen D.fault_count D.armed (IsErr result) disk.old disk.new }
     {
         disk.write(self.at + at, bytes)
     }
 
     /// Makes what a read gives durable, on the whole disk.
-    pub fn sync<D: Disk>(&self, disk: &mut D) -> Result<(), Failed>
+    pub fn sync<D: Disk>(&self, disk: &mut D) -> Result<(), DeviceError>
         ensures durable { OnOk result (Only (D.seen disk.old) (D.images disk.new)) }
         ensures reads { D.seen disk.new ≡ D.seen disk.old }
         ensures images { Within (D.images disk.old) (D.images disk.new) }
         ensures time { Elapses (D.moment disk.old) (D.moment disk.new)
             (D.left_since disk.old) (D.left_since disk.new) (D.images disk.new) }
-        ensures faults { D.fault_count disk.old ≤ D.fault_count disk.new }
-        ensures cause { OnErr result (HasRisen (D.fault_count disk.old) (D.fault_count disk.new)) }
-        ensures plan { D.armed disk.new ≡ D.armed disk.old }
         ensures room { D.room disk.new ≡ D.room disk.old }
+        ensures served { IsServed D.seen D.fault_count D.armed (IsErr result) disk.old disk.new }
     {
         disk.sync()
     }
 
     /// Puts the piece at `at` of the window and makes it durable: a write and a sync.
-    pub fn write_synced<D: Disk>(&self, disk: &mut D, at: u64, bytes: &[u8]) -> Result<(), Failed>
+    pub fn write_synced<D: Disk>(
+        &self,
+        disk: &mut D,
+        at: u64,
+        bytes: &[u8],
+    ) -> Result<(), DeviceError>
         requires inside { IsInside self.now (D.seen disk.old) }
         requires range { at + length bytes.now ≤ self.now.len }
         requires room { HasRoom 1 (length bytes.now) (D.room disk.old) }
@@ -90,11 +90,10 @@ impl Area {
         // A crash at any moment of the call leaves any bytes in the range, and no others elsewhere.
         ensures any_moment { LeavesOnly D.moment D.left_since disk.old disk.new
             (From (D.images disk.old) (InArea self.now (Torn at (length bytes.now)))) }
-        ensures size { length (D.seen disk.new) ≡ length (D.seen disk.old) }
-        ensures faults { D.fault_count disk.old ≤ D.fault_count disk.new }
-        ensures cause { OnErr result (HasRisen (D.fault_count disk.old) (D.fault_count disk.new)) }
-        ensures plan { D.armed disk.new ≡ D.armed disk.old }
+        ensures reads { InArea self.now (Torn at (length bytes.now))
+            (D.seen disk.old) (D.seen disk.new) }
         ensures room { UsesUp (length bytes.now) (D.room disk.old) (D.room disk.new) }
+        ensures served { IsServed D.seen D.fault_count D.armed (IsErr result) disk.old disk.new }
     {
         self.write(disk, at, bytes)?;
         self.sync(disk)

@@ -14,24 +14,37 @@ module _ (at : ℕ) (piece old : List ℕ) (le : at + length piece ≤ length ol
 
   pub length-put_at : length (put_at old at piece) ≡ length old
   length-put_at =
-      omega (arith, front, length-drop (at + length piece) old, length-append (take at old ++ piece) (drop (at + length piece) old), length-append (take at old) piece, le)
+      omega (
+        arith,
+        front,
+        length-drop (at + length piece) old,
+        length-append (take at old ++ piece)
+            (drop (at + length piece) old),
+        length-append (take at old) piece,
+        le,
+      )
 
   pub put_torn : Torn at (length piece) old (put_at old at piece)
   put_torn = record {
     size = length-put_at;
-    before = ap (λ (xs : List ℕ). take at xs) (append_assoc (take at old) piece (drop (at + length piece) old)) ∙ take_at (take at old) (piece ++ drop (at + length piece) old) at front;
-    after = drop_at (take at old ++ piece) (drop (at + length piece) old) (at + length piece) (omega (arith, front, length-append (take at old) piece));
+    before = ap (λ (xs : List ℕ). take at xs) (append_assoc (take at old) piece (drop (at + length piece) old))
+        ∙ take_at (take at old) (piece ++ drop (at + length piece) old) at front;
+    after = drop_at (take at old ++ piece) (drop (at + length piece) old) (at + length piece)
+        (omega (arith, front, length-append (take at old) piece));
   }
 
   pub put-before : (i : ℕ) → i < at → get_or (put_at old at piece) i 0 ≡ get_or old i 0
   put-before i lt =
       ap (λ (xs : List ℕ). get_or xs i 0) (append_assoc (take at old) piece (drop (at + length piece) old))
-      ∙ get_or_append_left (take at old) (piece ++ drop (at + length piece) old) 0 i (omega (arith, front, lt)) ∙ get_or-take at old i 0 lt
+      ∙ get_or_append_left (take at old) (piece ++ drop (at + length piece) old) 0 i (omega (arith, front, lt))
+      ∙ get_or-take at old i 0 lt
 
   pub put-after : (i : ℕ) → at + length piece ≤ i → get_or (put_at old at piece) i 0 ≡ get_or old i 0
   put-after i ge =
-      get_or-append_right (take at old ++ piece) (drop (at + length piece) old) (at + length piece) i 0 (omega (arith, front, length-append (take at old) piece)) ge
-      ∙ get_or-drop (at + length piece) old (i - (at + length piece)) 0 ∙ ap (λ (k : ℕ). get_or old k 0) (omega (arith, ge))
+      get_or-append_right (take at old ++ piece) (drop (at + length piece) old) (at + length piece) i 0
+      (omega (arith, front, length-append (take at old) piece)) ge
+      ∙ get_or-drop (at + length piece) old (i - (at + length piece)) 0
+      ∙ ap (λ (k : ℕ). get_or old k 0) (omega (arith, ge))
 
   pub put-within : (i : ℕ) → at ≤ i → i < at + length piece → get_or (put_at old at piece) i 0 ≡ get_or piece (i - at) 0
   put-within i ge lt =
@@ -51,36 +64,45 @@ drop_past (x ∷ xs) ys zero k is = absurd (omega (arith, is))
 drop_past (x ∷ xs) ys (suc n) k is = drop_past xs ys n k (omega (arith, is))
 
 -- a piece within the front part, or within the back part
-pub put_front : (xs ys : List ℕ) (at : ℕ) (piece : List ℕ) → at + length piece ≤ length xs → put_at (xs ++ ys) at piece ≡ put_at xs at piece ++ ys
+pub put_front : (xs ys : List ℕ) (at : ℕ) (piece : List ℕ) → at + length piece ≤ length xs
+    → put_at (xs ++ ys) at piece ≡ put_at xs at piece ++ ys
 put_front xs ys at piece le =
     (λ i. take-append-le at xs ys (omega (arith, le)) i ++ piece ++ drop-append-le (at + length piece) xs ys le i)
     ∙ sym (append_assoc (take at xs ++ piece) (drop (at + length piece) xs) ys)
 
-pub put_back : (xs ys : List ℕ) (n at : ℕ) (piece : List ℕ) → n ≡ length xs + at → put_at (xs ++ ys) n piece ≡ xs ++ put_at ys at piece
+pub put_back : (xs ys : List ℕ) (n at : ℕ) (piece : List ℕ) → n ≡ length xs + at
+    → put_at (xs ++ ys) n piece ≡ xs ++ put_at ys at piece
 put_back xs ys n at piece is =
-    (λ i. take_past xs ys n at is i ++ piece ++ drop_past xs ys (n + length piece) (at + length piece) (omega (arith, is)) i)
+    (λ i. take_past xs ys n at is i ++ piece ++ drop_past xs ys (n + length piece) (at + length piece)
+    (omega (arith, is)) i)
     ∙ ap (λ (zs : List ℕ). zs ++ drop (at + length piece) ys) (append_assoc xs (take at ys) piece)
     ∙ append_assoc xs (take at ys ++ piece) (drop (at + length piece) ys)
 
 -- a front of which a piece is put
-pub put_take : (xs : List ℕ) (n at : ℕ) (piece : List ℕ) → at + length piece ≤ n → n ≤ length xs → take n (put_at xs at piece) ≡ put_at (take n xs) at piece
+pub put_take : (xs : List ℕ) (n at : ℕ) (piece : List ℕ) → at + length piece ≤ n → n ≤ length xs
+    → take n (put_at xs at piece) ≡ put_at (take n xs) at piece
 put_take xs n at piece fits le =
     let long : length (take n xs) ≡ n = length-take-le n xs le in
     ap (λ (zs : List ℕ). take n (put_at zs at piece)) (sym (take-append-drop n xs))
     ∙ ap (λ (zs : List ℕ). take n zs) (put_front (take n xs) (drop n xs) at piece (omega (arith, long, fits)))
-    ∙ take_at (put_at (take n xs) at piece) (drop n xs) n (length-put_at at piece (take n xs) (omega (arith, long, fits)) ∙ long)
+    ∙ take_at (put_at (take n xs) at piece) (drop n xs) n
+    (length-put_at at piece (take n xs) (omega (arith, long, fits)) ∙ long)
 
 -- nothing is put
 pub put_none : (xs : List ℕ) (at : ℕ) → put_at xs at [] ≡ xs
 put_none xs at =
-    ap (λ (zs : List ℕ). zs ++ drop (at + 0) xs) (append-nil (take at xs)) ∙ ap (λ (k : ℕ). take at xs ++ drop k xs) (omega arith) ∙ take-append-drop at xs
+    ap (λ (zs : List ℕ). zs ++ drop (at + 0) xs) (append-nil (take at xs))
+    ∙ ap (λ (k : ℕ). take at xs ++ drop k xs) (omega arith) ∙ take-append-drop at xs
 
 -- two pieces, one behind the other
-pub put_put : (xs : List ℕ) (at n : ℕ) (a b : List ℕ) → n ≡ at + length a → at + length a ≤ length xs → put_at (put_at xs at a) n b ≡ put_at xs at (a ++ b)
+pub put_put : (xs : List ℕ) (at n : ℕ) (a b : List ℕ) → n ≡ at + length a → at + length a ≤ length xs
+    → put_at (put_at xs at a) n b ≡ put_at xs at (a ++ b)
 put_put xs at n a b is le =
-    let front : length (take at xs ++ a) ≡ at + length a = omega (arith, length-take-le at xs (omega (arith, le)), length-append (take at xs) a) in
+    let front : length (take at xs ++ a) ≡ at + length a =
+    omega (arith, length-take-le at xs (omega (arith, le)), length-append (take at xs) a) in
     put_back (take at xs ++ a) (drop (at + length a) xs) n 0 b (omega (arith, is, front))
-    ∙ ap (λ (zs : List ℕ). (take at xs ++ a) ++ (b ++ zs)) (drop-drop (0 + length b) (at + length a) xs ∙ ap (λ (k : ℕ). drop k xs) (omega (arith, length-append a b)))
+    ∙ ap (λ (zs : List ℕ). (take at xs ++ a) ++ (b ++ zs)) (drop-drop (0 + length b) (at + length a) xs
+    ∙ ap (λ (k : ℕ). drop k xs) (omega (arith, length-append a b)))
     ∙ sym (append_assoc (take at xs ++ a) b (drop (at + length (a ++ b)) xs))
     ∙ ap (λ (zs : List ℕ). zs ++ drop (at + length (a ++ b)) xs) (append_assoc (take at xs) a b)
 
@@ -92,11 +114,14 @@ range_take xs n i j le fits =
     ∙ take-take (j - i) (n - i) (drop i xs) (omega (arith, le, fits))
 
 -- two ranges, one behind the other
-pub range_range : (xs : List ℕ) (i j k : ℕ) → i ≤ j → j ≤ k → k ≤ length xs → slice_range xs i j ++ slice_range xs j k ≡ slice_range xs i k
+pub range_range : (xs : List ℕ) (i j k : ℕ) → i ≤ j → j ≤ k → k ≤ length xs
+    → slice_range xs i j ++ slice_range xs j k ≡ slice_range xs i k
 range_range xs i j k ij jk le =
-    let long : length (slice_range xs i j) ≡ j - i = length-take-le (j - i) (drop i xs) (omega (arith, length-drop i xs, ij, jk, le)) in
+    let long : length (slice_range xs i j) ≡ j - i =
+    length-take-le (j - i) (drop i xs) (omega (arith, length-drop i xs, ij, jk, le)) in
     let whole : drop i xs ≡ slice_range xs i j ++ drop j xs = drop_split xs i j ij in
-    sym (ap (λ (zs : List ℕ). take (k - i) zs) whole ∙ take_past (slice_range xs i j) (drop j xs) (k - i) (k - j) (omega (arith, long, ij, jk)))
+    sym (ap (λ (zs : List ℕ). take (k - i) zs) whole
+    ∙ take_past (slice_range xs i j) (drop j xs) (k - i) (k - j) (omega (arith, long, ij, jk)))
 
 pub length-range : (xs : List ℕ) (i j : ℕ) → j ≤ length xs → length (slice_range xs i j) ≡ j - i
 length-range xs i j le = length-take-le (j - i) (drop i xs) (omega (arith, length-drop i xs, le))

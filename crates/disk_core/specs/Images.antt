@@ -1,5 +1,5 @@
 -- Crash images: what a crash may leave on a disk, as a set of byte lists.
-use Rattle.std.specs.Prelude.{◌≡◌, ℕ, List, ◌+◌, ◌≤◌, ◌^◌, ◌-◌, min}
+use Rattle.std.specs.Prelude.{◌≡◌, ℕ, List}
 
 -- each image has this property
 abbrev pub EachImage : (List ℕ → Type 0) → (List ℕ → Type 0) → Type 0
@@ -29,7 +29,3 @@ Follows step old new = EachImage new (From old step)
 -- and whatever comes from an old one by this step is a new image
 abbrev pub Allows : (List ℕ → List ℕ → Type 0) → (List ℕ → Type 0) → (List ℕ → Type 0) → Type 0
 Allows step old new = (d c : List ℕ) → old d → step d c → new c
-
--- a count of faults that rose, or stays at the last value of a u64
-abbrev pub HasRisen : ℕ → ℕ → Type 0
-HasRisen before now = min (before + 1) (2 ^ 64 - 1) ≤ now

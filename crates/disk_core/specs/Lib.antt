@@ -4,3 +4,4 @@ pub mod Moments
 pub mod Room
 pub mod Calls
 pub mod Plans
+pub mod Served

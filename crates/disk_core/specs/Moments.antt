@@ -10,7 +10,8 @@ pub record Elapses (before now : ℕ) (past since : ℕ → List ℕ → Type 0)
   pub counts_now : (t : ℕ) (c : List ℕ) → t ≤ before → images c → since t c
 
 -- A crash at any moment from `old` to `new` leaves an image that has P.
-pub record LeavesOnly {D : Type 0} (moment : D → ℕ) (left_since : D → ℕ → List ℕ → Type 0) (old new : D) (P : List ℕ → Type 0) : Type 0 where
+pub record LeavesOnly {D : Type 0} (moment : D → ℕ) (left_since : D → ℕ → List ℕ → Type 0) (old new : D)
+    (P : List ℕ → Type 0) : Type 0 where
   pub later : moment old ≤ moment new
   pub each : EachImage (left_since new (moment old)) P
   -- for a run that began earlier

@@ -1,14 +1,15 @@
 //! The trait, with each sentence of the disk model as a clause or a law.
 ghost use Rattle.std.specs.Prelude.{◌≡◌, ◌+◌, ◌≤◌, ◌<◌, ◌^◌, List, ℕ, length, slice_range, IfOk, OnOk, OnErr, IsErrOf, is_err, is_ok};
 ghost use Rattle.disk_core.specs.Bytes.{put_at, Torn};
-ghost use Rattle.disk_core.specs.Images.{Only, Within, SameImages, Follows, Allows, HasRisen};
+ghost use Rattle.disk_core.specs.Images.{Only, Within, SameImages, Follows, Allows};
+ghost use Rattle.fault_count.specs.Faults.{HasRisen};
 ghost use Rattle.disk_core.specs.Moments.{Elapses};
 ghost use Rattle.disk_core.specs.Room.{Room, HasRoom, UsesUp};
 ghost use Rattle.disk_core.specs.Plans.{no_faults};
 ghost use Rattle.disk_core.specs.Calls.{Call, reserves, reads, writes, syncs, restarts, arms, is_failed};
 ghost use Rattle.disk_core.specs.declared.plan.FaultPlan.{FaultPlan};
 
-use crate::{Failed, FaultPlan, ReadError};
+use crate::{DeviceError, FaultPlan, ReadError};
 use std::alloc::AllocError;
 
 /// A disk of a fixed number of bytes. Places and lengths are in bytes, and ranges lie within the size.
@@ -75,7 +76,7 @@ pub trait Disk {
         ensures own { obeys self.old (reads (is_failed result)) self.new };
 
     /// Puts the piece at `at`. It uses up room, also where it fails.
-    fn write(&mut self, at: u64, bytes: &[u8]) -> Result<(), Failed>
+    fn write(&mut self, at: u64, bytes: &[u8]) -> Result<(), DeviceError>
         requires range { at + length bytes.now ≤ length (seen self.old) }
         requires room { HasRoom 1 (length bytes.now) (room self.old) }
         ensures written { OnOk result (seen self.new ≡ put_at (seen self.old) at bytes.now) }
@@ -94,7 +95,7 @@ pub trait Disk {
         ensures own { obeys self.old (writes at bytes.now (is_err result)) self.new };
 
     /// Makes what a read gives durable.
-    fn sync(&mut self) -> Result<(), Failed>
+    fn sync(&mut self) -> Result<(), DeviceError>
         ensures durable { OnOk result (Only (seen self.old) (images self.new)) }
         ensures reads { seen self.new ≡ seen self.old }
         ensures images { Within (images self.old) (images self.new) }
@@ -108,7 +109,7 @@ pub trait Disk {
 
     /// Starts anew, as after a crash: one of the images of before is the content, with nothing pending.
     /// There may be no room afterwards.
-    fn restart(&mut self) -> Result<(), Failed>
+    fn restart(&mut self) -> Result<(), DeviceError>
         ensures one { OnOk result (images self.old (seen self.new)) }
         ensures durable { OnOk result (Only (seen self.new) (images self.new)) }
         ensures images { Within (images self.old) (images self.new) }

@@ -6,7 +6,7 @@ use std::alloc::AllocError;
 
 /// The device failed; its count of faults rose in this call.
 #[derive(Clone, Copy, Debug, PartialEq, Eq, Drop)]
-pub struct Failed;
+pub struct DeviceError;
 
 /// Why a read gave no bytes.
 #[derive(Clone, Copy, Debug, PartialEq, Eq, Drop)]
@@ -23,10 +23,10 @@ impl From<AllocError> for ReadError {
     }
 }
 
-impl From<Failed> for ReadError {
+impl From<DeviceError> for ReadError {
     ghost from_gives = { λ _ e. e ≡ faulted };
 
-    fn from(_: Failed) -> Self {
+    fn from(_: DeviceError) -> Self {
         ReadError::Failed
     }
 }

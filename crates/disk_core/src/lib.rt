@@ -9,5 +9,5 @@ mod fault;
 mod plan;
 
 pub use disk::Disk;
-pub use fault::{Failed, ReadError};
+pub use fault::{DeviceError, ReadError};
 pub use plan::{FailKind, Fails, FaultPlan, Stops};

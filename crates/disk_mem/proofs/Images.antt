@@ -15,22 +15,30 @@ pub only_where : (ranges : List (ℕ × ℕ)) (content : List ℕ) → ranges �
 only_where ranges content none image is = only_one content image (subst (λ rs. IsImage rs content image) none is)
 
 -- the two agree but in n bytes
-pub torn_elsewhere : (at n : ℕ) (old new : List ℕ) → Torn at n old new → at + n ≤ length old → (i : ℕ) → (i < at) ⊎ (at + n ≤ i) → get_or new i 0 ≡ get_or old i 0
-torn_elsewhere at n old new t le i (inl lt) = sym (get_or-take at new i 0 lt) ∙ ap (λ (xs : List ℕ). get_or xs i 0) t.before ∙ get_or-take at old i 0 lt
+pub torn_elsewhere : (at n : ℕ) (old new : List ℕ) → Torn at n old new → at + n ≤ length old → (i : ℕ)
+    → (i < at) ⊎ (at + n ≤ i) → get_or new i 0 ≡ get_or old i 0
+torn_elsewhere at n old new t le i (inl lt) = sym (get_or-take at new i 0 lt)
+    ∙ ap (λ (xs : List ℕ). get_or xs i 0) t.before ∙ get_or-take at old i 0 lt
 torn_elsewhere at n old new t le i (inr ge) =
     let is : i ≡ at + n + (i - (at + n)) = omega (arith, ge) in
-    ap (λ (k : ℕ). get_or new k 0) is ∙ sym (get_or-drop (at + n) new (i - (at + n)) 0) ∙ ap (λ (xs : List ℕ). get_or xs (i - (at + n)) 0) t.after
+    ap (λ (k : ℕ). get_or new k 0) is ∙ sym (get_or-drop (at + n) new (i - (at + n)) 0)
+    ∙ ap (λ (xs : List ℕ). get_or xs (i - (at + n)) 0) t.after
     ∙ get_or-drop (at + n) old (i - (at + n)) 0 ∙ ap (λ (k : ℕ). get_or old k 0) (sym is)
 
 -- each image after a write is one from before it, torn in the range
-pub follows : (at n : ℕ) (ranges : List (ℕ × ℕ)) (old new : List ℕ) → at + n ≤ length old → Torn at n old new → Follows (Torn at n) (IsImage ranges old) (IsImage ((at, n) ∷ ranges) new)
+pub follows : (at n : ℕ) (ranges : List (ℕ × ℕ)) (old new : List ℕ) → at + n ≤ length old → Torn at n old new
+    → Follows (Torn at n) (IsImage ranges old) (IsImage ((at, n) ∷ ranges) new)
 follows at n ranges old new le torn image is =
     let part : List ℕ = take n (drop at old) in
     let long : length part ≡ n = length-take-le n (drop at old) (omega (arith, length-drop at old, le)) in
     let le' : at + length part ≤ length image = omega (arith, long, is.size, torn.size, le) in
     let was : List ℕ = put_at image at part in (
       was,
-      record { size = length-put_at at part image le' ∙ is.size ∙ torn.size; same = λ i out. same i out (cases_lt i at) },
+      record {
+        size = length-put_at at part image le' ∙ is.size
+            ∙ torn.size;
+        same = λ i out. same i out (cases_lt i at);
+      },
       record {
         size = sym (length-put_at at part image le');
         before = sym (fronts image part le');
@@ -41,31 +49,40 @@ follows at n ranges old new le torn image is =
     fronts : (xs part : List ℕ) → at + length part ≤ length xs → take at (put_at xs at part) ≡ take at xs
     fronts xs part fits = (Rattle.disk_core.proofs.Pieces.put_torn at part xs fits).before
 
-    backs : (xs part : List ℕ) → at + length part ≤ length xs → length part ≡ n → drop (at + n) (put_at xs at part) ≡ drop (at + n) xs
+    backs : (xs part : List ℕ) → at + length part ≤ length xs → length part ≡ n
+        → drop (at + n) (put_at xs at part) ≡ drop (at + n) xs
     backs xs part fits long =
-        ap (λ (k : ℕ). drop (at + k) (put_at xs at part)) (sym long) ∙ (Rattle.disk_core.proofs.Pieces.put_torn at part xs fits).after ∙ ap (λ (k : ℕ). drop (at + k) xs) long
+        ap (λ (k : ℕ). drop (at + k) (put_at xs at part)) (sym long)
+        ∙ (Rattle.disk_core.proofs.Pieces.put_torn at part xs fits).after ∙ ap (λ (k : ℕ). drop (at + k) xs) long
 
-    same : (i : ℕ) → IsOutside ranges i → (i < at) ⊎ (at ≤ i) → get_or (put_at image at (take n (drop at old))) i 0 ≡ get_or old i 0
+    same : (i : ℕ) → IsOutside ranges i → (i < at) ⊎ (at ≤ i)
+        → get_or (put_at image at (take n (drop at old))) i 0 ≡ get_or old i 0
     same i out (inl lt) =
         let part : List ℕ = take n (drop at old) in
         let long : length part ≡ n = length-take-le n (drop at old) (omega (arith, length-drop at old, le)) in
-        put-before at part image (omega (arith, long, is.size, torn.size, le)) i lt ∙ is.same i (inl lt, out) ∙ torn_elsewhere at n old new torn le i (inl lt)
+        put-before at part image (omega (arith, long, is.size, torn.size, le)) i lt ∙ is.same i (inl lt, out)
+        ∙ torn_elsewhere at n old new torn le i (inl lt)
     same i out (inr ge) = elim (cases_lt i (at + n)) [
       | inl lt ↦
           let part : List ℕ = take n (drop at old) in
           let long : length part ≡ n = length-take-le n (drop at old) (omega (arith, length-drop at old, le)) in
-          put-within at part image (omega (arith, long, is.size, torn.size, le)) i ge (omega (arith, lt, long)) ∙ get_or-take n (drop at old) (i - at) 0 (omega (arith, lt, ge)) ∙ get_or-drop at old (i - at) 0 ∙ ap (λ (k : ℕ). get_or old k 0) (omega (arith, ge))
+          put-within at part image (omega (arith, long, is.size, torn.size, le)) i ge (omega (arith, lt, long))
+          ∙ get_or-take n (drop at old) (i - at) 0 (omega (arith, lt, ge)) ∙ get_or-drop at old (i - at) 0
+          ∙ ap (λ (k : ℕ). get_or old k 0) (omega (arith, ge))
       | inr past ↦
           let part : List ℕ = take n (drop at old) in
           let long : length part ≡ n = length-take-le n (drop at old) (omega (arith, length-drop at old, le)) in
-          put-after at part image (omega (arith, long, is.size, torn.size, le)) i (omega (arith, past, long)) ∙ is.same i (inr past, out) ∙ torn_elsewhere at n old new torn le i (inr past)
+          put-after at part image (omega (arith, long, is.size, torn.size, le)) i (omega (arith, past, long))
+          ∙ is.same i (inr past, out) ∙ torn_elsewhere at n old new torn le i (inr past)
     ]
 
 -- and whatever is torn in the range from one of before is an image after it
-pub allows : (at n : ℕ) (ranges : List (ℕ × ℕ)) (old new : List ℕ) → at + n ≤ length old → Torn at n old new → Allows (Torn at n) (IsImage ranges old) (IsImage ((at, n) ∷ ranges) new)
+pub allows : (at n : ℕ) (ranges : List (ℕ × ℕ)) (old new : List ℕ) → at + n ≤ length old → Torn at n old new
+    → Allows (Torn at n) (IsImage ranges old) (IsImage ((at, n) ∷ ranges) new)
 allows at n ranges old new le torn d c was cut = record {
   size = cut.size ∙ was.size ∙ sym torn.size;
-  same = λ i out. torn_elsewhere at n d c cut (omega (arith, was.size, le)) i out.0 ∙ was.same i out.1 ∙ sym (torn_elsewhere at n old new torn le i out.0);
+  same = λ i out. torn_elsewhere at n d c cut (omega (arith, was.size, le)) i out.0 ∙ was.same i out.1
+      ∙ sym (torn_elsewhere at n old new torn le i out.0);
 }
 
 -- a torn write of fewer bytes is one of more
@@ -80,15 +97,22 @@ widened at k n old new le t = record {
     further xs = ap (λ (m : ℕ). drop m xs) (omega (arith, le)) ∙ sym (drop-drop (n - k) (at + k) xs)
 
 -- a write of n bytes of which a piece stands
-module _ (at n : ℕ) (piece old next : List ℕ) (short : length piece ≤ n) (fits : at + n ≤ length old) (is : next ≡ put_at old at piece) where
+module _ (at n : ℕ) (piece old next : List ℕ) (short : length piece ≤ n) (fits : at + n ≤ length old)
+    (is : next ≡ put_at old at piece) where
   pub wrote_torn : Torn at n old next
-  wrote_torn = subst (λ (xs : List ℕ). Torn at n old xs) (sym is) (widened at (length piece) n old (put_at old at piece) short (Rattle.disk_core.proofs.Pieces.put_torn at piece old (omega (arith, short, fits))))
+  wrote_torn = subst (λ (xs : List ℕ). Torn at n old xs) (sym is)
+      (widened at (length piece) n old (put_at old at piece) short
+      (Rattle.disk_core.proofs.Pieces.put_torn at piece old (omega (arith, short, fits))))
 
   pub wrote_size : length next ≡ length old
   wrote_size = wrote_torn.size
 
-  pub wrote_follows : (ranges later : List (ℕ × ℕ)) → later ≡ (at, n) ∷ ranges → Follows (Torn at n) (IsImage ranges old) (IsImage later next)
-  wrote_follows ranges later later_is = subst (λ rs. Follows (Torn at n) (IsImage ranges old) (IsImage rs next)) (sym later_is) (follows at n ranges old next fits wrote_torn)
+  pub wrote_follows : (ranges later : List (ℕ × ℕ)) → later ≡ (at, n) ∷ ranges
+      → Follows (Torn at n) (IsImage ranges old) (IsImage later next)
+  wrote_follows ranges later later_is = subst (λ rs. Follows (Torn at n) (IsImage ranges old) (IsImage rs next))
+      (sym later_is) (follows at n ranges old next fits wrote_torn)
 
-  pub wrote_allows : (ranges later : List (ℕ × ℕ)) → later ≡ (at, n) ∷ ranges → Allows (Torn at n) (IsImage ranges old) (IsImage later next)
-  wrote_allows ranges later later_is = subst (λ rs. Allows (Torn at n) (IsImage ranges old) (IsImage rs next)) (sym later_is) (allows at n ranges old next fits wrote_torn)
+  pub wrote_allows : (ranges later : List (ℕ × ℕ)) → later ≡ (at, n) ∷ ranges
+      → Allows (Torn at n) (IsImage ranges old) (IsImage later next)
+  wrote_allows ranges later later_is = subst (λ rs. Allows (Torn at n) (IsImage ranges old) (IsImage rs next))
+      (sym later_is) (allows at n ranges old next fits wrote_torn)

@@ -13,7 +13,8 @@ ranges_from rs (Synced ∷ es) = ranges_from [] es
 -- what a read gives after these events, whose kept bytes stand in order in `pieces`
 abbrev pub content_from : List ℕ → List Event → List ℕ → List ℕ
 content_from image [] pieces = image
-content_from image (Wrote at len kept ∷ es) pieces = content_from (put_at image at (take kept pieces)) es (drop kept pieces)
+content_from image (Wrote at len kept ∷ es) pieces =
+    content_from (put_at image at (take kept pieces)) es (drop kept pieces)
 content_from image (Synced ∷ es) pieces = content_from image es pieces
 
 -- how many bytes these events kept
@@ -38,4 +39,5 @@ zeros n = replicate n 0
 -- a crash after k of these events might have left it, for some k from t on that isn't all of them
 abbrev pub MightHaveLeft : ℕ → List Event → List ℕ → ℕ → List ℕ → Type 0
 MightHaveLeft size events pieces t image =
-    (k : ℕ) × (t ≤ k) × (k < length events) × IsImage (ranges_from [] (take k events)) (content_from (zeros size) (take k events) pieces) image
+    (k : ℕ) × (t ≤ k) × (k < length events)
+    × IsImage (ranges_from [] (take k events)) (content_from (zeros size) (take k events) pieces) image

@@ -1,5 +1,6 @@
 -- A disk in memory obeys its plan, and nothing else lets a call fail.
 use Rattle.std.specs.Prelude.{◌≡◌, ℕ, ◌||◌, Bool, false, if◌then◌else◌, List, length, take}
+use Rattle.fault_count.specs.Faults.{one_more}
 use Rattle.disk_core.specs.declared.plan.FailKind.{FailKind}
 use Rattle.disk_core.specs.declared.plan.FailKind.TheVariants.{Read, Write, Sync}
 use Rattle.disk_core.specs.Bytes.{put_at}
@@ -7,12 +8,12 @@ use Rattle.disk_core.specs.Plans.{no_faults}
 use Rattle.disk_core.specs.Calls.{Call, reserves, reads, writes, syncs, restarts, arms}
 use Rattle.disk_mem.specs.declared.strikes.Fate.{Fate}
 use Rattle.disk_mem.specs.declared.mem.MemDisk.{MemDisk}
-use Rattle.disk_mem.specs.Strikes.{fate_of, numbers_of, counted, is_bad, is_stop, kept_of, next}
+use Rattle.disk_mem.specs.Strikes.{fate_of, numbers_of, counted, is_bad, is_stop, kept_of}
 
 -- the call failed just where this fate says so, and was counted
 pub record IsJudged (kind : FailKind) (fate : Fate) (failed : Bool) (old new : MemDisk) : Type 0 where
   pub word : failed ≡ is_bad fate
-  pub faults : new.faults ≡ (if failed then next old.faults else old.faults)
+  pub faults : new.faults ≡ (if failed then one_more old.faults else old.faults)
   pub stopped : new.strikes.stopped ≡ (old.strikes.stopped || is_stop fate)
   pub numbers : numbers_of new.strikes ≡ counted kind old.strikes
   pub calm : old.strikes.plan ≡ no_faults → failed ≡ false
@@ -42,7 +43,8 @@ pub record IsArmed (armed : Bool) (old new : MemDisk) : Type 0 where
 abbrev pub Obeys : MemDisk → Call → MemDisk → Type 0
 Obeys old reserves new = IsUnjudged old new
 Obeys old (reads failed) new = IsJudged Read (fate_of Read old.strikes) failed old new
-Obeys old (writes at piece failed) new = IsJudged Write (fate_of Write old.strikes) failed old new × Keeps (fate_of Write old.strikes) at piece old new
+Obeys old (writes at piece failed) new =
+    IsJudged Write (fate_of Write old.strikes) failed old new × Keeps (fate_of Write old.strikes) at piece old new
 Obeys old (syncs failed) new = IsJudged Sync (fate_of Sync old.strikes) failed old new
 Obeys old (restarts failed) new = IsRestarted failed old new
 Obeys old (arms armed) new = IsArmed armed old new

@@ -1,17 +1,14 @@
 -- What a plan says of a disk's calls.
-use Rattle.std.specs.Prelude.{ℕ, ◌+◌, ◌-◌, ◌^◌, min, Bool, true, false, ◌&&◌, ◌==◌, if◌then◌else◌, List, Option, Some, None}
+use Rattle.std.specs.Prelude.{ℕ, min, Bool, true, false, ◌&&◌, ◌==◌, if◌then◌else◌, List, Option, Some, None}
 use Rattle.std.specs.Option.{option_map}
 use Rattle.std.specs.List.{list_any, find}
+use Rattle.fault_count.specs.Faults.{one_more}
 use Rattle.disk_core.specs.declared.plan.FailKind.{FailKind}
 use Rattle.disk_core.specs.declared.plan.FailKind.TheVariants.{Read, Write, Sync}
 use Rattle.disk_core.specs.declared.plan.FaultPlan.{FaultPlan}
 use Rattle.disk_mem.specs.declared.strikes.Fate.{Fate}
 use Rattle.disk_mem.specs.declared.strikes.Fate.TheVariants.{Whole, Fails, Stops}
 use Rattle.disk_mem.specs.declared.strikes.Strikes.{Strikes}
-
--- one more, up to the last value of a u64
-abbrev pub next : ℕ → ℕ
-next n = min (n + 1) (2 ^ 64 - 1)
 
 -- the bytes that the first stop of this write keeps
 abbrev pub stop_of : List (ℕ × ℕ) → ℕ → Option ℕ
@@ -41,9 +38,9 @@ planned plan Sync number = fate_by None (is_listed plan.fails Sync number)
 
 -- the number of the next call of this kind
 abbrev pub number_of : FailKind → Strikes → ℕ
-number_of Read s = next s.reads
-number_of Write s = next s.writes
-number_of Sync s = next s.syncs
+number_of Read s = one_more s.reads
+number_of Write s = one_more s.writes
+number_of Sync s = one_more s.syncs
 
 -- what becomes of the next call of this kind: after a stop each fails
 abbrev pub fate_of : FailKind → Strikes → Fate
@@ -55,9 +52,9 @@ numbers_of s = (s.reads, s.writes, s.syncs)
 
 -- the same after one more call of this kind
 abbrev pub counted : FailKind → Strikes → ℕ × ℕ × ℕ
-counted Read s = (next s.reads, s.writes, s.syncs)
-counted Write s = (s.reads, next s.writes, s.syncs)
-counted Sync s = (s.reads, s.writes, next s.syncs)
+counted Read s = (one_more s.reads, s.writes, s.syncs)
+counted Write s = (s.reads, one_more s.writes, s.syncs)
+counted Sync s = (s.reads, s.writes, one_more s.syncs)
 
 -- the call fails
 abbrev pub is_bad : Fate → Bool

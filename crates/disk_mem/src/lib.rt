@@ -5,11 +5,11 @@
 #![tactic(auto)]
 
 mod event;
+mod fate;
 mod medium;
 mod mem;
 mod page;
 mod pages;
-mod planned;
 mod strikes;
 
 pub use mem::MemDisk;

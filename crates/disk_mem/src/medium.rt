@@ -18,7 +18,8 @@ pub struct Medium {
     pub clean: bool,
     pub room_writes: u32,
     pub room_bytes: u64,
-    ghost replayed: { content_from (zeros (length pages.bytes)) events.items pieces.items ≡ pages.bytes },
+    ghost replayed: { content_from (zeros (length pages.bytes)) events.items pieces.items
+        ≡ pages.bytes },
     ghost kept: { kept_by events.items ≡ length pieces.items },
     ghost pending: { clean ≡ true → ranges_from [] events.items ≡ [] },
     ghost events_room: { vec_len events + 2 * room_writes + cond clean 0 1 ≤ vec_capacity events },
@@ -53,8 +54,8 @@ impl Medium {
         Ok(())
     }
 
-    /// A write of which the first `kept` bytes stand.
-    pub fn wrote(&mut self, at: u64, bytes: &[u8], kept: usize)
+    /// Notes a write of which the first `kept` bytes stand.
+    pub fn write(&mut self, at: u64, bytes: &[u8], kept: usize)
         requires range { at + length bytes.now ≤ length self.old.pages.bytes }
         requires room { HasRoom 1 (length bytes.now) (room_of self.old) }
         requires kept { kept ≤ length bytes.now }
@@ -83,8 +84,8 @@ impl Medium {
         self.room_bytes -= bytes.len() as u64;
     }
 
-    /// What was written is on the disk for good.
-    pub fn synced(&mut self)
+    /// Notes that what was written is on the disk for good.
+    pub fn sync(&mut self)
         ensures durable { Only self.old.pages.bytes (images self.new) }
         ensures reads { self.new.pages.bytes ≡ self.old.pages.bytes }
         ensures time { Elapses (length self.old.events.items) (length self.new.events.items)

@@ -7,7 +7,8 @@ ghost use Rattle.disk_mem.specs.Obeys.{IsNew};
 use crate::medium::Medium;
 use crate::pages::Pages;
 use crate::strikes::{Fate, Strikes};
-use disk_core::{Disk, FailKind, Failed, FaultPlan, ReadError};
+use disk_core::{DeviceError, Disk, FailKind, FaultPlan, ReadError};
+use fault_count::one_more;
 use std::alloc::{AllocError, Global};
 
 /// A disk in memory. It keeps a record of its writes and syncs, from which its crash images follow,
@@ -24,7 +25,8 @@ pub struct MemDisk {
 
 impl MemDisk {
     ghost use Rattle.std.specs.Prelude.{◌||◌, ◌≤◌, if◌then◌else◌};
-    ghost use Rattle.disk_mem.specs.Strikes.{fate_of, numbers_of, counted, is_stop, is_bad, next};
+    ghost use Rattle.disk_mem.specs.Strikes.{fate_of, numbers_of, counted, is_stop, is_bad};
+    ghost use Rattle.fault_count.specs.Faults.{one_more};
 
     /// A disk of `size` zeros.
     pub fn new(alloc: Global, size: u64) -> Result<MemDisk, AllocError>
@@ -62,13 +64,13 @@ impl MemDisk {
         ensures numbers { numbers_of self.new.strikes ≡ counted kind self.old.strikes }
         ensures plan { self.new.strikes.plan ≡ self.old.strikes.plan }
         ensures faults { self.new.faults
-            ≡ (if is_bad result then next self.old.faults else self.old.faults) }
+            ≡ (if is_bad result then one_more self.old.faults else self.old.faults) }
         ensures no_fewer { self.old.faults ≤ self.new.faults }
         ensures medium { self.new.medium ≡ self.old.medium }
     {
         let fate = self.strikes.next_fate(kind);
         if fate.is_bad() {
-            self.faults = self.faults.saturating_add(1);
+            self.faults = one_more(self.faults);
         }
         fate
     }
@@ -117,26 +119,26 @@ impl Disk for MemDisk {
         Ok(self.medium.pages.read(self.alloc, at, len)?)
     }
 
-    fn write(&mut self, at: u64, bytes: &[u8]) -> Result<(), Failed> {
+    fn write(&mut self, at: u64, bytes: &[u8]) -> Result<(), DeviceError> {
         let fate = self.strike(FailKind::Write);
-        self.medium.wrote(at, bytes, fate.kept(bytes.len()));
+        self.medium.write(at, bytes, fate.kept(bytes.len()));
         if fate.is_bad() {
-            return Err(Failed);
+            return Err(DeviceError);
         }
         Ok(())
     }
 
-    fn sync(&mut self) -> Result<(), Failed> {
+    fn sync(&mut self) -> Result<(), DeviceError> {
         if self.strike(FailKind::Sync).is_bad() {
-            return Err(Failed);
+            return Err(DeviceError);
         }
-        self.medium.synced();
+        self.medium.sync();
         Ok(())
     }
 
-    fn restart(&mut self) -> Result<(), Failed> {
+    fn restart(&mut self) -> Result<(), DeviceError> {
         self.strikes.stopped = false;
-        self.medium.synced();
+        self.medium.sync();
         Ok(())
     }
 

@@ -22,7 +22,10 @@ impl Model for Pages {
 
     ghost Value = { Paged };
 
-    ghost view = { λ p. record { bytes = take p.size (content p.table.items); spare = vec_len p.spare } };
+    ghost view = { λ p. record {
+      bytes = take p.size (content p.table.items);
+      spare = vec_len p.spare;
+    } };
 
     ghost invariant = { λ p. p.size ≤ 4096 * vec_len p.table };
 }

@@ -2,8 +2,9 @@
 ghost use Rattle.std.specs.Prelude.{◌≡◌, ◌||◌, false};
 ghost use Rattle.disk_core.specs.Plans.{no_faults};
 
-use crate::planned::planned;
+use crate::fate::fate_in_plan;
 use disk_core::{FailKind, FaultPlan};
+use fault_count::one_more;
 
 /// What becomes of a call.
 #[derive(Clone, Copy, Drop)]
@@ -41,7 +42,7 @@ impl Strikes {
         if self.stopped {
             return Fate::Fails;
         }
-        let fate = planned(&self.plan, kind, number);
+        let fate = fate_in_plan(&self.plan, kind, number);
         if fate.is_stop() {
             self.stopped = true;
         }
@@ -56,15 +57,15 @@ impl Strikes {
     {
         match kind {
             FailKind::Read => {
-                self.reads = self.reads.saturating_add(1);
+                self.reads = one_more(self.reads);
                 self.reads
             }
             FailKind::Write => {
-                self.writes = self.writes.saturating_add(1);
+                self.writes = one_more(self.writes);
                 self.writes
             }
             FailKind::Sync => {
-                self.syncs = self.syncs.saturating_add(1);
+                self.syncs = one_more(self.syncs);
                 self.syncs
             }
         }

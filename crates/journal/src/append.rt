@@ -1,7 +1,8 @@
 //! Appending to a journal.
 ghost use Rattle.std.specs.Prelude.{◌≡◌, ◌+◌, ◌≤◌, ◌<◌, ◌^◌, ◌↔◌, ◌∷◌, [], ◌++◌, length, OnOk, IfOk, IsErrOf};
-ghost use Rattle.disk_core.specs.Images.{EachImage, SameImages, From, HasRisen};
+ghost use Rattle.disk_core.specs.Images.{EachImage, Only, SameImages, From};
 ghost use Rattle.disk_core.specs.Moments.{LeavesOnly};
+ghost use Rattle.disk_core.specs.Served.{IsServed, IsUntouched};
 ghost use Rattle.disk_area.specs.Windows.{InArea};
 ghost use Rattle.wire.specs.Fields.{bytes_field};
 ghost use Rattle.journal.specs.Ready.{IsReady, Grows, MayGrow};
@@ -58,23 +59,23 @@ impl Journal {
         ensures any_moment { LeavesOnly D.moment D.left_since disk.old disk.new
             (From (D.images disk.old) (InArea self.old.area (MayGrow self.old.used payload.now))) }
 
+        ensures durable { OnOk result (Only (D.seen disk.new) (D.images disk.new)) }
+        ensures full_moment { IsErrOf result JournalError.Full
+            → LeavesOnly D.moment D.left_since disk.old disk.new (D.images disk.old) }
+        ensures memory_moment { IsErrOf result JournalError.OutOfMemory
+            → LeavesOnly D.moment D.left_since disk.old disk.new (D.images disk.old) }
         ensures full { IsErrOf result JournalError.Full
             ↔ (self.old.area.len < self.old.used + 6 + length payload.now) }
         ensures full_disk { IsErrOf result JournalError.Full
-            → (D.seen disk.new ≡ D.seen disk.old)
-            × SameImages (D.images disk.old) (D.images disk.new) }
+            → IsUntouched D.seen D.images disk.old disk.new }
         ensures full_journal { IsErrOf result JournalError.Full → self.new ≡ self.old }
         ensures memory_disk { IsErrOf result JournalError.OutOfMemory
-            → (D.seen disk.new ≡ D.seen disk.old)
-            × SameImages (D.images disk.old) (D.images disk.new) }
+            → IsUntouched D.seen D.images disk.old disk.new }
         ensures memory_journal { IsErrOf result JournalError.OutOfMemory → self.new ≡ self.old }
         ensures failed_journal { IsErrOf result JournalError.Failed → self.new ≡ self.old }
-        ensures cause { IsErrOf result JournalError.Failed
-            → HasRisen (D.fault_count disk.old) (D.fault_count disk.new) }
-        ensures faults { D.fault_count disk.old ≤ D.fault_count disk.new }
         ensures area { self.new.area ≡ self.old.area }
-        ensures plan { D.armed disk.new ≡ D.armed disk.old }
-        ensures size { length (D.seen disk.new) ≡ length (D.seen disk.old) }
+        ensures served { IsServed D.seen D.fault_count D.armed (IsErrOf result JournalError.Failed)
+            disk.old disk.new }
     {
         let taken = 5 + payload.len() as u64;
         if self.area.len - self.used <= taken {

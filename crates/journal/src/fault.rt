@@ -2,7 +2,7 @@
 ghost use Rattle.std.specs.Prelude.{◌≡◌};
 ghost use Rattle.journal.specs.declared.fault.JournalError.TheVariants.{Failed as faulted, OutOfMemory as no_memory};
 
-use disk_core::Failed;
+use disk_core::DeviceError;
 use std::alloc::AllocError;
 
 #[derive(Clone, Copy, Debug, PartialEq, Eq, Drop)]
@@ -23,10 +23,10 @@ impl From<AllocError> for JournalError {
     }
 }
 
-impl From<Failed> for JournalError {
+impl From<DeviceError> for JournalError {
     ghost from_gives = { λ _ e. e ≡ faulted };
 
-    fn from(_: Failed) -> Self {
+    fn from(_: DeviceError) -> Self {
         JournalError::Failed
     }
 }

@@ -1,7 +1,8 @@
 //! Reading a journal's list.
 ghost use Rattle.std.specs.Prelude.{◌≡◌, ◌≤◌, ◌<◌, [], ◌∷◌, length, IfOk, IsErrOf, MatchOption, IfSome};
-ghost use Rattle.disk_core.specs.Images.{SameImages, HasRisen};
+ghost use Rattle.disk_core.specs.Images.{SameImages};
 ghost use Rattle.disk_core.specs.Moments.{Elapses};
+ghost use Rattle.disk_core.specs.Served.{IsServed};
 ghost use Rattle.disk_area.specs.Windows.{window, IsInside};
 ghost use Rattle.journal.specs.Records.{journal_list};
 
@@ -19,11 +20,9 @@ pub fn list<D: Disk>(alloc: Global, disk: &mut D, area: Area) -> Result<Records,
     ensures images { SameImages (D.images disk.old) (D.images disk.new) }
     ensures time { Elapses (D.moment disk.old) (D.moment disk.new)
         (D.left_since disk.old) (D.left_since disk.new) (D.images disk.new) }
-    ensures faults { D.fault_count disk.old ≤ D.fault_count disk.new }
-    ensures cause { IsErrOf result ReadError.Failed
-        → HasRisen (D.fault_count disk.old) (D.fault_count disk.new) }
-    ensures plan { D.armed disk.new ≡ D.armed disk.old }
     ensures room { D.room disk.new ≡ D.room disk.old }
+    ensures served { IsServed D.seen D.fault_count D.armed (IsErrOf result ReadError.Failed)
+        disk.old disk.new }
 {
     let bytes = area.read(disk, 0, area.len as usize)?;
     Ok(records_of(alloc, &bytes)?)

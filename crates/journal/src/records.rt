@@ -86,7 +86,7 @@ impl Records {
     }
 
     /// How many bytes the records take in their area: where the next one begins.
-    pub fn taken(&self) -> u64
+    pub fn byte_len(&self) -> u64
         requires { taken self.now < 2 ^ 64 }
         ensures { result ≡ taken self.now }
     {

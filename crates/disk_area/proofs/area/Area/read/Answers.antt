@@ -10,5 +10,8 @@ returns-clause-bytes g c =
     let area = c.args.self.now in
     let seen = g.D.Disk.seen c.args.disk.now in
     let end : area.at + c.args.at + c.args.len ≡ area.at + (c.args.at + c.args.len) = omega arith in
-    let same = ap (λ (n : ℕ). slice_range seen (area.at + c.args.at) n) end ∙ window_range area seen c.args.at (c.args.at + c.args.len) (omega arith) c.requires.range in
-    IfOk-weaker c.read.result _ (λ (v : Vec ℕ Global). v.items ≡ slice_range (window area seen) c.args.at (c.args.at + c.args.len)) (λ v is. is ∙ same) c.read.ensures.bytes
+    let same =
+    ap (λ (n : ℕ). slice_range seen (area.at + c.args.at) n) end
+    ∙ window_range area seen c.args.at (c.args.at + c.args.len) (omega arith) c.requires.range in
+    IfOk-weaker c.read.result _ (λ (v : Vec ℕ Global). v.items ≡ slice_range (window area seen) c.args.at
+    (c.args.at + c.args.len)) (λ v is. is ∙ same) c.read.ensures.bytes

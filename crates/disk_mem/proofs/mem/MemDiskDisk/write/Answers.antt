@@ -16,8 +16,9 @@ kept_all (Stops keep) n good = cc
 pub returns-clause-written : goal.returns-clause-written
 returns-clause-written c =
     let piece = c.args.bytes.now in
-    let kept = c.kept.ensures ∙ kept_all c.strike-fate.result (length piece) (sym c.is_bad.ensures ∙ c.if-is_bad.false) in
-    c.wrote.ensures.content
+    let kept = c.kept.ensures ∙ kept_all c.strike-fate.result (length piece)
+    (sym c.is_bad.ensures ∙ c.if-is_bad.false) in
+    c.write.ensures.content
     ∙ ap (λ (m : Medium). put_at m.pages.bytes c.args.at (take c.kept.result piece)) c.strike-fate.ensures.medium
     ∙ ap (λ (n : ℕ). put_at c.args.self.now.medium.pages.bytes c.args.at (take n piece)) kept
     ∙ ap (λ xs. put_at c.args.self.now.medium.pages.bytes c.args.at xs) (take_all (length piece) piece (omega arith))

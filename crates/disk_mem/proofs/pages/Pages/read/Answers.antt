@@ -15,7 +15,8 @@ loop-index-preserved c =
     let high : index < (end - 1) / 4096 + 1 = omega arith in
     let from_is : from ≡ max start (index * 4096) - index * 4096 = omega arith in
     let to_is : to ≡ min (end - index * 4096) 4096 = omega arith in
-    let range = c.page-page.ensures.bytes from to (in_order start end index from to some low high from_is to_is) (omega (arith, to_is)) (omega arith) in
+    let range = c.page-page.ensures.bytes from to (in_order start end index from to some low high from_is to_is)
+    (omega (arith, to_is)) (omega arith) in
     c.in_ok-extend_from_slice.ensures.items
     ∙ ap (λ (xs : List ℕ). xs ++ slice_range c.page-page.result.now from to) c.loop-index.invariant
     ∙ read_step start end index from to some low high from_is to_is c.args.self.now.bytes c.page-page.result.now c.requires range

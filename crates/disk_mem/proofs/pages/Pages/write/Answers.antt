@@ -20,12 +20,16 @@ loop-index-preserved c =
     let from_is : from ≡ max start (index * 4096) - index * 4096 = omega arith in
     let to_is : to ≡ min (end - index * 4096) 4096 = omega arith in
     let part : List ℕ = slice_range piece (index * 4096 + from - start) (index * 4096 + to - start) in
-    let long : length part ≡ index * 4096 + to - start - (index * 4096 + from - start) = length-range piece _ _ (omega (arith, to_is)) in
-    let within : 4096 * index + from + length part ≤ length c.loop-index.self.bytes = omega (arith, long, some, low, high, from_is, to_is, c.loop-index.invariant.size, c.requires.range) in
+    let long : length part ≡ index * 4096 + to - start - (index * 4096 + from - start) = length-range piece _ _
+    (omega (arith, to_is)) in
+    let within : 4096 * index + from + length part ≤ length c.loop-index.self.bytes = omega
+    (arith, long, some, low, high, from_is, to_is, c.loop-index.invariant.size, c.requires.range) in
     record {
       bytes = c.put.ensures.bytes
           ∙ ap (λ (xs : List ℕ). put_at xs (4096 * index + from) part) c.loop-index.invariant.bytes
-          ∙ write_step start end index from to some low high from_is to_is c.args.self.now.bytes piece (omega arith) c.requires.range;
-      size = ap length c.put.ensures.bytes ∙ length-put_at (4096 * index + from) part c.loop-index.self.bytes within ∙ c.loop-index.invariant.size;
+          ∙ write_step start end index from to some low high from_is to_is c.args.self.now.bytes piece
+          (omega arith) c.requires.range;
+      size = ap length c.put.ensures.bytes ∙ length-put_at (4096 * index + from) part c.loop-index.self.bytes within
+          ∙ c.loop-index.invariant.size;
       stock = omega (arith, c.put.ensures.spare, c.loop-index.invariant.stock);
     }

@@ -6,17 +6,17 @@ use crate::strikes::Fate;
 use disk_core::{FailKind, FaultPlan};
 
 /// What the plan says of the call of this kind and number: the first stop of a write strikes alone.
-pub fn planned(plan: &FaultPlan, kind: FailKind, number: u64) -> Fate
+pub fn fate_in_plan(plan: &FaultPlan, kind: FailKind, number: u64) -> Fate
     ensures { result ≡ planned plan.now kind number }
 {
     let stop = match kind {
         FailKind::Write => first_stop(plan.stops.as_slice(), number),
         FailKind::Read | FailKind::Sync => None,
     };
-    fate(stop, is_listed(plan.fails.as_slice(), kind, number))
+    fate_by(stop, is_listed(plan.fails.as_slice(), kind, number))
 }
 
-fn fate(stop: Option<u64>, is_listed: bool) -> Fate
+fn fate_by(stop: Option<u64>, is_listed: bool) -> Fate
     ensures { result ≡ fate_by stop is_listed }
 {
     match stop {
