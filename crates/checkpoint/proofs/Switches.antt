@@ -1,60 +1,101 @@
--- From steps in a head to the half that counts.
-use Rattle.std.proofs.Common.{◌≡◌, inl, inr, ℕ, ◌-◌, ◌<◌, ◌≤◌, ◌^◌, List, [], ◌∷◌, length, take, drop, get_or, Option, Some, sym, ◌∙◌, ap, subst, arith, lit<}
+-- From steps in a head to what the halves read as.
+use Rattle.std.proofs.Common.{◌≡◌, inl, inr, ℕ, ◌+◌, ◌<◌, ◌≤◌, ◌^◌, List, [], ◌∷◌, length, take, drop, get_or, Option, Some, sym, ◌∙◌, ap, subst, arith}
 use Rattle.disk_core.specs.Bytes.{Puts, Torn}
 use Rattle.disk_area.specs.declared.area.Area.{Area}
 use Rattle.disk_area.specs.Windows.{window, IsInside, InArea}
 use Rattle.disk_area.proofs.Windows.{length-window}
-use Rattle.checkpoint.specs.Halves.{Body, head_area, half_of, stored_in, padded}
-use Rattle.checkpoint.specs.Counting.{HasHalf, IsSpare, IsNewer, IsAbove, Keeps, CanOpen, Opens, MayOpen}
+use Rattle.checkpoint.specs.Halves.{Body, HasHalf, layout_of, other, head_area, half_of, stored_in, padded}
+use Rattle.checkpoint.specs.Counting.{IsNewer, IsAbove, CanOpen, Opens, MayOpen, MayClose}
 use Rattle.checkpoint.specs.Quiet.{Quiet, Rewritten}
-use Rattle.checkpoint.proofs.Gates.{shut_none, gate_torn, gate_opened}
+use Rattle.checkpoint.proofs.Places.{sound}
+use Rattle.checkpoint.proofs.Gates.{gate_torn, gate_opened, torn_rest, put_rest}
 use Rattle.checkpoint.proofs.Bodies.{padded_reads, padded_last, gate_of}
-use Rattle.checkpoint.proofs.Counts.{still_counts, now_counts, none_counts, other_same, newer_other}
+use Rattle.checkpoint.proofs.Fronts.{head_beside}
 
 pub has_head : (half : ℕ) (bytes : List ℕ) → HasHalf half bytes → IsInside (head_area half) bytes
-has_head half bytes has = omega (arith, has)
+has_head half bytes has = omega (arith, has, (sound half).some)
 
-some_window : (area : Area) (bytes : List ℕ) → IsInside area bytes → 0 < area.len → 0 < length (window area bytes)
-some_window area bytes inside some = omega (arith, length-window area bytes inside, some)
+head_long : (half : ℕ) (bytes : List ℕ) → HasHalf half bytes
+    → length (window (head_area half) bytes) ≡ (layout_of half).journal_at + 1
+head_long half bytes has = length-window (head_area half) bytes (has_head half bytes has)
 
 some_head : (half : ℕ) (bytes : List ℕ) → HasHalf half bytes → 0 < length (window (head_area half) bytes)
-some_head half bytes has = some_window (head_area half) bytes (has_head half bytes has) (lit< tt)
+some_head half bytes has = omega (arith, head_long half bytes has)
 
-module _ (half : ℕ) (old new : List ℕ) (lt : half < 2) where
-  pub keeps : IsSpare half old → InArea (head_area half) Quiet old new → Keeps half old new
-  keeps spare quiet = record { outside = quiet.outside; current = still_counts half old new lt quiet.outside spare quiet.inside }
+module _ (half : ℕ) (old new : List ℕ) (lt : half < 4) where
+  abbrev most : ℕ
+  most = (layout_of half).state_max
 
-  pub stores : (generation : ℕ) (state : List ℕ) → generation < 2 ^ 64 → length state ≤ 131072 → InArea (head_area half) (Rewritten (padded (record { generation = generation; state = state }))) old new
-      → stored_in half new ≡ Some (record { generation = generation; state = state })
-  stores generation state small short rewritten = padded_reads generation state (drop 1 (window (head_area half) new)) small short rewritten.inside.behind
+  abbrev end : ℕ
+  end = (layout_of half).journal_at
 
-  pub can_open : (generation : ℕ) (state : List ℕ) → generation < 2 ^ 64 → length state ≤ 131072 → IsNewer generation (half_of 0 old) → IsNewer generation (half_of 1 old)
-      → InArea (head_area half) (Rewritten (padded (record { generation = generation; state = state }))) old new → CanOpen half new
-  can_open generation state small short first second rewritten =
-      let above : IsNewer generation (half_of (1 - half) new) = subst (λ (o : Option Body). IsNewer generation o) (sym (other_same half old new lt rewritten.outside)) (newer_other half generation old lt first second) in
-      record {
-        shut = rewritten.inside.shut;
-        above = subst (λ (o : Option Body). IsAbove o (half_of (1 - half) new)) (sym (stores generation state small short rewritten)) above;
-        journal = padded_last generation state (window (head_area half) new) short rewritten.inside.behind;
-      }
+  behind_gate : 0 < end
+  behind_gate = omega (arith, (sound half).fits)
+
+  pub closes : InArea (head_area half) Quiet old new → MayClose half old new
+  closes quiet = record {
+    outside = quiet.outside;
+    reads = quiet.inside most;
+    beside = head_beside half old new lt quiet.outside;
+  }
+
+  -- a body that was put is read behind an open gate
+  module _ (generation : ℕ) (state : List ℕ) (small : generation < 2 ^ 64) (short : length state ≤ most)
+      (rewritten : InArea (head_area half) (Rewritten
+      (padded end (record { generation = generation; state = state }))) old new) where
+    pub stores : stored_in half new ≡ Some (record { generation = generation; state = state })
+    stores = padded_reads end most generation state (omega (arith, (sound half).fits)) (sound half).short short
+        (drop 1 (window (head_area half) new)) small rewritten.inside.behind
+
+    pub can_open : IsNewer generation (half_of (other half) old) → CanOpen half new
+    can_open newer =
+        let above : IsNewer generation (half_of (other half) new) =
+        subst (λ (o : Option Body). IsNewer generation o)
+        (sym (head_beside half old new lt rewritten.outside)) newer in
+        record {
+          shut = rewritten.inside.shut;
+          above = subst (λ (o : Option Body). IsAbove o (half_of (other half) new)) (sym stores) above;
+          journal = padded_last end most generation state (omega (arith, (sound half).fits))
+              (sound half).short short (window (head_area half) new)
+              (omega (arith, (sound half).fits)) rewritten.inside.behind;
+        }
 
   pub may_open : CanOpen half old → InArea (head_area half) (Torn 0 1) old new → MayOpen half old new
-  may_open can torn = elim (gate_torn (window (head_area half) old) (window (head_area half) new) torn.inside) [
-    | inl reads ↦ inr (record { outside = torn.outside; current = now_counts half old new lt torn.outside can.above reads })
-    | inr none ↦ inl (record { outside = torn.outside; current = none_counts half old new lt torn.outside (shut_none (window (head_area half) old) can.shut) none })
+  may_open can torn = elim (gate_torn most (window (head_area half) old) (window (head_area half) new) torn.inside) [
+    | inl reads ↦ inr (record {
+      outside = torn.outside;
+      reads = reads;
+      beside = head_beside half old new lt torn.outside;
+      journal = torn_rest (window (head_area half) old) (window (head_area half) new) end torn.inside behind_gate
+          ∙ can.journal;
+    })
+    | inr none ↦ inl (record {
+      outside = torn.outside;
+      reads = inr none;
+      beside = head_beside half old new lt torn.outside;
+    })
   ]
 
-  pub opens : HasHalf half old → CanOpen half old → InArea (head_area half) (Puts 0 (1 ∷ [])) old new → Opens half old new
+  pub opens : HasHalf half old → CanOpen half old → InArea (head_area half) (Puts 0 (1 ∷ [])) old new
+      → Opens half old new
   opens has can put = record {
     outside = put.outside;
-    current = now_counts half old new lt put.outside can.above (gate_opened (window (head_area half) old) (window (head_area half) new) (some_head half old has) put.inside);
+    reads = gate_opened most (window (head_area half) old) (window (head_area half) new)
+        (some_head half old has) put.inside;
+    beside = head_beside half old new lt put.outside;
+    journal = put_rest 1 (window (head_area half) old) (window (head_area half) new) end
+        (some_head half old has) put.inside behind_gate ∙ can.journal;
   }
 
 -- the gate of a head, as it is read
-pub head_gate : (half : ℕ) (bytes : List ℕ) (area : Area) → area ≡ head_area half → HasHalf half bytes → (front : List ℕ) (k gate : ℕ) → 0 < k → k ≤ 262145 → front ≡ take k (window area bytes) → gate ≡ get_or front 0 gate
+pub head_gate : (half : ℕ) (bytes : List ℕ) (area : Area) → area ≡ head_area half → HasHalf half bytes
+    → (front : List ℕ) (gate : ℕ) → front ≡ take 13 (window area bytes) → gate ≡ get_or front 0 gate
     → gate ≡ get_or (window area bytes) 0 0
-head_gate half bytes area is has front k gate some le front_is read =
-    gate_of (window area bytes) front k gate some (long (ap length (ap (λ (a : Area). window a bytes) is) ∙ length-window (head_area half) bytes (has_head half bytes has)) le) front_is read
-  where
-    long : {n m k : ℕ} → n ≡ m → k ≤ m → k ≤ n
-    long {n} {m} {k} e le = subst (λ (x : ℕ). k ≤ x) (sym e) le
+head_gate half bytes area is has front gate front_is read =
+    gate_of (window area bytes) front 13 gate (omega arith)
+    (omega (
+      arith,
+      ap (λ (a : Area). length (window a bytes)) is,
+      head_long half bytes has,
+      (sound half).fits,
+    )) front_is read

@@ -1,24 +1,28 @@
--- Which half counts.
-use Rattle.std.specs.Prelude.{◌≡◌, ◌≢◌, ◌⊎◌, ℕ, ◌+◌, ◌*◌, ◌-◌, ◌<◌, ◌≤◌, nat_lt, if◌then◌else◌, List, length, slice_index, Option, Some, None, IfSome}
-use Rattle.std.specs.Option.{option_map}
+-- Which half counts, and what the calls leave of the halves.
+use Rattle.std.specs.Prelude.{◌≡◌, ◌≢◌, ◌⊎◌, ℕ, ◌+◌, ◌<◌, nat_lt, Bool, if◌then◌else◌, List, slice_index, Option, Some, None, IfSome}
 use Rattle.disk_core.specs.Bytes.{Torn}
 use Rattle.disk_area.specs.Windows.{window}
-use Rattle.checkpoint.specs.Halves.{Body, head_area, half_of, stored_in}
+use Rattle.checkpoint.specs.Halves.{Body, layout_of, other, head_area, half_of, stored_in}
 
--- of two halves that read the one with the greater generation counts, of equal ones half 0
-abbrev pub newest : Option Body → Option Body → Option (ℕ × Body)
-newest None None = None
-newest (Some a) None = Some (0, a)
-newest None (Some b) = Some (1, b)
-newest (Some a) (Some b) = if nat_lt a.generation b.generation then Some (1, b) else Some (0, a)
+-- the body of a half that reads, where its state passes the test
+abbrev pub told : (List ℕ → Bool) → Option Body → Option Body
+told tells None = None
+told tells (Some body) = if tells body.state then Some body else None
 
--- the half that counts, and its body
-abbrev pub current : List ℕ → Option (ℕ × Body)
-current image = newest (half_of 0 image) (half_of 1 image)
+-- of two halves that read the one with the greater generation counts, of equal ones the lower
+abbrev pub newest : ℕ → Option Body → Option Body → Option (ℕ × Body)
+newest low None None = None
+newest low (Some a) None = Some (low, a)
+newest low None (Some b) = Some (low + 1, b)
+newest low (Some a) (Some b) = if nat_lt a.generation b.generation then Some (low + 1, b) else Some (low, a)
 
--- the half isn't the one that counts
-abbrev pub IsSpare : ℕ → List ℕ → Type 0
-IsSpare half image = IfSome (current image) (λ counting. counting.0 ≢ half)
+-- the half that counts of the pair that begins with this one, among those whose states pass the test
+abbrev pub counting : (List ℕ → Bool) → ℕ → List ℕ → Option (ℕ × Body)
+counting tells low image = newest low (told tells (half_of low image)) (told tells (half_of (low + 1) image))
+
+-- another half of its pair counts, or none
+abbrev pub IsSpare : (List ℕ → Bool) → ℕ → List ℕ → Type 0
+IsSpare tells half image = IfSome (counting tells (layout_of half).low image) (λ counts. counts.0 ≢ half)
 
 -- a generation above that of this half, where it reads
 abbrev pub IsNewer : ℕ → Option Body → Type 0
@@ -30,26 +34,26 @@ abbrev pub IsAbove : Option Body → Option Body → Type 0
 IsAbove None other = ⊥
 IsAbove (Some body) other = IsNewer body.generation other
 
--- half h lies within the disk
-abbrev pub HasHalf : ℕ → List ℕ → Type 0
-HasHalf half bytes = 2097152 * half + 2097152 ≤ length bytes
-
--- the half that counts is as before, and no byte outside the head of this half changed
-pub record Keeps (half : ℕ) (old new : List ℕ) : Type 0 where
-  pub outside : Torn (2097152 * half) 262145 old new
-  pub current : current new ≡ current old
+-- this half reads as before, or as nothing; the other one as before, and no byte outside the head of this half changed
+pub record MayClose (half : ℕ) (old new : List ℕ) : Type 0 where
+  pub outside : Torn (head_area half).at (head_area half).len old new
+  pub reads : (half_of half new ≡ half_of half old) ⊎ (half_of half new ≡ None)
+  pub beside : half_of (other half) new ≡ half_of (other half) old
 
 -- closed, over a body that would count, with an empty journal
 pub record CanOpen (half : ℕ) (image : List ℕ) : Type 0 where
   pub shut : slice_index (window (head_area half) image) 0 ≢ 1
-  pub above : IsAbove (stored_in half image) (half_of (1 - half) image)
-  pub journal : slice_index (window (head_area half) image) 262144 ≡ 0
+  pub above : IsAbove (stored_in half image) (half_of (other half) image)
+  pub journal : slice_index (window (head_area half) image) (layout_of half).journal_at ≡ 0
 
--- this half counts, with the body that was stored in it, and no byte outside its head changed
+-- this half reads as what was stored in it, behind which its journal is empty; the other one as before, and no byte
+-- outside the head of this half changed
 pub record Opens (half : ℕ) (old new : List ℕ) : Type 0 where
-  pub outside : Torn (2097152 * half) 262145 old new
-  pub current : current new ≡ option_map (λ body. (half, body)) (stored_in half old)
+  pub outside : Torn (head_area half).at (head_area half).len old new
+  pub reads : half_of half new ≡ stored_in half old
+  pub beside : half_of (other half) new ≡ half_of (other half) old
+  pub journal : slice_index (window (head_area half) new) (layout_of half).journal_at ≡ 0
 
--- the old state or the new
+-- the half as it was, or closed, or open
 abbrev pub MayOpen : ℕ → List ℕ → List ℕ → Type 0
-MayOpen half old new = Keeps half old new ⊎ Opens half old new
+MayOpen half old new = MayClose half old new ⊎ Opens half old new

@@ -2,9 +2,9 @@
 use Rattle.std.specs.Prelude.{◌≡◌, ◌≢◌, ◌⊎◌, ℕ, List, length, take, drop, slice_index, None}
 use Rattle.checkpoint.specs.Halves.{read_of}
 
--- the head reads as before, or as nothing
+-- the head reads as before, or as nothing, whatever the most bytes of a state
 abbrev pub Quiet : List ℕ → List ℕ → Type 0
-Quiet old new = (read_of new ≡ read_of old) ⊎ (read_of new ≡ None)
+Quiet old new = (most : ℕ) → (read_of most new ≡ read_of most old) ⊎ (read_of most new ≡ None)
 
 -- the gate isn't open
 pub record Shut (old new : List ℕ) : Type 0 where

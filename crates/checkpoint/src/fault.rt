@@ -3,7 +3,7 @@ ghost use Rattle.std.specs.Prelude.{◌≡◌};
 ghost use Rattle.checkpoint.specs.declared.fault.StoreError.TheVariants.{Failed as faulted, OutOfMemory as no_memory};
 ghost use Rattle.checkpoint.specs.Faults.{fault_of};
 
-use disk_core::{Failed, ReadError};
+use disk_core::{DeviceError, ReadError};
 use std::alloc::AllocError;
 
 #[derive(Clone, Copy, Debug, PartialEq, Eq, Drop)]
@@ -22,10 +22,10 @@ impl From<AllocError> for StoreError {
     }
 }
 
-impl From<Failed> for StoreError {
+impl From<DeviceError> for StoreError {
     ghost from_gives = { λ _ e. e ≡ faulted };
 
-    fn from(_: Failed) -> Self {
+    fn from(_: DeviceError) -> Self {
         StoreError::Failed
     }
 }

@@ -3,8 +3,8 @@
 //! Layer: stands on `disk_area` and `wire`; the stores of nodes and of the master stand on it.
 //! Its one contract: until `open_half` each crash image stands for the old state, within it for the old or the new.
 //!
-//! Half h begins at h * 2,097,152: a gate byte, open where it is 1; the generation in eight bytes; the state behind its
-//! length of four bytes, at most 131,072 bytes; zeros; and from 262,144 on the half's journal.
+//! A half is a gate byte, open where it is 1; the generation in eight bytes; the state behind its length of four bytes;
+//! zeros; and the half's journal. Where the four halves begin and how long their parts are is the table in `layout`.
 #![tactic(auto)]
 
 mod fault;
@@ -14,7 +14,7 @@ mod read;
 mod writing;
 
 pub use fault::StoreError;
-pub use layout::{HALF, JOURNAL_AT, STATE_MAX, journal_area};
+pub use layout::{Layout, journal_area, layout_of, other};
 pub use open::open_half;
 pub use read::{HalfBytes, read_half};
 pub use writing::prepare;

@@ -1,15 +1,17 @@
 //! Writing the half that doesn't count.
-ghost use Rattle.std.specs.Prelude.{◌≡◌, ◌+◌, ◌≤◌, ◌<◌, Some, length, OnOk, IfOk, IsErrOf};
-ghost use Rattle.disk_core.specs.Images.{Only, SameImages, HasRisen};
+ghost use Rattle.std.specs.Prelude.{◌≡◌, ◌+◌, ◌^◌, ◌≤◌, ◌<◌, Some, length, OnOk, IfOk, IsErrOf};
+ghost use Rattle.disk_core.specs.Images.{Only, SameImages};
 ghost use Rattle.disk_core.specs.Moments.{LeavesOnly};
 ghost use Rattle.disk_core.specs.Room.{HasRoom};
+ghost use Rattle.disk_core.specs.Served.{IsServed, IsUntouched};
 ghost use Rattle.disk_area.specs.Windows.{IsInside, InArea};
-ghost use Rattle.checkpoint.specs.Halves.{padded, half_of, stored_in};
-ghost use Rattle.checkpoint.specs.Counting.{HasHalf, IsSpare, IsNewer, Keeps, CanOpen};
+ghost use Rattle.checkpoint.specs.Halves as halves;
+ghost use Rattle.checkpoint.specs.Halves.{HasHalf, other, padded, half_of, stored_in};
+ghost use Rattle.checkpoint.specs.Counting.{IsNewer, CanOpen, MayClose};
 ghost use Rattle.checkpoint.specs.Quiet.{Quiet, Rewritten, Shut};
 
 use crate::fault::StoreError;
-use crate::layout::{JOURNAL_AT, head_area};
+use crate::layout::{head_area, layout_of};
 use disk_area::Area;
 use disk_core::Disk;
 use std::alloc::Global;
@@ -24,45 +26,47 @@ pub fn prepare<D: Disk>(
     generation: u64,
     state: &[u8],
 ) -> Result<(), StoreError>
-    requires half { half < 2 }
+    requires half { half < 4 }
     requires inside { HasHalf half (D.seen disk.old) }
     requires nothing_pending { Only (D.seen disk.old) (D.images disk.old) }
-    requires spare { IsSpare half (D.seen disk.old) }
-    requires newer_0 { IsNewer generation (half_of 0 (D.seen disk.old)) }
-    requires newer_1 { IsNewer generation (half_of 1 (D.seen disk.old)) }
-    requires short { length state.now ≤ 131072 }
+    requires newer { IsNewer generation (half_of (other half) (D.seen disk.old)) }
+    requires short { length state.now ≤ (halves.layout_of half).state_max }
 
-    // A crash at any moment of the call leaves the half that counts, and its body.
+    // A crash at any moment of the call leaves the half as it was, or one that reads as nothing, and the other half.
     ensures any_moment { LeavesOnly D.moment D.left_since disk.old disk.new
-        (Keeps half (D.seen disk.old)) }
+        (MayClose half (D.seen disk.old)) }
     ensures prepared { OnOk result (CanOpen half (D.seen disk.new)) }
     ensures stored { OnOk result (stored_in half (D.seen disk.new)
         ≡ Some (record { generation = generation; state = state.now })) }
     ensures durable { OnOk result (Only (D.seen disk.new) (D.images disk.new)) }
     ensures memory { IsErrOf result StoreError.OutOfMemory
-        → (D.seen disk.new ≡ D.seen disk.old) × SameImages (D.images disk.old) (D.images disk.new) }
-    ensures cause { IsErrOf result StoreError.Failed
-        → HasRisen (D.fault_count disk.old) (D.fault_count disk.new) }
-    ensures faults { D.fault_count disk.old ≤ D.fault_count disk.new }
-    ensures plan { D.armed disk.new ≡ D.armed disk.old }
-    ensures size { length (D.seen disk.new) ≡ length (D.seen disk.old) }
+        → IsUntouched D.seen D.images disk.old disk.new }
+    ensures served { IsServed D.seen D.fault_count D.armed (IsErrOf result StoreError.Failed)
+        disk.old disk.new }
 {
-    let body = body_of(alloc, generation, state)?;
+    let body = body_of(
+        alloc,
+        layout_of(half).journal_at as usize,
+        generation,
+        state,
+    )?;
     disk.reserve(2, body.len() as u64 + 1)?;
     rewrite(disk, head_area(half), &body)
 }
 
-/// The bytes of the body, up to the journal's first byte.
-fn body_of(alloc: Global, generation: u64, state: &[u8]) -> Result<Vec<u8>, StoreError>
-    requires { length state.now ≤ 131072 }
+/// The `len` bytes of the body, up to the journal's first byte.
+fn body_of(alloc: Global, len: usize, generation: u64, state: &[u8]) -> Result<Vec<u8>, StoreError>
+    requires small { len < 2 ^ 62 }
+    requires short { length state.now < 2 ^ 32 }
+    requires fits { 12 + length state.now ≤ len }
     ensures body { IfOk result (λ body. body.items
-        ≡ padded (record { generation = generation; state = state.now })) }
+        ≡ padded len (record { generation = generation; state = state.now })) }
     ensures err { IsErrOf result StoreError.Failed → ⊥ }
 {
     let mut body = Vec::new(alloc);
     put_u64(&mut body, generation)?;
     put_bytes(&mut body, state)?;
-    let padding = vec![in alloc; 0u8; JOURNAL_AT as usize - body.len()]?;
+    let padding = vec![in alloc; 0u8; len - body.len()]?;
     body.extend_from_slice(&padding)?;
     Ok(body)
 }
@@ -79,12 +83,9 @@ fn rewrite<D: Disk>(disk: &mut D, area: Area, body: &[u8]) -> Result<(), StoreEr
         (InArea area (Rewritten body.now) (D.seen disk.old) (D.seen disk.new)) }
     ensures durable { OnOk result (Only (D.seen disk.new) (D.images disk.new)) }
     ensures memory { IsErrOf result StoreError.OutOfMemory
-        → (D.seen disk.new ≡ D.seen disk.old) × SameImages (D.images disk.old) (D.images disk.new) }
-    ensures cause { IsErrOf result StoreError.Failed
-        → HasRisen (D.fault_count disk.old) (D.fault_count disk.new) }
-    ensures faults { D.fault_count disk.old ≤ D.fault_count disk.new }
-    ensures plan { D.armed disk.new ≡ D.armed disk.old }
-    ensures size { length (D.seen disk.new) ≡ length (D.seen disk.old) }
+        → IsUntouched D.seen D.images disk.old disk.new }
+    ensures served { IsServed D.seen D.fault_count D.armed (IsErrOf result StoreError.Failed)
+        disk.old disk.new }
 {
     close(disk, area)?;
     Ok(area.write_synced(disk, 1, body)?)
@@ -101,14 +102,11 @@ fn close<D: Disk>(disk: &mut D, area: Area) -> Result<(), StoreError>
     ensures shut { OnOk result (InArea area Shut (D.seen disk.old) (D.seen disk.new)) }
     ensures durable { OnOk result (Only (D.seen disk.new) (D.images disk.new)) }
     ensures memory { IsErrOf result StoreError.OutOfMemory
-        → (D.seen disk.new ≡ D.seen disk.old) × SameImages (D.images disk.old) (D.images disk.new) }
-    ensures cause { IsErrOf result StoreError.Failed
-        → HasRisen (D.fault_count disk.old) (D.fault_count disk.new) }
-    ensures faults { D.fault_count disk.old ≤ D.fault_count disk.new }
-    ensures plan { D.armed disk.new ≡ D.armed disk.old }
-    ensures size { length (D.seen disk.new) ≡ length (D.seen disk.old) }
+        → IsUntouched D.seen D.images disk.old disk.new }
     ensures writes { (D.room disk.old).writes ≤ (D.room disk.new).writes + 1 }
     ensures bytes { (D.room disk.old).bytes ≤ (D.room disk.new).bytes + 1 }
+    ensures served { IsServed D.seen D.fault_count D.armed (IsErrOf result StoreError.Failed)
+        disk.old disk.new }
 {
     let gate = area.read(disk, 0, 1)?;
     if gate[0] != 1 {
