@@ -1,2 +1,2 @@
 mod Zeros
-mod Blanks
+pub mod FourHalves

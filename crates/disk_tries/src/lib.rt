@@ -3,13 +3,11 @@
 //! Layer: at the top of the disks; it has no contract for others, and its tests are the tables.
 #![tactic(auto)]
 
-mod switches;
 mod tries;
 mod turns;
 
-pub use switches::{Switched, blank, try_switch};
 pub use tries::{Tried, TryError, fresh, try_append, try_three};
-pub use turns::{TurnError, Turned, try_third};
+pub use turns::{TurnError, Turned, try_second, try_third};
 
 #[cfg(test)]
 mod rows;

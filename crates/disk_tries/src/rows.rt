@@ -1,25 +1,51 @@
 //! The tables. A record takes five bytes and its payload, and one byte must remain for the next gate.
-use crate::{TryError, TurnError, try_append, try_switch, try_third, try_three};
+ghost use Rattle.std.specs.Prelude.{◌<◌};
+
+use crate::{TryError, TurnError, try_append, try_second, try_third, try_three};
 use checkpoint::{HalfBytes, StoreError};
 use disk_core::{FailKind, Fails, FaultPlan, ReadError, Stops};
 use journal::JournalError;
+use std::alloc::{AllocError, Global};
 use std::test::Fail;
+
+/// The plan in which one write is stopped and keeps so many bytes.
+fn stopped_at(alloc: Global, write: u64, keep: u64) -> Result<FaultPlan, AllocError> {
+    Ok(FaultPlan {
+        stops: Stops::of(vec![in alloc; (write, keep)]?),
+        fails: Fails::of(Vec::new(alloc)),
+    })
+}
+
+/// The plan in which one call fails.
+fn failing_at(alloc: Global, kind: FailKind, number: u64) -> Result<FaultPlan, AllocError> {
+    Ok(FaultPlan {
+        stops: Stops::of(Vec::new(alloc)),
+        fails: Fails::of(vec![in alloc; (kind, number)]?),
+    })
+}
+
+/// How many records are read behind an append under a plan, and whether it failed with one fault or ended well with none.
+fn records_left(alloc: Global, plan: &FaultPlan) -> Result<(usize, bool), TryError> {
+    let tried = try_append(alloc, 64, plan, &[7; 20], &[8; 33])?;
+    let failed = match tried.ended {
+        Ok(()) => tried.faults != 0,
+        Err(fault) => fault == JournalError::Failed && tried.faults == 1,
+    };
+    Ok((tried.records.len(), failed))
+}
 
 /// An area of 64 bytes takes 20 bytes and then 33, and then refuses an empty payload; one of 63 bytes refuses the 33.
 #[test]
 fn an_area_takes_what_fits(rt: HostRuntime) -> Result<(), Fail> {
     let alloc = rt.alloc();
     let plan = FaultPlan::none(alloc);
-    let both = try_append(alloc, 64, &plan, &[7; 20], &[8; 33]).map_err(|_| "no try")?;
-    assert!(rt; matches!(both.ended, Ok(())));
-    assert!(rt; both.records.len() == 2);
     let tight = try_append(alloc, 63, &plan, &[7; 20], &[8; 33]).map_err(|_| "no try")?;
     assert!(rt; matches!(tight.ended, Err(JournalError::Full)));
     assert!(rt; tight.records.len() == 1);
-    let full = try_three(alloc, 64, &[7; 20], &[8; 33], &[]).map_err(|_| "no try")?;
-    assert!(rt; matches!(full, Err(JournalError::Full)));
-    let room = try_three(alloc, 69, &[7; 20], &[8; 33], &[]).map_err(|_| "no try")?;
-    assert!(rt; matches!(room, Ok(())));
+    for (len, fits) in [(64u64, false), (69, true)] {
+        let third = try_three(alloc, len, &[7; 20], &[8; 33], &[]).map_err(|_| "no try")?;
+        assert!(rt; third.is_ok() == fits);
+    }
     Ok(())
 }
 
@@ -29,120 +55,39 @@ fn an_area_takes_what_fits(rt: HostRuntime) -> Result<(), Fail> {
 fn a_stop_leaves_the_list_before_or_with(rt: HostRuntime) -> Result<(), Fail> {
     let alloc = rt.alloc();
     for keep in 0..=40 {
-        let plan = FaultPlan {
-            stops: Stops::of(vec![in alloc; (1u64, keep)].map_err(|_| "memory")?),
-            fails: Fails::of(Vec::new(alloc)),
-        };
-        let tried = try_append(alloc, 64, &plan, &[7; 20], &[8; 33]).map_err(|_| "no try")?;
-        assert!(rt; matches!(tried.ended, Err(JournalError::Failed)));
-        assert!(rt; tried.faults == 1);
-        assert!(rt; tried.records.len() == 1);
+        let plan = stopped_at(alloc, 1, keep).map_err(|_| "memory")?;
+        let left = records_left(alloc, &plan).map_err(|_| "no try")?;
+        assert!(rt; left == (1, true));
     }
     for (keep, records) in [(0u64, 1usize), (1, 2), (2, 2)] {
-        let plan = FaultPlan {
-            stops: Stops::of(vec![in alloc; (2u64, keep)].map_err(|_| "memory")?),
-            fails: Fails::of(Vec::new(alloc)),
-        };
-        let tried = try_append(alloc, 64, &plan, &[7; 20], &[8; 33]).map_err(|_| "no try")?;
-        assert!(rt; matches!(tried.ended, Err(JournalError::Failed)));
-        assert!(rt; tried.records.len() == records);
+        let plan = stopped_at(alloc, 2, keep).map_err(|_| "memory")?;
+        let left = records_left(alloc, &plan).map_err(|_| "no try")?;
+        assert!(rt; left == (records, true));
     }
     Ok(())
 }
 
-/// A write or a sync that fails leaves the list before the append, or with its record.
+/// A write or a sync that fails leaves the list before the append, or with its record. An append makes two writes, two
+/// syncs and no read, and a list one read: a third or a second one isn't there to fail.
 #[test]
 fn a_failure_leaves_the_list_before_or_with(rt: HostRuntime) -> Result<(), Fail> {
     let alloc = rt.alloc();
-    let rows = [
-        (FailKind::Write, 1u64, 1usize),
-        (FailKind::Sync, 1, 1),
-        (FailKind::Write, 2, 1),
-        (FailKind::Sync, 2, 2),
-    ];
-    for (kind, number, records) in rows {
-        let plan = FaultPlan {
-            stops: Stops::of(Vec::new(alloc)),
-            fails: Fails::of(vec![in alloc; (kind, number)].map_err(|_| "memory")?),
-        };
-        let tried = try_append(alloc, 64, &plan, &[7; 20], &[8; 33]).map_err(|_| "no try")?;
-        assert!(rt; matches!(tried.ended, Err(JournalError::Failed)));
-        assert!(rt; tried.faults == 1);
-        assert!(rt; tried.records.len() == records);
-    }
-    Ok(())
-}
-
-/// An append makes two writes, two syncs and no read, and a list one read: a third or a second one isn't there to fail.
-#[test]
-fn an_append_makes_four_calls(rt: HostRuntime) -> Result<(), Fail> {
-    let alloc = rt.alloc();
-    for (kind, number) in [
-        (FailKind::Write, 3u64),
-        (FailKind::Sync, 3),
-        (FailKind::Read, 2),
+    for (kind, number, records, failed) in [
+        (FailKind::Write, 1u64, 1usize, true),
+        (FailKind::Sync, 1, 1, true),
+        (FailKind::Write, 2, 1, true),
+        (FailKind::Sync, 2, 2, true),
+        (FailKind::Write, 3, 2, false),
+        (FailKind::Sync, 3, 2, false),
+        (FailKind::Read, 2, 2, false),
     ] {
-        let plan = FaultPlan {
-            stops: Stops::of(Vec::new(alloc)),
-            fails: Fails::of(vec![in alloc; (kind, number)].map_err(|_| "memory")?),
-        };
-        let tried = try_append(alloc, 64, &plan, &[7; 20], &[8; 33]).map_err(|_| "no try")?;
-        assert!(rt; matches!(tried.ended, Ok(())));
-        assert!(rt; tried.faults == 0);
-        assert!(rt; tried.records.len() == 2);
+        let plan = failing_at(alloc, kind, number).map_err(|_| "memory")?;
+        let left = records_left(alloc, &plan).map_err(|_| "no try")?;
+        assert!(rt; left == (records, failed));
     }
-    Ok(())
-}
-
-/// A switch to half 0 that is stopped, or fails, at each of its calls leaves no half, or the new one; whole, it makes
-/// one read, two writes and two syncs.
-#[test]
-fn a_switch_leaves_the_old_state_or_the_new(rt: HostRuntime) -> Result<(), Fail> {
-    let alloc = rt.alloc();
-    for (write, keep, reads) in [
-        (1u64, 0u64, false),
-        (1, 1, false),
-        (1, 300_000, false),
-        (2, 0, false),
-        (2, 1, true),
-        (3, 0, true),
-    ] {
-        let plan = FaultPlan {
-            stops: Stops::of(vec![in alloc; (write, keep)].map_err(|_| "memory")?),
-            fails: Fails::of(Vec::new(alloc)),
-        };
-        let tried = try_switch(alloc, 2_097_152, &plan, b"state").map_err(|_| "no try")?;
-        assert!(rt; tried.half.is_some() == reads);
-        assert!(rt; tried.faults == u64::from(write < 3));
-    }
-    for (kind, number, reads) in [
-        (FailKind::Read, 1u64, false),
-        (FailKind::Write, 1, false),
-        (FailKind::Sync, 1, false),
-        (FailKind::Write, 2, false),
-        (FailKind::Sync, 2, true),
-        (FailKind::Sync, 3, true),
-    ] {
-        let plan = FaultPlan {
-            stops: Stops::of(Vec::new(alloc)),
-            fails: Fails::of(vec![in alloc; (kind, number)].map_err(|_| "memory")?),
-        };
-        let tried = try_switch(alloc, 2_097_152, &plan, b"state").map_err(|_| "no try")?;
-        assert!(rt; tried.half.is_some() == reads);
-    }
-    Ok(())
-}
-
-/// A list makes one read, and one that fails says so.
-#[test]
-fn a_list_that_is_not_read_says_so(rt: HostRuntime) -> Result<(), Fail> {
-    let alloc = rt.alloc();
-    let plan = FaultPlan {
-        stops: Stops::of(Vec::new(alloc)),
-        fails: Fails::of(vec![in alloc; (FailKind::Read, 1u64)].map_err(|_| "memory")?),
-    };
-    let tried = try_append(alloc, 64, &plan, &[7; 20], &[8; 33]);
-    assert!(rt; matches!(tried, Err(TryError::Read(ReadError::Failed))));
+    let plan = failing_at(alloc, FailKind::Read, 1).map_err(|_| "memory")?;
+    let unread = records_left(alloc, &plan);
+    assert!(rt; matches!(unread, Err(TryError::Read(ReadError::Failed))));
     Ok(())
 }
 
@@ -154,8 +99,24 @@ fn generation(half: &Option<HalfBytes>) -> u64 {
     }
 }
 
-/// A switch to a half whose gate is open, stopped at each of its writes: it closes the gate, writes the body, opens
-/// the gate, and until then the other half counts.
+/// What both halves read as behind a third switch under a plan, and how it ended.
+fn third_switch(
+    alloc: Global,
+    half: u8,
+    plan: &FaultPlan,
+) -> Result<(u64, u64, Result<(), TurnError>), TryError>
+    requires { half < 4 }
+{
+    let turned = try_third(alloc, half, plan, b"state")?;
+    Ok((
+        generation(&turned.half),
+        generation(&turned.beside),
+        turned.ended,
+    ))
+}
+
+/// A switch to half 2, whose gate is open, stopped at each of its writes: it closes the gate, writes the body, opens
+/// the gate, and until then half 3 counts. The generation, the length and the state of the body are 17 bytes.
 #[test]
 fn a_stop_leaves_a_half_that_counts(rt: HostRuntime) -> Result<(), Fail> {
     let alloc = rt.alloc();
@@ -164,77 +125,50 @@ fn a_stop_leaves_a_half_that_counts(rt: HostRuntime) -> Result<(), Fail> {
         (1, 1, 0),
         (2, 0, 0),
         (2, 8, 0),
-        (2, 300_000, 0),
+        (2, 13, 0),
+        (2, 2_000_000, 0),
         (3, 0, 0),
         (3, 1, 3),
         (4, 0, 3),
     ] {
-        let plan = FaultPlan {
-            stops: Stops::of(vec![in alloc; (write, keep)].map_err(|_| "memory")?),
-            fails: Fails::of(Vec::new(alloc)),
-        };
-        let turned = try_third(alloc, 4_194_304, &plan, b"state").map_err(|_| "no try")?;
-        assert!(rt; turned.faults == u64::from(write < 4));
-        assert!(rt; turned.ended.is_ok() == (write == 4));
-        assert!(rt; generation(&turned.half_0) == left);
-        assert!(rt; generation(&turned.half_1) == 2);
-    }
-    // The generation, the length and the state of the body are 17 bytes.
-    for keep in 0..=18 {
-        let plan = FaultPlan {
-            stops: Stops::of(vec![in alloc; (2u64, keep)].map_err(|_| "memory")?),
-            fails: Fails::of(Vec::new(alloc)),
-        };
-        let turned = try_third(alloc, 4_194_304, &plan, b"state").map_err(|_| "no try")?;
-        assert!(rt; turned.half_0.is_none());
-        assert!(rt; generation(&turned.half_1) == 2);
+        let plan = stopped_at(alloc, write, keep).map_err(|_| "memory")?;
+        let (half, beside, ended) = third_switch(alloc, 2, &plan).map_err(|_| "no try")?;
+        assert!(rt; ended.is_ok() == (write == 4));
+        assert!(rt; (half, beside) == (left, 2));
     }
     Ok(())
 }
 
-/// The same switch with a failure at each of its calls. Before it the halves are read, in two reads each; it makes one
-/// read, three writes and three syncs, so to prepare takes five calls and to open two, and no more are there to fail.
+/// The same switch on half 0 with a failure at each of its calls. Before it the other half is read, in two reads; it
+/// makes one read, three writes and three syncs, so to prepare takes five calls and to open two, and no more are there
+/// to fail. Where the gate isn't open, it makes a write and a sync fewer.
 #[test]
 fn a_failure_leaves_a_half_that_counts(rt: HostRuntime) -> Result<(), Fail> {
     let alloc = rt.alloc();
-    for (kind, number, left) in [
-        (FailKind::Read, 4u64, 1u64),
-        (FailKind::Read, 5, 1),
-        (FailKind::Write, 1, 1),
-        (FailKind::Sync, 1, 0),
-        (FailKind::Write, 2, 0),
-        (FailKind::Sync, 2, 0),
-        (FailKind::Write, 3, 0),
-        (FailKind::Sync, 3, 3),
+    let read = Err(TurnError::Read(ReadError::Failed));
+    let store = Err(TurnError::Store(StoreError::Failed));
+    for (kind, number, left, end) in [
+        (FailKind::Read, 2u64, 1u64, read),
+        (FailKind::Read, 3, 1, store),
+        (FailKind::Write, 1, 1, store),
+        (FailKind::Sync, 1, 0, store),
+        (FailKind::Write, 2, 0, store),
+        (FailKind::Sync, 2, 0, store),
+        (FailKind::Write, 3, 0, store),
+        (FailKind::Sync, 3, 3, store),
+        (FailKind::Write, 4, 3, Ok(())),
+        (FailKind::Sync, 4, 3, Ok(())),
+        (FailKind::Read, 8, 3, Ok(())),
     ] {
-        let plan = FaultPlan {
-            stops: Stops::of(Vec::new(alloc)),
-            fails: Fails::of(vec![in alloc; (kind, number)].map_err(|_| "memory")?),
-        };
-        let turned = try_third(alloc, 4_194_304, &plan, b"state").map_err(|_| "no try")?;
-        assert!(rt; turned.faults == 1);
-        let failed = match turned.ended {
-            Err(TurnError::Read(ReadError::Failed)) => number == 4,
-            Err(TurnError::Store(StoreError::Failed)) => number != 4,
-            _ => false,
-        };
-        assert!(rt; failed);
-        assert!(rt; generation(&turned.half_0) == left);
-        assert!(rt; generation(&turned.half_1) == 2);
+        let plan = failing_at(alloc, kind, number).map_err(|_| "memory")?;
+        let (half, beside, ended) = third_switch(alloc, 0, &plan).map_err(|_| "no try")?;
+        assert!(rt; ended == end);
+        assert!(rt; (half, beside) == (left, 2));
     }
-    for (kind, number) in [
-        (FailKind::Write, 4u64),
-        (FailKind::Sync, 4),
-        (FailKind::Read, 10),
-    ] {
-        let plan = FaultPlan {
-            stops: Stops::of(Vec::new(alloc)),
-            fails: Fails::of(vec![in alloc; (kind, number)].map_err(|_| "memory")?),
-        };
-        let turned = try_third(alloc, 4_194_304, &plan, b"state").map_err(|_| "no try")?;
-        assert!(rt; turned.faults == 0);
+    for kind in [FailKind::Write, FailKind::Sync] {
+        let plan = failing_at(alloc, kind, 3).map_err(|_| "memory")?;
+        let turned = try_second(alloc, 0, &plan, b"state").map_err(|_| "no try")?;
         assert!(rt; turned.ended.is_ok());
-        assert!(rt; generation(&turned.half_0) == 3);
     }
     Ok(())
 }

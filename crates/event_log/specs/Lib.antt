@@ -1,2 +1,6 @@
-pub mod Log
-pub mod Runs
+pub mod Meaning
+pub mod Holds
+pub mod Doubts
+pub mod Finds
+pub mod Settles
+pub mod Beside

@@ -1,10 +1,22 @@
-//! A durable list of events over any disk: the smallest store above the journal.
+//! A durable log of events over a pair of halves: a state's text in the half that counts, and the records behind it.
 //!
-//! Layer: stands on `journal`; it is an example, and the check that the journal's public clauses are enough for a store.
-//! Its one contract: over every list of events, with a crash at any moment between or within them, what is read again
-//! is the list of the acknowledged events, with the one in doubt or without.
+//! Layer: stands on `journal` and `checkpoint`; the stores of nodes and of the master are made from it.
+//! Its one contract: at every moment of a call each crash image stands for the state before its one event or after it,
+//! and a log can be opened from it; after a fault `revive` says which.
+//!
+//! A record that doesn't fit behind the others switches the halves first: the present state is written to the other
+//! half with the next generation, and the log goes on there, behind no record.
 #![tactic(auto)]
 
+mod find;
+mod format;
+mod frames;
 mod log;
+mod revive;
+mod stored;
 
-pub use log::EventLog;
+pub use find::{Found, open};
+pub use frames::writes_elsewhere_leave_the_log;
+pub use log::Log;
+pub use revive::Revived;
+pub use stored::Stored;

@@ -1,114 +1,222 @@
-//! The log.
-ghost use Rattle.std.specs.Prelude.{◌≡◌, ◌⊎◌, ◌+◌, ◌≤◌, ◌<◌, ◌^◌, ◌↔◌, [], ◌∷◌, ◌++◌, List, ℕ, length, All, IfOk, IsSomeAnd, OnOk, OnErr, IsErrOf, slice_get};
-ghost use Rattle.disk_core.specs.Images.{EachImage, HasRisen};
+//! The log, and its event.
+ghost use Rattle.std.specs.Prelude.{◌≡◌, ◌+◌, ◌≤◌, ◌<◌, true, false, Some, length, OnOk, OnErr, IsErrOf};
+ghost use Rattle.disk_core.specs.Images.{EachImage, Only};
 ghost use Rattle.disk_core.specs.Moments.{LeavesOnly};
-ghost use Rattle.event_log.specs.Log.{Holds, BeforeOrWith, Doubt};
-ghost use Rattle.event_log.specs.Runs.{HoldsFirst, Acknowledges};
+ghost use Rattle.disk_core.specs.Served.{IsServed};
+ghost use Rattle.checkpoint.specs.Halves as halves;
+ghost use Rattle.event_log.specs.Beside.{InHalves};
+ghost use Rattle.event_log.specs.Holds.{Holds, StandsFor};
+ghost use Rattle.event_log.specs.Doubts.{Either, InDoubt, MaySwitch, switched, of_event};
 
-use disk_core::{Disk, ReadError};
-use journal::{Journal, JournalError, Payload, Records, list};
+use crate::stored::Stored;
+use checkpoint::{StoreError, journal_area, layout_of, open_half, other, prepare};
+use disk_core::Disk;
+use journal::{Journal, JournalError};
 use std::alloc::Global;
 
-/// A disk and the journal on it.
-pub struct EventLog<D: Disk> {
-    pub disk: D,
-    pub journal: Journal,
+/// Where a log goes on: the half that counts, its generation, and how many bytes its journal's records take.
+#[derive(Clone, Copy, Debug, PartialEq, Eq, Drop)]
+pub struct Log {
+    pub half: u8,
+    pub generation: u64,
+    pub used: u64,
 }
 
-impl<D: Disk> EventLog<D> {
-    /// Adds an event. After `Failed` it is in doubt, until `recover` says whether it stood.
-    pub fn record(&mut self, alloc: Global, event: &[u8]) -> Result<(), JournalError>
-        ghost before: { List (List ℕ) }
-        requires open { EachImage (D.images self.old.disk)
-            (Holds self.old.journal.area self.old.journal.used before) }
-        requires short { length event.now < 2 ^ 32 }
-        ensures acknowledged { OnOk result (EachImage (D.images self.new.disk)
-            (Holds self.new.journal.area self.new.journal.used (before ++ event.now ∷ []))) }
+impl Log {
+    /// Adds the event of this record to the present state. Where the record doesn't fit behind the others, the halves
+    /// are switched first.
+    ///
+    /// After `Failed` the event is in doubt, until `revive` says whether it stood.
+    pub fn append<D: Disk, S: Stored>(
+        &mut self,
+        alloc: Global,
+        disk: &mut D,
+        event: &[u8],
+        present: &S,
+    ) -> Result<(), StoreError>
+        requires holds { EachImage (D.images disk.old)
+            (Holds S.start S.step self.old (Some present.now)) }
+        requires durable { Only (D.seen disk.old) (D.images disk.old) }
+        requires storable { S.storable present.now }
+        requires short { length event.now + 6 ≤ (halves.layout_of self.old.half).journal_len }
+        requires long { S.longest ≤ (halves.layout_of self.old.half).state_max }
+        ensures acknowledged { OnOk result (EachImage (D.images disk.new)
+            (Holds S.start S.step self.new (S.step present.now event.now))) }
+        ensures durable { OnOk result (Only (D.seen disk.new) (D.images disk.new)) }
 
-        // A crash at any moment of the call leaves the list before it, or with the event.
-        ensures any_moment { LeavesOnly D.moment D.left_since self.old.disk self.new.disk
-            (BeforeOrWith self.old.journal.area self.old.journal.used before event.now) }
-        ensures unchanged { (IsErrOf result JournalError.Full ⊎ IsErrOf result JournalError.OutOfMemory)
-            → EachImage (D.images self.new.disk)
-            (Holds self.old.journal.area self.old.journal.used before) }
-        ensures journal { OnErr result (self.new.journal ≡ self.old.journal) }
-        ensures area { self.new.journal.area ≡ self.old.journal.area }
-        ensures full { IsErrOf result JournalError.Full
-            ↔ (self.old.journal.area.len < self.old.journal.used + 6 + length event.now) }
-        ensures cause { IsErrOf result JournalError.Failed
-            → HasRisen (D.fault_count self.old.disk) (D.fault_count self.new.disk) }
-        ensures faults { D.fault_count self.old.disk ≤ D.fault_count self.new.disk }
-        ensures plan { D.armed self.new.disk ≡ D.armed self.old.disk }
+        // A crash at any moment of the call leaves the state before the event, or after it.
+        ensures any_moment { LeavesOnly D.moment D.left_since disk.old disk.new
+            (Either S.start S.step (halves.layout_of self.old.half)
+            (of_event S.step present.now event.now)) }
+        ensures in_doubt { IsErrOf result StoreError.Failed → EachImage (D.images disk.new)
+            (InDoubt S.start S.step self.new (of_event S.step present.now event.now)) }
+
+        // Where a switch failed, `revive` will find the event lost.
+        ensures switching { IsErrOf result StoreError.Failed → self.new ≡ self.old
+            → (halves.layout_of self.old.half).journal_len < self.old.used + 6 + length event.now
+            → EachImage (D.images disk.new) (MaySwitch S.start S.step self.old (Some present.now)) }
+        ensures stays { self.old.used + 6 + length event.now
+            ≤ (halves.layout_of self.old.half).journal_len → self.new.half ≡ self.old.half }
+        ensures memory { IsErrOf result StoreError.OutOfMemory
+            → EachImage (D.images disk.new) (Holds S.start S.step self.new (Some present.now))
+            × Only (D.seen disk.new) (D.images disk.new) }
+        ensures memory_moment { IsErrOf result StoreError.OutOfMemory
+            → LeavesOnly D.moment D.left_since disk.old disk.new
+            (StandsFor S.start S.step (halves.layout_of self.old.half) (Some present.now)) }
+        ensures pair { halves.layout_of self.new.half ≡ halves.layout_of self.old.half }
+        // No byte outside the halves changes.
+        ensures elsewhere { LeavesOnly D.moment D.left_since disk.old disk.new
+            (InHalves (halves.layout_of self.old.half) (D.seen disk.old)) }
+        ensures served { IsServed D.seen D.fault_count D.armed (IsErrOf result StoreError.Failed)
+            disk.old disk.new }
     {
-        self.journal.append(alloc, &mut self.disk, event)?;
+        self.make_room(alloc, disk, event, present)?;
+        self.append_here(alloc, disk, event, present)
+    }
+
+    /// The record fits behind the others.
+    fn fits(&self, event: &[u8]) -> bool
+        requires half { self.now.half < 4 }
+        requires used { self.now.used < (halves.layout_of self.now.half).journal_len }
+        requires short { length event.now + 6 ≤ (halves.layout_of self.now.half).journal_len }
+        ensures yes { result ≡ true → self.now.used + 6 + length event.now
+            ≤ (halves.layout_of self.now.half).journal_len }
+        ensures no { result ≡ false → (halves.layout_of self.now.half).journal_len
+            < self.now.used + 6 + length event.now }
+    {
+        self.used + 6 + event.len() as u64 <= layout_of(self.half).journal_len
+    }
+
+    /// Switches the halves where the record doesn't fit.
+    fn make_room<D: Disk, S: Stored>(
+        &mut self,
+        alloc: Global,
+        disk: &mut D,
+        event: &[u8],
+        present: &S,
+    ) -> Result<(), StoreError>
+        requires holds { EachImage (D.images disk.old)
+            (Holds S.start S.step self.old (Some present.now)) }
+        requires durable { Only (D.seen disk.old) (D.images disk.old) }
+        requires storable { S.storable present.now }
+        requires short { length event.now + 6 ≤ (halves.layout_of self.old.half).journal_len }
+        requires long { S.longest ≤ (halves.layout_of self.old.half).state_max }
+        ensures stays { self.old.used + 6 + length event.now
+            ≤ (halves.layout_of self.old.half).journal_len → self.new ≡ self.old }
+        ensures room { OnOk result (self.new.used + 6 + length event.now
+            ≤ (halves.layout_of self.new.half).journal_len) }
+        ensures holds { OnOk result (EachImage (D.images disk.new)
+            (Holds S.start S.step self.new (Some present.now))) }
+        ensures durable { OnOk result (Only (D.seen disk.new) (D.images disk.new)) }
+        ensures any_moment { LeavesOnly D.moment D.left_since disk.old disk.new
+            (MaySwitch S.start S.step self.old (Some present.now)) }
+        ensures same { OnErr result (self.new ≡ self.old) }
+        ensures memory { IsErrOf result StoreError.OutOfMemory
+            → EachImage (D.images disk.new) (Holds S.start S.step self.old (Some present.now))
+            × Only (D.seen disk.new) (D.images disk.new) }
+        ensures pair { halves.layout_of self.new.half ≡ halves.layout_of self.old.half }
+        // No byte outside the halves changes.
+        ensures elsewhere { LeavesOnly D.moment D.left_since disk.old disk.new
+            (InHalves (halves.layout_of self.old.half) (D.seen disk.old)) }
+        ensures served { IsServed D.seen D.fault_count D.armed (IsErrOf result StoreError.Failed)
+            disk.old disk.new }
+    {
+        if self.fits(event) {
+            return Ok(());
+        }
+        self.switch(alloc, disk, present)
+    }
+
+    /// Writes the present state to the other half, with the next generation, and goes on there, behind no record.
+    pub fn switch<D: Disk, S: Stored>(
+        &mut self,
+        alloc: Global,
+        disk: &mut D,
+        present: &S,
+    ) -> Result<(), StoreError>
+        requires holds { EachImage (D.images disk.old)
+            (Holds S.start S.step self.old (Some present.now)) }
+        requires durable { Only (D.seen disk.old) (D.images disk.old) }
+        requires storable { S.storable present.now }
+        requires long { S.longest ≤ (halves.layout_of self.old.half).state_max }
+        ensures switched { OnOk result (self.new ≡ switched self.old) }
+        ensures holds { OnOk result (EachImage (D.images disk.new)
+            (Holds S.start S.step self.new (Some present.now))) }
+        ensures durable { OnOk result (Only (D.seen disk.new) (D.images disk.new)) }
+
+        // A crash at any moment of the call leaves the present state, on one half or the other.
+        ensures any_moment { LeavesOnly D.moment D.left_since disk.old disk.new
+            (MaySwitch S.start S.step self.old (Some present.now)) }
+        ensures same { OnErr result (self.new ≡ self.old) }
+        ensures memory { IsErrOf result StoreError.OutOfMemory
+            → EachImage (D.images disk.new) (Holds S.start S.step self.old (Some present.now))
+            × Only (D.seen disk.new) (D.images disk.new) }
+        ensures pair { halves.layout_of self.new.half ≡ halves.layout_of self.old.half }
+        // No byte outside the halves changes.
+        ensures elsewhere { LeavesOnly D.moment D.left_since disk.old disk.new
+            (InHalves (halves.layout_of self.old.half) (D.seen disk.old)) }
+        ensures served { IsServed D.seen D.fault_count D.armed (IsErrOf result StoreError.Failed)
+            disk.old disk.new }
+    {
+        if self.generation == u64::MAX {
+            return Err(StoreError::OutOfMemory);
+        }
+        let half = other(self.half);
+        let generation = self.generation + 1;
+        let text = present.text(alloc)?;
+        prepare(alloc, disk, half, generation, &text)?;
+        open_half(disk, half)?;
+        *self = Log {
+            half,
+            generation,
+            used: 0,
+        };
         Ok(())
     }
 
-    /// Restarts the disk and reads the list again: with the event in doubt or without.
-    pub fn recover(&mut self, alloc: Global) -> Result<Records, ReadError>
-        ghost doubt: { Doubt }
-        requires in_doubt { EachImage (D.images self.old.disk)
-            (BeforeOrWith self.old.journal.area self.old.journal.used doubt.before doubt.event) }
-        ensures found { IfOk result
-            (λ found. (found ≡ doubt.before) ⊎ (found ≡ doubt.before ++ doubt.event ∷ [])) }
-        ensures open { IfOk result (λ found. EachImage (D.images self.new.disk)
-            (Holds self.new.journal.area self.new.journal.used found)) }
-        ensures any_moment { LeavesOnly D.moment D.left_since self.old.disk self.new.disk
-            (BeforeOrWith self.old.journal.area self.old.journal.used doubt.before doubt.event) }
-        ensures journal { OnErr result (self.new.journal ≡ self.old.journal) }
-        ensures area { self.new.journal.area ≡ self.old.journal.area }
-        ensures cause { IsErrOf result ReadError.Failed
-            → HasRisen (D.fault_count self.old.disk) (D.fault_count self.new.disk) }
-        ensures faults { D.fault_count self.old.disk ≤ D.fault_count self.new.disk }
-        ensures plan { D.armed self.new.disk ≡ D.armed self.old.disk }
-    {
-        self.disk.restart()?;
-        let area = self.journal.area;
-        let records = list(alloc, &mut self.disk, area)?;
-        self.journal = Journal::at(area, records.taken());
-        Ok(records)
-    }
-
-    /// Adds the events in order, up to the first that isn't acknowledged, and says how many were.
-    pub fn record_all(
+    /// Adds the event's record, which fits, behind the others.
+    fn append_here<D: Disk, S: Stored>(
         &mut self,
         alloc: Global,
-        events: &[Payload],
-    ) -> (usize, Result<(), JournalError>)
-        ghost before: { List (List ℕ) }
-        requires open { EachImage (D.images self.old.disk)
-            (Holds self.old.journal.area self.old.journal.used before) }
-        requires short { All (λ event. length event < 2 ^ 32) events.now }
-        ensures count { result.0 ≤ length events.now }
-        ensures all { OnOk result.1 (result.0 ≡ length events.now) }
-
-        // The events that were acknowledged, with the one in doubt or without.
-        ensures now { EachImage (D.images self.new.disk)
-            (HoldsFirst self.old.journal.area before events.now result.0 (result.0 + 1)) }
-
-        // A crash at any moment of the run leaves the first of its events, none skipped and none in part,
-        ensures any_moment { LeavesOnly D.moment D.left_since self.old.disk self.new.disk
-            (HoldsFirst self.old.journal.area before events.now 0 (result.0 + 1)) }
-
-        // and none of them that was acknowledged by then is missing.
-        ensures acknowledged { (k : ℕ) → k ≤ result.0
-            → Acknowledges D.moment D.left_since self.old.journal.area before events.now
-            (result.0 + 1)
-            self.old.disk self.new.disk k }
-        ensures full { IsErrOf result.1 JournalError.Full
-            → IsSomeAnd (slice_get events.now result.0) (λ event.
-            self.new.journal.area.len < self.new.journal.used + 6 + length event) }
-        ensures cause { IsErrOf result.1 JournalError.Failed
-            → HasRisen (D.fault_count self.old.disk) (D.fault_count self.new.disk) }
-        ensures faults { D.fault_count self.old.disk ≤ D.fault_count self.new.disk }
-        ensures plan { D.armed self.new.disk ≡ D.armed self.old.disk }
+        disk: &mut D,
+        event: &[u8],
+        present: &S,
+    ) -> Result<(), StoreError>
+        requires holds { EachImage (D.images disk.old)
+            (Holds S.start S.step self.old (Some present.now)) }
+        requires durable { Only (D.seen disk.old) (D.images disk.old) }
+        requires room { self.old.used + 6 + length event.now
+            ≤ (halves.layout_of self.old.half).journal_len }
+        ensures acknowledged { OnOk result (EachImage (D.images disk.new)
+            (Holds S.start S.step self.new (S.step present.now event.now))) }
+        ensures durable { OnOk result (Only (D.seen disk.new) (D.images disk.new)) }
+        ensures half { self.new.half ≡ self.old.half }
+        ensures same { OnErr result (self.new ≡ self.old) }
+        ensures any_moment { LeavesOnly D.moment D.left_since disk.old disk.new
+            (InDoubt S.start S.step self.old (of_event S.step present.now event.now)) }
+        ensures in_doubt { IsErrOf result StoreError.Failed → EachImage (D.images disk.new)
+            (InDoubt S.start S.step self.new (of_event S.step present.now event.now)) }
+        ensures memory { IsErrOf result StoreError.OutOfMemory
+            → EachImage (D.images disk.new) (Holds S.start S.step self.new (Some present.now))
+            × Only (D.seen disk.new) (D.images disk.new) }
+        ensures memory_moment { IsErrOf result StoreError.OutOfMemory
+            → LeavesOnly D.moment D.left_since disk.old disk.new
+            (StandsFor S.start S.step (halves.layout_of self.old.half) (Some present.now)) }
+        // No byte outside the halves changes.
+        ensures elsewhere { LeavesOnly D.moment D.left_since disk.old disk.new
+            (InHalves (halves.layout_of self.old.half) (D.seen disk.old)) }
+        ensures served { IsServed D.seen D.fault_count D.armed (IsErrOf result StoreError.Failed)
+            disk.old disk.new }
     {
-        for (done, event) in events.iter().enumerate() {
-            let event = event.as_slice();
-            if let Err(fault) = self.journal.append(alloc, &mut self.disk, event) {
-                return (done, Err(fault));
+        let mut journal = Journal::at(journal_area(self.half), self.used);
+        match journal.append(alloc, disk, event) {
+            Ok(()) => {
+                self.used = journal.used;
+                Ok(())
             }
+            Err(JournalError::Full) => unreachable!(),
+            Err(JournalError::Failed) => Err(StoreError::Failed),
+            Err(JournalError::OutOfMemory) => Err(StoreError::OutOfMemory),
         }
-        (events.len(), Ok(()))
     }
 }

@@ -5,4 +5,7 @@ use Rattle.journal.specs.Ready.{IsReady}
 use Rattle.journal_bench.proofs.append_many.Given as goal
 
 abbrev pub invariant-loop-record : goal.invariant-loop-record
-invariant-loop-record l = EachImage (images l.disk.medium) (IsReady l.journal.area l.journal.used) × (l.journal.area ≡ l.initial.journal.area) × (length l.disk.medium.pages.bytes ≡ length l.initial.disk.medium.pages.bytes)
+invariant-loop-record l =
+    EachImage (images l.disk.medium) (IsReady l.journal.area l.journal.used) ×
+    (l.journal.area ≡ l.initial.journal.area) ×
+    (length l.disk.medium.pages.bytes ≡ length l.initial.disk.medium.pages.bytes)
