@@ -1,8 +1,11 @@
 //! Times turns on one gate. `gate_bench THREADS TURNS`, with 1, 2, 4 or 8 threads that make so many
-//! turns each, prints the microseconds that they took. Without words it makes a few and times none.
+//! turns each, prints the microseconds that they took. Without words it shows what threads do behind
+//! a gate, and times none.
 //!
 //! Layer: stands on `gate_counter`; nothing stands on it. It promises no time.
 #![tactic(auto)]
+
+mod tries;
 
 use gate_counter::{Counter, count_together};
 use std::alloc::{AllocError, Global};
@@ -36,6 +39,14 @@ fn main(rt: HostRuntime) -> io::Result<()> {
             }
         }
     }
+    if given < 2 {
+        let polls = tries::poll_beside_a_turn(&rt, rt.alloc());
+        println!(rt; "polls beside a turn and after it: {polls:?}")?;
+        let counts = tries::count_in_order(&rt, rt.alloc(), 0, 100);
+        println!(rt; "counts of 8 threads, and whether in order: {counts:?}")?;
+        let is_in_order = tries::count_in_order(&rt, rt.alloc(), 7, 100).map(|found| found.1);
+        return println!(rt; "over a device that fails, whether in order: {is_in_order:?}");
+    }
     let [threads, turns] = numbers;
     let start = Instant::now(&rt)?;
     let Ok(counter) = count(&rt, rt.alloc(), threads, turns) else {
@@ -43,8 +54,5 @@ fn main(rt: HostRuntime) -> io::Result<()> {
     };
     let took = start.elapsed(&rt)?.as_micros();
     let counted = counter.ticks().len();
-    if given < 2 {
-        return println!(rt; "{threads} threads, {turns} turns each: {counted} counts");
-    }
     println!(rt; "{threads} threads, {turns} turns each: {counted} counts in {took} us")
 }

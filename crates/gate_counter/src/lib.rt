@@ -1,14 +1,13 @@
-//! A counter with a failing device behind a gate, counted up by threads: what a machine, its turns and
-//! its seats look like to a caller of `turn_gate`, and the tests of the gate with threads.
+//! A counter with a failing device behind a gate, counted up by threads: what a machine, its turns
+//! and its seats look like to a caller of `turn_gate`.
 //!
-//! Layer: stands on `turn_gate`; `gate_bench` stands on it, and no part of the product does.
+//! Layer: stands on `turn_gate`; `gate_bench`, which shows it with threads, stands on it, and no
+//! part of the product does.
 //! Its one contract: a turn counts once for the part of its seat, and nothing else.
 #![tactic(auto)]
 
 mod counter;
 mod run;
-#[cfg(test)]
-mod tests;
 mod tick;
 
 pub use counter::Counter;

@@ -8,3 +8,5 @@ pub mod Turns
 pub mod Polls
 pub mod Shares
 pub mod Gathers
+pub mod Mine
+pub mod InOne

@@ -40,7 +40,9 @@ module _ {A : Type 0} where
   -- what holds of each holds where one is replaced
   pub each_set : (P : A → Type 0) (l : List A) (id : ℕ) (w : A) → ((i : ℕ) (v : A) → get_elem? l i ≡ some v → P v) → P w
       → (i : ℕ) (v : A) → get_elem? (set l id w) i ≡ some v → P v
-  each_set P l id w each here i v at = ⊎_elim (λ (t : (i ≡ id) × (w ≡ v)). subst P t.1 here) (λ (t : (i ≢ id) × (get_elem? l i ≡ some v)). each i v t.1) (at_set l id i w v at)
+  each_set P l id w each here i v at =
+      ⊎_elim (λ (t : (i ≡ id) × (w ≡ v)). subst P t.1 here) (λ (t : (i ≢ id) × (get_elem? l i ≡ some v)). each i v t.1)
+      (at_set l id i w v at)
 
   pub is_some : (o : Option A) → (o ≡ None → ⊥) → (a : A) × (o ≡ Some a)
   is_some (Some a) h = (a, refl)
@@ -50,21 +52,28 @@ module _ {A : Type 0} where
   at_same l i a b p q = some-injective a b (sym p ∙ q)
 
   -- what is found in a list after one is replaced
-  pub found_in_set : (l : List A) (id : ℕ) (w : A) (Q : ℕ → A → Type 0) → ((i : ℕ) (v : A) → get_elem? l i ≡ some v → i ≢ id → Q i v) → Q id w
+  pub found_in_set : (l : List A) (id : ℕ) (w : A) (Q : ℕ → A → Type 0)
+      → ((i : ℕ) (v : A) → get_elem? l i ≡ some v → i ≢ id → Q i v) → Q id w
       → (i : ℕ) (v : A) → get_elem? (set l id w) i ≡ some v → Q i v
   found_in_set l id w Q others here i v at =
-      ⊎_elim (λ (t : (i ≡ id) × (w ≡ v)). subst (λ (j : ℕ). Q j v) (sym t.0) (subst (λ (x : A). Q id x) t.1 here)) (λ (t : (i ≢ id) × (get_elem? l i ≡ some v)). others i v t.1 t.0) (at_set l id i w v at)
+      ⊎_elim (λ (t : (i ≡ id) × (w ≡ v)). subst (λ (j : ℕ). Q j v) (sym t.0) (subst (λ (x : A). Q id x) t.1 here))
+      (λ (t : (i ≢ id) × (get_elem? l i ≡ some v)). others i v t.1 t.0) (at_set l id i w v at)
 
   pub prefix_whole : (xs ys : List A) → IsPrefix xs ys → length ys ≤ length xs → xs ≡ ys
-  prefix_whole xs ys p le = sym (take_all (length xs) xs (omega arith)) ∙ sym (prefix_take xs ys (length xs) p (omega arith)) ∙ take_all (length xs) ys le
+  prefix_whole xs ys p le =
+      sym (take_all (length xs) xs (omega arith)) ∙ sym (prefix_take xs ys (length xs) p (omega arith))
+      ∙ take_all (length xs) ys le
 
   -- what is found in a list with one more at its end
-  pub found_in_snoc : (l : List A) (w : A) (Q : ℕ → A → Type 0) → ((i : ℕ) (v : A) → get_elem? l i ≡ some v → Q i v) → ((i : ℕ) → Q i w)
+  pub found_in_snoc : (l : List A) (w : A) (Q : ℕ → A → Type 0) → ((i : ℕ) (v : A) → get_elem? l i ≡ some v → Q i v)
+      → ((i : ℕ) → Q i w)
       → (i : ℕ) (v : A) → get_elem? (l ++ w ∷ []) i ≡ some v → Q i v
-  found_in_snoc l w Q before last i v at = ⊎_elim (λ there. before i v there) (λ same. subst (λ (x : A). Q i x) same (last i)) (at_snoc l w v i at)
+  found_in_snoc l w Q before last i v at =
+      ⊎_elim (λ there. before i v there) (λ same. subst (λ (x : A). Q i x) same (last i)) (at_snoc l w v i at)
 
   -- of two beginnings of one list the shorter begins the longer
   pub prefix_of_longer : (xs ys zs : List A) → IsPrefix xs zs → IsPrefix ys zs → length xs ≤ length ys → IsPrefix xs ys
   prefix_of_longer xs ys zs p q le =
-      let same : take (length xs) ys ≡ xs = sym (prefix_take ys zs (length xs) q le) ∙ prefix_take xs zs (length xs) p (omega arith) ∙ take_all (length xs) xs (omega arith) in
+      let same : take (length xs) ys ≡ xs = sym (prefix_take ys zs (length xs) q le)
+      ∙ prefix_take xs zs (length xs) p (omega arith) ∙ take_all (length xs) xs (omega arith) in
       (drop (length xs) ys, ap (λ (l : List A). l ++ drop (length xs) ys) (sym same) ∙ take-append-drop (length xs) ys)

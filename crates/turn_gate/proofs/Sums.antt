@@ -18,11 +18,14 @@ module _ {A : Type 0} (f : A → ℕ) where
   total_at (x ∷ xs) zero v e = let is : f x ≡ f v = ap f (some-injective x v e) in omega (arith, is)
   total_at (x ∷ xs) (suc i) v e = omega (arith, total_at xs i v e)
 
-  pub total_two : (l : List A) (i j : ℕ) (v w : A) → get_elem? l i ≡ some v → get_elem? l j ≡ some w → i ≢ j → f v + f w ≤ total f l
+  pub total_two : (l : List A) (i j : ℕ) (v w : A) → get_elem? l i ≡ some v → get_elem? l j ≡ some w → i ≢ j
+      → f v + f w ≤ total f l
   total_two [] i j v w p q n = absurd (some-ne-none v (sym p))
   total_two (x ∷ xs) zero zero v w p q n = absurd (n refl)
-  total_two (x ∷ xs) zero (suc j) v w p q n = let is : f x ≡ f v = ap f (some-injective x v p) in omega (arith, is, total_at xs j w q)
-  total_two (x ∷ xs) (suc i) zero v w p q n = let is : f x ≡ f w = ap f (some-injective x w q) in omega (arith, is, total_at xs i v p)
+  total_two (x ∷ xs) zero (suc j) v w p q n =
+      let is : f x ≡ f v = ap f (some-injective x v p) in omega (arith, is, total_at xs j w q)
+  total_two (x ∷ xs) (suc i) zero v w p q n =
+      let is : f x ≡ f w = ap f (some-injective x w q) in omega (arith, is, total_at xs i v p)
   total_two (x ∷ xs) (suc i) (suc j) v w p q n = omega (arith, total_two xs i j v w p q (λ e. n (ap suc e)))
 
   pub total_snoc : (l : List A) (w : A) → total f (l ++ w ∷ []) ≡ total f l + f w
@@ -42,14 +45,20 @@ module _ {E : Type 0} (tells : E → Option ℕ) where
   length-numbers_of [] = refl
   length-numbers_of (p ∷ ps) = omega (arith, length-numbers_of ps)
 
-  doubt_is : (pend : Option E) (n : ℕ) (e : E) → pend ≡ Some e → is_of (tells e) n ≡ true → doubt_of tells pend n ≡ Some e
-  doubt_is pend n e is told = ap (λ (o : Option E). doubt_of tells o n) is ∙ cond-true {A = Option E} (is_of (tells e) n) (Some e) None told
+  doubt_is : (pend : Option E) (n : ℕ) (e : E) → pend ≡ Some e → is_of (tells e) n ≡ true
+      → doubt_of tells pend n ≡ Some e
+  doubt_is pend n e is told =
+      ap (λ (o : Option E). doubt_of tells o n) is ∙ cond-true {A = Option E} (is_of (tells e) n) (Some e) None told
 
   pub parts_of_fit : (a : Account E) (ns : List ℕ) → PartsFit tells a (parts_of tells a ns)
   parts_of_fit a [] = tt
-  parts_of_fit a (n ∷ ns) = (record { own_is = inl refl; pending_is = λ e is told. (doubt_is a.pending n e is told, refl) }, parts_of_fit a ns)
+  parts_of_fit a (n ∷ ns) = (
+    record { own_is = inl refl; pending_is = λ e is told. (doubt_is a.pending n e is told, refl) },
+    parts_of_fit a ns,
+  )
 
-  part_stays : (a next : Account E) (p : Part E) → StaysOrStood tells a next p.number → PartFits tells a p → PartFits tells next p
+  part_stays : (a next : Account E) (p : Part E) → StaysOrStood tells a next p.number → PartFits tells a p
+      → PartFits tells next p
   part_stays a next p (inl stays) fit = record {
     own_is = ⊎_elim (λ is. inl (stays.0 ∙ is)) (λ t. inr (t.0, t.1, stays.0 ∙ t.2)) fit.own_is;
     pending_is = λ e is told. let was = fit.pending_is e (stays.1 e is told) told in (was.0, stays.0 ∙ was.1);
@@ -65,30 +74,38 @@ module _ {E : Type 0} (tells : E → Option ℕ) where
   here n ns = omega (arith, cond-true {A = ℕ} (eqb n n) 1 0 (eq-eqb n n refl))
 
   -- the parts of another seat
-  pub parts_stay : (a next : Account E) (ps : List (Part E)) → ((n : ℕ) → 0 < times n (numbers_of ps) → StaysOrStood tells a next n) → PartsFit tells a ps → PartsFit tells next ps
+  pub parts_stay : (a next : Account E) (ps : List (Part E))
+      → ((n : ℕ) → 0 < times n (numbers_of ps) → StaysOrStood tells a next n) → PartsFit tells a ps
+      → PartsFit tells next ps
   parts_stay a next [] same fit = tt
   parts_stay a next (p ∷ ps) same fit = (
     part_stays a next p (same p.number (here p.number (numbers_of ps))) fit.0,
     parts_stay a next ps (λ n some_there. same n (omega (arith, some_there))) fit.1,
   )
 
-  pub times-append : (n : ℕ) (ps qs : List (Part E)) → times n (numbers_of (ps ++ qs)) ≡ times n (numbers_of ps) + times n (numbers_of qs)
+  pub times-append : (n : ℕ) (ps qs : List (Part E))
+      → times n (numbers_of (ps ++ qs)) ≡ times n (numbers_of ps) + times n (numbers_of qs)
   times-append n [] qs = omega arith
   times-append n (p ∷ ps) qs = omega (arith, times-append n ps qs)
 
-  pub fit-append : (a : Account E) (ps qs : List (Part E)) → PartsFit tells a ps → PartsFit tells a qs → PartsFit tells a (ps ++ qs)
+  pub fit-append : (a : Account E) (ps qs : List (Part E)) → PartsFit tells a ps → PartsFit tells a qs
+      → PartsFit tells a (ps ++ qs)
   fit-append a [] qs p q = q
   fit-append a (x ∷ xs) qs p q = (p.0, fit-append a xs qs p.1 q)
 
-  times-but : (k n : ℕ) (ps : List (Part E)) → times n (numbers_of (but k ps)) + times n (numbers_of (just k ps)) ≡ times n (numbers_of ps)
+  times-but : (k n : ℕ) (ps : List (Part E))
+      → times n (numbers_of (but k ps)) + times n (numbers_of (just k ps)) ≡ times n (numbers_of ps)
   times-but k n [] = refl
   times-but k n (p ∷ ps) = go (times-but k n ps) (eqb p.number k)
     where
-      go : times n (numbers_of (but k ps)) + times n (numbers_of (just k ps)) ≡ times n (numbers_of ps) → (b : Bool) → times n (numbers_of (cond b (but k ps) (p ∷ but k ps))) + times n (numbers_of (cond b (p ∷ just k ps) (just k ps))) ≡ times n (numbers_of (p ∷ ps))
+      go : times n (numbers_of (but k ps)) + times n (numbers_of (just k ps)) ≡ times n (numbers_of ps) → (b : Bool)
+          → times n (numbers_of (cond b (but k ps) (p ∷ but k ps))) + times n
+          (numbers_of (cond b (p ∷ just k ps) (just k ps))) ≡ times n (numbers_of (p ∷ ps))
       go h true = omega (arith, h)
       go h false = omega (arith, h)
 
-  pub times-split : (k : Option ℕ) (n : ℕ) (ps : List (Part E)) → times n (numbers_of (without k ps)) + times n (numbers_of (only k ps)) ≡ times n (numbers_of ps)
+  pub times-split : (k : Option ℕ) (n : ℕ) (ps : List (Part E))
+      → times n (numbers_of (without k ps)) + times n (numbers_of (only k ps)) ≡ times n (numbers_of ps)
   times-split None n ps = omega arith
   times-split (Some k) n ps = times-but k n ps
 
@@ -100,7 +117,8 @@ module _ {E : Type 0} (tells : E → Option ℕ) where
       go h true = h
       go h false = (fit.0, h)
 
-  pub fit-without : (a : Account E) (k : Option ℕ) (ps : List (Part E)) → PartsFit tells a ps → PartsFit tells a (without k ps)
+  pub fit-without : (a : Account E) (k : Option ℕ) (ps : List (Part E)) → PartsFit tells a ps
+      → PartsFit tells a (without k ps)
   fit-without a None ps fit = fit
   fit-without a (Some k) ps fit = fit-but a k ps fit
 
@@ -112,7 +130,8 @@ module _ {E : Type 0} (tells : E → Option ℕ) where
       go h true = (fit.0, h)
       go h false = h
 
-  pub fit-only : (a : Account E) (k : Option ℕ) (ps : List (Part E)) → PartsFit tells a ps → PartsFit tells a (only k ps)
+  pub fit-only : (a : Account E) (k : Option ℕ) (ps : List (Part E)) → PartsFit tells a ps
+      → PartsFit tells a (only k ps)
   fit-only a None ps fit = tt
   fit-only a (Some k) ps fit = fit-just a k ps fit
 
@@ -125,7 +144,8 @@ module _ {E : Type 0} (tells : E → Option ℕ) where
   length-but k [] = refl
   length-but k (p ∷ ps) = go (length-but k ps) (eqb p.number k)
     where
-      go : length (but k ps) + length (just k ps) ≡ length ps → (b : Bool) → length (cond b (but k ps) (p ∷ but k ps)) + length (cond b (p ∷ just k ps) (just k ps)) ≡ length (p ∷ ps)
+      go : length (but k ps) + length (just k ps) ≡ length ps → (b : Bool)
+          → length (cond b (but k ps) (p ∷ but k ps)) + length (cond b (p ∷ just k ps) (just k ps)) ≡ length (p ∷ ps)
       go h true = omega (arith, h)
       go h false = omega (arith, h)
 

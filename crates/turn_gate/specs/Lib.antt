@@ -4,3 +4,5 @@ pub mod Rule
 pub mod Steps
 pub mod Known
 pub mod Seats
+pub mod Mine
+pub mod InOne

@@ -10,9 +10,6 @@ use Rattle.turn_gate.specs.declared.view.Account.{Account}
 use Rattle.turn_gate.specs.declared.view.View.{View}
 
 module _ {E O : Type 0} where
-  abbrev pub IsMade : View E O → Type 0
-  IsMade v = v.fixed ≡ None → ⊥
-
   abbrev pub HasTurn : View E O → Type 0
   HasTurn v = v.held ≡ None → ⊥
 

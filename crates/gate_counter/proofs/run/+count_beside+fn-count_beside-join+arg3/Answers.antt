@@ -19,7 +19,8 @@ pub returns-clause-ours : goal.returns-clause-ours
 returns-clause-ours g t c =
     let ends = c.join-seat.ensures in
     subst (λ l. AreSeatsOf c.args.gate.now l c.push_reserved.new.self.items) (sym c.in-Some-split_last.ensures.cases.0)
-    (subst (AreSeatsOf c.args.gate.now (c.in-Some-split_last.before.now ++ c.in-Some-split_last.by.now ∷ [])) (sym c.push_reserved.ensures.items)
+    (subst (AreSeatsOf c.args.gate.now (c.in-Some-split_last.before.now ++ c.in-Some-split_last.by.now ∷ []))
+    (sym c.push_reserved.ensures.items)
     (with_last c.args.gate.now _ _ _ _ ends.second.0 ends.first.0))
 
 pub returns-clause-fixed : goal.returns-clause-fixed

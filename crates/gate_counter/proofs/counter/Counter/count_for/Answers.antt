@@ -13,7 +13,8 @@ pub returns-then-len-clause-goes_on : goal.returns-then-len-clause-goes_on
 returns-then-len-clause-goes_on c = λ parts some_part. stays tells parts _ _ refl refl (omega arith)
 
 pub returns-in_default-clause-goes_on : goal.returns-in_default-clause-goes_on
-returns-in_default-clause-goes_on c = λ parts some_part. stays tells parts _ _ c.reserve.ensures.items refl (omega arith)
+returns-in_default-clause-goes_on c =
+    λ parts some_part. stays tells parts _ _ c.reserve.ensures.items refl (omega arith)
 
 pub returns-clause-answer : goal.returns-clause-answer
 returns-clause-answer c = rw (c.push_reserved.ensures.items, last-added) refl

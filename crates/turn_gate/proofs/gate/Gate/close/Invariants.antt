@@ -9,7 +9,8 @@ abbrev pub invariant-loop-other : goal.invariant-loop-other
 invariant-loop-other g l = record {
   gate : l.seat.gate ≡ l.fn.self;
   left : AllRest l.fn.self (into_iter_items l.seats);
-  gathered : (done : List (Known _ _)) × (l.fn.seats.items ≡ done ++ into_iter_items l.seats) × Gathers done l.seat.view;
+  gathered : (done : List (Known _ _)) × (l.fn.seats.items ≡ done ++ into_iter_items l.seats)
+      × Gathers done l.seat.view;
 }
 
 abbrev pub decreases-loop-other : goal.decreases-loop-other

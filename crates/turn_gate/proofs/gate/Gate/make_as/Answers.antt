@@ -23,5 +23,10 @@ store-requires g c =
 
 pub store-requires-2 : goal.store-requires-2
 store-requires-2 g c =
-    let it = c.args.machine in
-    (search rules, search rules, returns_it _ _ _ c.store.new.seat.me (fixed_by g.M.Machine.opening g.M.Machine.fixed g.M.Machine.account it g.J.Numbers.all) it (search rules) (search rules) (search rules) refl c.requires.stands_for)
+    let it = c.args.machine in (
+      search rules,
+      search rules,
+      returns_it _ _ _ c.store.new.seat.me
+          (fixed_by g.M.Machine.opening g.M.Machine.fixed g.M.Machine.account it g.J.Numbers.all) it (search rules)
+          (search rules) (search rules) refl c.requires.stands_for,
+    )

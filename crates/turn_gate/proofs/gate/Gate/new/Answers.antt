@@ -15,13 +15,16 @@ loop-part-preserved g c = simp unary_clauses (
     let gate = c.in_ok-gate.gate in
     let was = c.loop-part.invariant in
     let at = at_drop ns i c.loop-part-test.true in
-    let one = deals_one g.M.Machine.tells a _ gate c.loop-part.seats.items c.loop-part.seat.view c.split.result _ (drop (suc i) ns) ns (no_more ns i c.requires.parts_differ c.loop-part-test.true)
+    let one = deals_one g.M.Machine.tells a _ gate c.loop-part.seats.items c.loop-part.seat.view c.split.result _
+    (drop (suc i) ns) ns (no_more ns i c.requires.parts_differ c.loop-part-test.true)
     (was.view ∙ ap (λ l. base (parts_of g.M.Machine.tells a l)) at)
     c.split.ensures.same_gate.1 c.split.ensures.moved
     (ap (λ l. c.loop-part.seats.items ++ one_each gate base (parts_of g.M.Machine.tells a l)) (sym at) ∙ was.dealt) in
     record {
       gate = c.split.ensures.same_gate.0;
       view = c.split.ensures.left ∙ one.0;
-      dealt = subst (λ l. l ++ one_each gate base (parts_of g.M.Machine.tells a (drop (suc i) ns)) ≡ one_each gate base (parts_of g.M.Machine.tells a ns)) (sym c.push_reserved.ensures.items) one.1;
+      dealt =
+          subst (λ l. l ++ one_each gate base (parts_of g.M.Machine.tells a (drop (suc i) ns))
+          ≡ one_each gate base (parts_of g.M.Machine.tells a ns)) (sym c.push_reserved.ensures.items) one.1;
       room = (let len = ap length at in omega (arith, was.room, len, c.push_reserved.ensures.len));
     })

@@ -11,10 +11,12 @@ ghosts-make_as g a = record { all = a.parts.now }
 abbrev pub invariant-loop-part : goal.invariant-loop-part
 invariant-loop-part g l =
     let a = g.M.Machine.account l.fn.machine in
-    let base = first_view (fixed_by g.M.Machine.opening g.M.Machine.fixed g.M.Machine.account l.fn.machine l.fn.parts) a in
+    let base = first_view (fixed_by g.M.Machine.opening g.M.Machine.fixed g.M.Machine.account l.fn.machine l.fn.parts)
+    a in
     let left = parts_of g.M.Machine.tells a (drop l.part-index l.fn.parts) in record {
       gate : l.seat.gate ≡ l.gate;
       view : l.seat.view ≡ base left;
-      dealt : l.seats.items ++ one_each l.gate base left ≡ one_each l.gate base (parts_of g.M.Machine.tells a l.fn.parts);
+      dealt : l.seats.items ++ one_each l.gate base left
+          ≡ one_each l.gate base (parts_of g.M.Machine.tells a l.fn.parts);
       room : vec_len l.seats + length (drop l.part-index l.fn.parts) ≤ vec_capacity l.seats;
     }

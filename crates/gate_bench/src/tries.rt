@@ -1,15 +1,15 @@
-//! Threads that count behind one gate. A poll answers while another thread has the turn; what was
-//! counted is each part's counts in their order, each once, whatever the schedule; a device that fails
-//! loses a count or keeps it, and never doubles it.
+//! What threads do behind one gate. A poll answers while another thread has the turn; what was
+//! counted is each part's counts in their order, each once, whatever the schedule; a device that
+//! fails loses a count or keeps it, and never doubles it.
 ghost use Rattle.std.specs.Prelude.{◌≡◌};
 ghost use Rattle.gate_counter.specs.Seats.{IsSeatOf};
 
-use crate::counter::Counter;
-use crate::run::{count_once, count_together, watch_once};
+use gate_counter::{Counter, count_together, watch_once};
+use std::alloc::Global;
 use std::sync::Wait;
 use std::sync::atomic::AtomicU64;
 use std::sync::atomic::Ordering::SeqCst;
-use std::thread::join;
+use std::thread::{Threads, join};
 use turn_gate::{Gate, Seat};
 
 /// How often a flag is looked at before its thread goes on.
@@ -24,7 +24,7 @@ fn wait_for(flag: &AtomicU64) -> bool {
     false
 }
 
-/// Takes the turn, and keeps it until the flag `polled` is set.
+/// Takes the turn, and keeps it until the flag `polled` is set; whether it was.
 fn hold_a_turn<R: Wait>(
     rt: &R,
     gate: &Gate<Counter>,
@@ -45,6 +45,7 @@ fn hold_a_turn<R: Wait>(
     (seat, met)
 }
 
+/// Polls once the flag `taken` is set; what was found, and whether it was.
 fn poll_meanwhile(
     gate: &Gate<Counter>,
     mut seat: Seat<Counter>,
@@ -61,29 +62,31 @@ fn poll_meanwhile(
     (seat, found, met)
 }
 
-#[test]
-fn a_poll_answers_while_another_thread_has_the_turn(rt: HostRuntime) {
-    let Ok((gate, mut seats)) = Gate::new(rt.alloc(), Counter::new(rt.alloc(), 0), &[0, 1]) else {
-        panic!(rt; "no memory")
-    };
-    let Some(second) = seats.pop() else {
-        panic!(rt; "no seat")
-    };
-    let Some(first) = seats.pop() else {
-        panic!(rt; "no seat")
-    };
+/// What polls find while another thread has the turn, and after it counted once; None where there
+/// is no memory or the threads didn't meet.
+pub fn poll_beside_a_turn<R: Threads + Wait + Sync>(
+    rt: &R,
+    alloc: Global,
+) -> Option<[(u64, u8); 2]> {
+    let counter = Counter::new(alloc, 0);
+    let (gate, mut seats) = Gate::new(alloc, counter, &[0, 1]).ok()?;
+    let second = seats.pop()?;
+    let first = seats.pop()?;
     let taken = AtomicU64::new(0);
     let polled = AtomicU64::new(0);
     let gate_ref = &gate;
     let ((mut first, met_first), (second, found, met_second)) = join(
-        &rt,
-        || hold_a_turn(&rt, gate_ref, first, &taken, &polled),
+        rt,
+        || hold_a_turn(rt, gate_ref, first, &taken, &polled),
         || poll_meanwhile(gate_ref, second, &taken, &polled),
     );
-    assert!(rt; met_first && met_second);
-    assert_eq!(rt; found, (0, 0));
-    assert_eq!(rt; watch_once(&gate, &mut first, 0), (1, 1));
+    let later = watch_once(&gate, &mut first, 0);
     gate.join(&mut first, second);
+    if met_first && met_second {
+        Some([found, later])
+    } else {
+        None
+    }
 }
 
 /// Whether each part's counts are 1, 2, 3 and so on, at least this many.
@@ -105,15 +108,15 @@ fn are_in_order(counter: &Counter, parts: u8, count: u32) -> bool {
     true
 }
 
-#[test]
-fn each_thread_counts_in_its_order_and_each_once(rt: HostRuntime) {
-    let Ok(counter) = count_together(&rt, rt.alloc(), 0, &[0, 1], 500) else {
-        panic!(rt; "no memory")
-    };
-    assert_eq!(rt; counter.ticks().len(), 1000);
-    assert!(rt; are_in_order(&counter, 2, 500));
-    let Ok(counter) = count_together(&rt, rt.alloc(), 7, &[0, 1, 2, 3, 4, 5, 6, 7], 100) else {
-        panic!(rt; "no memory")
-    };
-    assert!(rt; are_in_order(&counter, 8, 100));
+/// Eight threads count so often each, over a device that fails at each call that the period
+/// divides: how many counts there are, and whether each part's are in their order. None where there
+/// is no memory.
+pub fn count_in_order<R: Threads + Wait + Sync>(
+    rt: &R,
+    alloc: Global,
+    period: u64,
+    count: u32,
+) -> Option<(usize, bool)> {
+    let counter = count_together(rt, alloc, period, &[0, 1, 2, 3, 4, 5, 6, 7], count).ok()?;
+    Some((counter.ticks().len(), are_in_order(&counter, 8, count)))
 }
