@@ -25,7 +25,7 @@ module _ {A B : Type 0} (f : A → Option B) where
   nothing (Some y) = refl
 
 module _ {V A B : Type 0} (f : A → Option B) (g : V → A) where
-  next_one : (vs : List V) (i : ℕ) (d : V) → i < length vs
+  pub next_one : (vs : List V) (i : ℕ) (d : V) → i < length vs
       → all_of f (map g (take (suc i) vs)) ≡ option_and_then (λ ys. option_map (λ w. ys ++ w ∷ []) (f (g (get_or vs i d)))) (all_of f (map g (take i vs)))
   next_one [] i d h = absurd (omega arith)
   next_one (v ∷ vs) zero d h = first_one f (f (g v))
@@ -40,7 +40,7 @@ module _ {V A B : Type 0} (f : A → Option B) (g : V → A) where
       let here : f (g (get_or vs i x)) ≡ Some y = ap (λ v. f (g v)) (sym at) ∙ one in
       rw (e, next_one vs i x h, taken, here) refl
 
-  none_at : (vs : List V) (i : ℕ) (d : V) → i < length vs → f (g (get_or vs i d)) ≡ None → all_of f (map g vs) ≡ None
+  pub none_at : (vs : List V) (i : ℕ) (d : V) → i < length vs → f (g (get_or vs i d)) ≡ None → all_of f (map g vs) ≡ None
   none_at [] i d h e = absurd (omega arith)
   none_at (v ∷ vs) zero d h e = rw e refl
   none_at (v ∷ vs) (suc i) d h e = rw (none_at vs i d (omega arith) e) (nothing f (f (g v)))

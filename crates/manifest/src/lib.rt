@@ -7,8 +7,6 @@
 mod digest;
 mod print;
 mod read;
-#[cfg(test)]
-mod tests;
 
 pub use print::print_manifest;
 pub use read::{ManifestError, read_manifest};

@@ -1,3 +1,8 @@
-mod Blocks
-mod Laws
-mod Printed
+pub mod Again
+pub mod Blocks
+pub mod Readings
+pub mod Manifests
+pub mod Sizes
+pub mod Taken
+pub mod Walk
+pub mod Lies

@@ -1,4 +1,7 @@
+pub mod Exact
 pub mod Fields
-pub mod Spelling
 pub mod Reading
+pub mod Spelling
 pub mod Printing
+pub mod Packed
+pub mod Lies

@@ -1,25 +1,47 @@
-//! The fields of a package, taken one after another.
-ghost use Rattle.std.specs.Prelude.{◌≡◌, ◌+◌, ◌<◌, ◌≤◌, ◌^◌, length, take, drop, Some, None, MatchOption, IfOk, IfErr, OnOk};
-ghost use Rattle.package_reader.specs.Fields.{number_at, block_at, text_in, payload_in};
-ghost use Rattle.package_reader.specs.Reading.{text_faults, block_faults, digest_faults, field_faults, first_fault};
+//! The fields of a package, taken one after another. No call takes memory.
+ghost use Rattle.std.specs.Prelude.{◌≡◌, ◌+◌, ◌<◌, ◌≤◌, length, MatchOption, IfOk};
+ghost use Rattle.package_reader.specs.Fields.{block_at, end_at, end_of, fields_of, head_of, number_at, part_at, parts_at, text_at, texts_limit};
+ghost use Rattle.package_reader.specs.Exact.{IsExactly};
 
-use crate::{MANIFEST_LIMIT, PackageError};
+use crate::PackageError;
+use crate::span::{PartPlace, Span};
+use arrayvec::ArrayVec;
 use sha2::{Digest, Sha256};
+use ucm_base::limits::{MANIFEST_LIMIT, MANIFESTS_LIMIT, PART_LIMIT};
 use wire::take_u32;
 
-/// The first bytes of a package.
-pub(crate) const MARK: &[u8; 4] = b"SWP1";
+/// The first bytes of a package of one part.
+pub(crate) const MARK_OF_ONE: &[u8; 4] = b"SWP1";
 
-/// The fields of a package that say what it is.
+/// The first bytes of a package of more parts, before their number.
+pub(crate) const MARK_OF_MORE: &[u8; 4] = b"SWP2";
+
+/// The most parts that a package has.
+pub(crate) const MOST: usize = PART_LIMIT as usize;
+
+/// Where the parts lie, in order.
+pub(crate) type Places = ArrayVec<PartPlace, MOST>;
+
+/// How many parts there are, and where they begin.
 #[derive(Clone, Copy)]
-pub(crate) struct Fields<'a> {
-    /// The text of the manifest.
-    pub text: &'a [u8],
-    pub payload: &'a [u8],
+pub(crate) struct Head {
+    count: u8,
+    place: usize,
+}
+
+/// The bytes that the manifests' texts of so many parts may have together.
+pub(crate) fn texts_limit(count: usize) -> u64
+    ensures { result ≡ texts_limit count }
+{
+    if count == 1 {
+        MANIFEST_LIMIT
+    } else {
+        MANIFESTS_LIMIT
+    }
 }
 
 /// Bytes that don't fit from a place on.
-fn inconsistent(place: usize) -> PackageError
+pub(crate) fn inconsistent(place: usize) -> PackageError
     ensures { result ≡ PackageError.PackageInconsistent place }
 {
     PackageError::PackageInconsistent {
@@ -28,77 +50,103 @@ fn inconsistent(place: usize) -> PackageError
 }
 
 /// The number at a place.
-fn number_at(bytes: &[u8], place: usize) -> Option<usize>
-    requires { place < 2 ^ 33 }
+fn number_at(bytes: &[u8], place: usize) -> Option<u32>
+    requires { place ≤ length bytes.now }
     ensures { MatchOption result (length bytes.now < place + 4)
-        (λ n. (n ≡ number_at bytes.now place) × (place + 4 ≤ length bytes.now) × (n < 2 ^ 32)) }
+        (λ n. (n ≡ number_at bytes.now place) × (place + 4 ≤ length bytes.now)) }
 {
-    if bytes.len() < place {
-        return None;
-    }
     let (number, _) = take_u32(&bytes[place..])?;
-    Some(number as usize)
+    Some(number)
 }
 
-/// So many bytes from a place on.
-fn bytes_at(bytes: &[u8], place: usize, len: usize) -> Option<&[u8]>
-    requires place { place < 2 ^ 33 }
-    requires len { len < 2 ^ 32 }
-    ensures { MatchOption result (length bytes.now < place + len)
-        (λ s. (s.now ≡ take len (drop place bytes.now)) × (place + len ≤ length bytes.now)) }
-{
-    if bytes.len() < place + len {
-        return None;
-    }
-    Some(&bytes[place..place + len])
-}
-
-/// The manifest's text, behind the mark and its length.
-fn text_of(bytes: &[u8]) -> Result<&[u8], PackageError>
-    ensures text { IfOk result (λ t. t.now ≡ text_in bytes.now) }
-    ensures len { IfOk result (λ t. length t.now ≡ number_at bytes.now 4) }
-    ensures limit { IfOk result (λ t. length t.now ≤ MANIFEST_LIMIT) }
-    ensures ok { OnOk result (first_fault (text_faults bytes.now) ≡ None) }
-    ensures err { IfErr result (λ e. first_fault (text_faults bytes.now) ≡ Some e) }
-{
-    if !bytes.starts_with(MARK) {
-        return Err(inconsistent(0));
-    }
-    let Some(len) = number_at(bytes, 4) else {
-        return Err(inconsistent(4));
-    };
-    if len as u64 > MANIFEST_LIMIT {
-        return Err(inconsistent(4));
-    }
-    let Some(text) = bytes_at(bytes, 8, len) else {
-        return Err(inconsistent(8));
-    };
-    Ok(text)
-}
-
-/// The bytes behind the length at a place.
-fn block_of(bytes: &[u8], place: usize) -> Result<&[u8], PackageError>
-    requires { place < 2 ^ 32 }
-    ensures block { IfOk result (λ b. b.now ≡ block_at bytes.now place) }
-    ensures len { IfOk result (λ b. length b.now ≡ number_at bytes.now place) }
-    ensures limit { IfOk result (λ b. length b.now < 2 ^ 32) }
-    ensures ok { OnOk result (first_fault (block_faults bytes.now place) ≡ None) }
-    ensures err { IfErr result (λ e. first_fault (block_faults bytes.now place) ≡ Some e) }
+/// The block behind its length at a place.
+#[tactic(auto, unfolding(crate::specs::Fields::block_at))]
+fn block_at(bytes: &[u8], place: usize) -> Result<Span, PackageError>
+    requires { place ≤ length bytes.now }
+    ensures block { result ≡ block_at bytes.now place }
+    ensures within { IfOk result (λ span. end_of span ≤ length bytes.now) }
 {
     let Some(len) = number_at(bytes, place) else {
         return Err(inconsistent(place));
     };
-    let Some(block) = bytes_at(bytes, place + 4, len) else {
-        return Err(inconsistent(place + 4));
-    };
-    Ok(block)
+    let at = place + 4;
+    if bytes.len() - at < len as usize {
+        return Err(inconsistent(at));
+    }
+    Ok(Span { at, len })
+}
+
+/// A manifest's text, which may have so many bytes.
+#[tactic(auto, unfolding(crate::specs::Fields::block_at))]
+fn text_at(bytes: &[u8], room: u64, place: usize) -> Result<Span, PackageError>
+    requires { place ≤ length bytes.now }
+    ensures text { result ≡ text_at bytes.now room place }
+    ensures within { IfOk result
+        (λ span. (end_of span ≤ length bytes.now) × (span.len ≤ room)) }
+{
+    match number_at(bytes, place) {
+        Some(len) if u64::from(len) > room => Err(inconsistent(place)),
+        _ => block_at(bytes, place),
+    }
+}
+
+/// The text and the payload of a part.
+#[tactic(auto, unfolding(crate::specs::Fields::part_at))]
+fn part_at(bytes: &[u8], room: u64, place: usize) -> Result<PartPlace, PackageError>
+    requires { place ≤ length bytes.now }
+    ensures part { result ≡ part_at bytes.now room place }
+    ensures within { IfOk result
+        (λ p. (end_of p.payload ≤ length bytes.now) × (p.text.len ≤ room)) }
+{
+    let text = text_at(bytes, room, place)?;
+    let payload = block_at(bytes, text.at + text.len as usize)?;
+    Ok(PartPlace { text, payload })
+}
+
+/// The parts behind the head, and the place behind them.
+fn parts_at(bytes: &[u8], head: Head) -> Result<(Places, usize), PackageError>
+    requires count { head.count ≤ 16 }
+    requires place { head.place ≤ length bytes.now }
+    ensures parts { IsExactly (λ parts. (parts.0.items, parts.1)) result
+        (parts_at head.count bytes.now (texts_limit head.count) head.place) }
+    ensures within { IfOk result (λ parts. parts.1 ≤ length bytes.now) }
+{
+    let mut places = ArrayVec::new();
+    let mut room = texts_limit(head.count as usize);
+    let mut place = head.place;
+    for _ in 0..head.count {
+        let part = part_at(bytes, room, place)?;
+        room -= u64::from(part.text.len);
+        place = part.payload.at + part.payload.len as usize;
+        places.push(part);
+    }
+    Ok((places, place))
+}
+
+/// How many parts there are, and where they begin.
+fn head_of(bytes: &[u8]) -> Result<Head, PackageError>
+    ensures head { result ≡ head_of bytes.now }
+    ensures within { IfOk result (λ h. (h.count ≤ 16) × (h.place ≤ length bytes.now)) }
+{
+    if bytes.starts_with(MARK_OF_ONE) {
+        return Ok(Head { count: 1, place: 4 });
+    }
+    if !bytes.starts_with(MARK_OF_MORE) {
+        return Err(inconsistent(0));
+    }
+    match bytes.get(4) {
+        Some(count) if *count >= 2 && u64::from(*count) <= PART_LIMIT => Ok(Head {
+            count: *count,
+            place: 5,
+        }),
+        _ => Err(inconsistent(4)),
+    }
 }
 
 /// Refuses bytes that don't end with the digest (FIPS 180-4) of all before a place.
-fn check_digest(bytes: &[u8], place: usize) -> Result<(), PackageError>
+fn check_end(bytes: &[u8], place: usize) -> Result<(), PackageError>
     requires { place ≤ length bytes.now }
-    ensures ok { OnOk result (first_fault (digest_faults bytes.now place) ≡ None) }
-    ensures err { IfErr result (λ e. first_fault (digest_faults bytes.now place) ≡ Some e) }
+    ensures { result ≡ end_at bytes.now place }
 {
     let (before, rest) = bytes.split_at(place);
     let digest: [u8; 32] = Sha256::digest(before);
@@ -111,17 +159,13 @@ fn check_digest(bytes: &[u8], place: usize) -> Result<(), PackageError>
     Ok(())
 }
 
-/// The fields, where each of them is whole and the digest is that of all bytes before it.
-pub(crate) fn fields_of(bytes: &[u8]) -> Result<Fields<'_>, PackageError>
-    ensures text { IfOk result (λ f. f.text.now ≡ text_in bytes.now) }
-    ensures payload { IfOk result (λ f. f.payload.now ≡ payload_in bytes.now) }
-    ensures text_len { IfOk result (λ f. length f.text.now ≡ number_at bytes.now 4) }
-    ensures payload_len { IfOk result (λ f. length f.payload.now < 2 ^ 32) }
-    ensures ok { OnOk result (first_fault (field_faults bytes.now) ≡ None) }
-    ensures err { IfErr result (λ e. first_fault (field_faults bytes.now) ≡ Some e) }
+/// Where the parts lie, where each field is whole and the digest is that of all bytes before it.
+#[tactic(auto, unfolding(crate::specs::Fields::fields_of))]
+pub(crate) fn fields_of(bytes: &[u8]) -> Result<Places, PackageError>
+    ensures { IsExactly (λ places. places.items) result (fields_of bytes.now) }
 {
-    let text = text_of(bytes)?;
-    let payload = block_of(bytes, 8 + text.len())?;
-    check_digest(bytes, 12 + text.len() + payload.len())?;
-    Ok(Fields { text, payload })
+    let head = head_of(bytes)?;
+    let (places, end) = parts_at(bytes, head)?;
+    check_end(bytes, end)?;
+    Ok(places)
 }

@@ -1,4 +1,4 @@
-//! Software packages, read and printed.
+//! Software packages of one to sixteen parts, read and printed.
 //!
 //! Layer: stands on `manifest`, `wire` and the kit's `sha2`; the node and the vehicle packages stand on it.
 //! Its one contract: bytes are read exactly where they are a package, the first fault is answered where they
@@ -7,20 +7,20 @@
 
 mod fault;
 mod fields;
-mod package;
+mod laws;
+mod names;
+mod packed;
 mod payload;
 mod print;
 mod read;
-mod unique;
+mod span;
 
 pub use fault::PackageError;
-pub use package::{Contents, Package};
-pub use print::{PrintError, print_package, seal_package};
-pub use read::{read_contents, read_package};
-pub use unique::a_package_is_one;
-
-/// Bytes of a manifest's text.
-pub const MANIFEST_LIMIT: u64 = 16_384;
+pub use laws::a_package_is_one;
+pub use packed::{Packages, Packed};
+pub use print::{PrintError, are_parts, is_too_large, print_package, seal_package};
+pub use read::{Contents, read_package};
+pub use span::Span;
 
 #[cfg(test)]
 mod tests;

@@ -1,90 +1,120 @@
 //! Reading packages.
-ghost use Rattle.std.specs.Prelude.{◌≡◌, ◌⊎◌, ◌<◌, ◌^◌, length, Some, None, Ok, Err, IfOk, IfErr};
-ghost use Rattle.manifest.specs.Form.{manifest_of};
-ghost use Rattle.package_reader.specs.Reading.{fault, field_fault, reading};
-ghost use Rattle.package_reader.specs.Spelling.{IsPackage, package_of};
+ghost use Rattle.std.specs.Prelude.{◌≡◌, ◌⊎◌, List, Some, None, Ok, Err, IfOk, IfErr, map, find, not, option_map, true};
+ghost use Rattle.std.specs.List.{AllByRecursion};
+ghost use Rattle.manifest.specs.Trees.{all_of};
+ghost use Rattle.ucm_base.specs.Parts.{Bytes};
+ghost use Rattle.ucm_base.specs.declared.parts.Part.{Part as AnyPart};
+ghost use Rattle.package_reader.specs.Fields.{LiesWithin, fields_of};
+ghost use Rattle.package_reader.specs.Reading.{are_parts, contents_of, has_its_payload, manifests_in, part_in, payloads_in, with_payload};
+ghost use Rattle.package_reader.specs.Spelling.{IsPackage};
 ghost use Rattle.package_reader.specs.declared.fault.PackageError.{PackageError as AnyFault};
-ghost use Rattle.package_reader.specs.declared.package.Package.{Package as AnyPackage};
 
-use crate::fields::fields_of;
+use crate::PackageError;
+use crate::fields::{fields_of, inconsistent};
+use crate::names::{are_different, names_of};
 use crate::payload::is_payload_of;
-use crate::{Contents, Package, PackageError};
+use crate::span::{PartPlace, Span};
 use manifest::{ManifestError, read_manifest};
 use std::alloc::Global;
-use ucm_base::{Block, Manifest};
+use ucm_base::{Part, Rows};
 
-/// The manifest that a text is.
-fn manifest_in(alloc: Global, text: &[u8]) -> Result<Manifest, PackageError>
-    ensures ok { IfOk result (λ m. manifest_of text.now ≡ Some m) }
+/// The parts of a package, whose payloads lie in its bytes.
+pub type Contents = Rows<Part<Span>>;
+
+/// The part at a place.
+fn part_in(alloc: Global, bytes: &[u8], place: PartPlace) -> Result<Part<Span>, PackageError>
+    ensures ok { IfOk result (λ part. part_in bytes.now place ≡ Some part) }
     ensures err { IfErr result (λ e. (e ≡ PackageError.OutOfMemory)
-        ⊎ ((e ≡ PackageError.InvalidManifest) × (manifest_of text.now ≡ None))) }
+        ⊎ ((e ≡ PackageError.InvalidManifest) × (part_in bytes.now place ≡ None))) }
 {
-    match read_manifest(alloc, text) {
-        Ok(manifest) => Ok(manifest),
+    match read_manifest(alloc, place.text.of(bytes)) {
+        Ok(manifest) => Ok(Part {
+            manifest,
+            payload: place.payload,
+        }),
         Err(ManifestError::InvalidManifest) => Err(PackageError::InvalidManifest),
         Err(ManifestError::OutOfMemory) => Err(PackageError::OutOfMemory),
     }
 }
 
-/// What bytes are a package of, by the table of faults.
-#[tactic(auto, unfolding(crate::specs::Reading::fault, crate::specs::Reading::field_fault, crate::specs::Reading::reading))]
-fn contents_of(alloc: Global, bytes: &[u8]) -> Result<Contents<'_>, PackageError>
-    ensures len { IfOk result (λ c. length c.payload.now < 2 ^ 32) }
-    ensures ok { IfOk result (λ c. reading bytes.now ≡ Ok (package_of c)) }
+/// The parts at these places.
+fn parts_in(
+    alloc: Global,
+    bytes: &[u8],
+    places: &[PartPlace],
+) -> Result<Vec<Part<Span>>, PackageError>
+    ensures ok { IfOk result (λ parts. all_of (part_in bytes.now) places.now ≡ Some parts.items) }
     ensures err { IfErr result (λ e. (e ≡ PackageError.OutOfMemory)
-        ⊎ (reading bytes.now ≡ Err e)) }
-    ensures fields { (f : AnyFault) → field_fault bytes.now ≡ Some f → result ≡ Err f }
+        ⊎ ((e ≡ PackageError.InvalidManifest) × (all_of (part_in bytes.now) places.now ≡ None))) }
 {
-    let fields = fields_of(bytes)?;
-    let manifest = manifest_in(alloc, fields.text)?;
-    let payload = fields.payload;
-    if !is_payload_of(&manifest, payload) {
-        return Err(PackageError::PackageInconsistent {
-            place: (12 + fields.text.len()) as u64,
-        });
+    let mut parts = Vec::new(alloc);
+    'places: for place in places {
+        let part = part_in(alloc, bytes, *place)?;
+        parts.push(part)?;
     }
-    Ok(Contents { manifest, payload })
+    Ok(parts)
 }
 
-/// Reads a package and leaves its payload where it lies. The payload is hashed once, and all bytes before the
+/// Whether the payload is its manifest's.
+fn has_its_payload(bytes: &[u8], part: &Part<Span>) -> bool
+    ensures { result ≡ has_its_payload bytes.now part.now }
+{
+    is_payload_of(&part.manifest, part.payload.of(bytes))
+}
+
+/// The first part whose payload isn't its manifest's.
+fn another_payload<'a>(bytes: &[u8], parts: &'a [Part<Span>]) -> Option<&'a Part<Span>>
+    ensures { option_map (λ part. part.now) result
+        ≡ find (λ part. not (has_its_payload bytes.now part)) parts.now }
+{
+    parts.iter().find(|part| !has_its_payload(bytes, part))
+}
+
+/// Refuses a payload that isn't its manifest's.
+fn check_payloads(bytes: &[u8], parts: &[Part<Span>]) -> Result<(), PackageError>
+    ensures { result ≡ payloads_in bytes.now parts.now }
+{
+    match another_payload(bytes, parts) {
+        Some(part) => Err(inconsistent(part.payload.at)),
+        None => Ok(()),
+    }
+}
+
+/// Reads a package, and leaves its payloads where they lie. Each payload is hashed once, and all bytes before the
 /// digest once. A fault has the place, in bytes from 0, from which the bytes are no package.
-pub fn read_contents(alloc: Global, bytes: &[u8]) -> Result<Contents<'_>, PackageError>
-    ensures package { IfOk result (λ c. IsPackage bytes.now (package_of c)) }
-    ensures ok { IfOk result (λ c. reading bytes.now ≡ Ok (package_of c)) }
+pub fn read_package(alloc: Global, bytes: &[u8]) -> Result<Contents, PackageError>
+    // What is read is a package: one to sixteen parts of different clusters.
+    ensures package { IfOk result
+        (λ parts. IsPackage bytes.now (map (with_payload bytes.now) parts)) }
+    ensures ok { IfOk result (λ parts. contents_of bytes.now ≡ Ok parts) }
+    ensures parts { IfOk result (λ parts. are_parts parts ≡ true) }
+    ensures within { IfOk result
+        (λ parts. AllByRecursion (λ part. LiesWithin bytes.now part.payload) parts) }
     // A package is refused for want of memory alone.
-    ensures only { (p : AnyPackage) → IsPackage bytes.now p
+    ensures only { (parts : List (AnyPart Bytes)) → IsPackage bytes.now parts
         → IfErr result (λ e. e ≡ PackageError.OutOfMemory) }
     // What isn't want of memory is the first fault.
-    ensures first { IfErr result (λ e. (e ≡ PackageError.OutOfMemory)
-        ⊎ (fault bytes.now ≡ Some e)) }
     ensures err { IfErr result (λ e. (e ≡ PackageError.OutOfMemory)
-        ⊎ (reading bytes.now ≡ Err e)) }
+        ⊎ (contents_of bytes.now ≡ Err e)) }
     // A fault of the fields is answered without a call for memory.
-    ensures fields { (f : AnyFault) → field_fault bytes.now ≡ Some f → result ≡ Err f }
-    ensures len { IfOk result (λ c. length c.payload.now < 2 ^ 32) }
+    ensures fields { (f : AnyFault) → fields_of bytes.now ≡ Err f → result ≡ Err f }
 {
     contents_of(alloc, bytes)
 }
 
-/// Reads a package as `read_contents` does, and copies its payload.
-pub fn read_package(alloc: Global, bytes: &[u8]) -> Result<Package, PackageError>
-    ensures package { IfOk result (λ p. IsPackage bytes.now p) }
-    ensures ok { IfOk result (λ p. reading bytes.now ≡ Ok p) }
-    // A package is refused for want of memory alone.
-    ensures only { (p : AnyPackage) → IsPackage bytes.now p
-        → IfErr result (λ e. e ≡ PackageError.OutOfMemory) }
-    // What isn't want of memory is the first fault.
-    ensures first { IfErr result (λ e. (e ≡ PackageError.OutOfMemory)
-        ⊎ (fault bytes.now ≡ Some e)) }
+/// What bytes are a package of, by the order of refusals.
+#[tactic(auto, unfolding(crate::specs::Reading::contents_of))]
+fn contents_of(alloc: Global, bytes: &[u8]) -> Result<Contents, PackageError>
+    ensures ok { IfOk result (λ parts. contents_of bytes.now ≡ Ok parts) }
     ensures err { IfErr result (λ e. (e ≡ PackageError.OutOfMemory)
-        ⊎ (reading bytes.now ≡ Err e)) }
-    // A fault of the fields is answered without a call for memory.
-    ensures fields { (f : AnyFault) → field_fault bytes.now ≡ Some f → result ≡ Err f }
+        ⊎ (contents_of bytes.now ≡ Err e)) }
+    ensures fields { (f : AnyFault) → fields_of bytes.now ≡ Err f → result ≡ Err f }
 {
-    let contents = read_contents(alloc, bytes)?;
-    let payload = Vec::from_slice(alloc, contents.payload)?;
-    Ok(Package {
-        manifest: contents.manifest,
-        payload: Block::of(payload),
-    })
+    let places = fields_of(bytes)?;
+    let parts = parts_in(alloc, bytes, places.as_slice())?;
+    if !are_different(names_of(alloc, parts.as_slice())?.as_slice()) {
+        return Err(PackageError::InvalidManifest);
+    }
+    check_payloads(bytes, parts.as_slice())?;
+    Ok(Rows::of(parts))
 }
