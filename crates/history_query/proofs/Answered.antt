@@ -4,7 +4,7 @@ use Rattle.std.specs.List.{AllByRecursion}
 use Rattle.std.specs.Prelude.{◌==◌}
 use Rattle.ucm_base.specs.Parts.{Bytes}
 use Rattle.pm_types.specs.declared.clusters.Extent.{Extent}
-use Rattle.pm_types.specs.declared.clusters.Part.{Part}
+use Rattle.ucm_base.specs.declared.parts.Part.{Part}
 use Rattle.pm_types.specs.declared.queries.Answer.TheVariants.{Clusters, Changes, Packages, Progress, Refused, History}
 use Rattle.pm_types.specs.declared.queries.Query.TheVariants.{GetSwClusterInfo, GetSwClusterChangeInfo, GetSwPackages, GetSwProcessProgress, GetHistory}
 use Rattle.pm_types.specs.declared.replies.Refusal.TheVariants.{InvalidTransferId}

@@ -8,8 +8,6 @@
 mod infos;
 mod lines;
 mod progress;
-#[cfg(test)]
-mod tests;
 
 pub use infos::{change_info, cluster_info, packages};
 pub use lines::history;

@@ -1,5 +1,5 @@
 -- Lists of clusters in order of name, and what planned changes make of them.
-use Rattle.std.specs.Prelude.{ℕ, Bool, ◌+◌, ◌-◌, ◌/◌, max, not, List, [], ◌∷◌, ◌++◌, length, map, filter, sum_by, Option, Some, None, find}
+use Rattle.std.specs.Prelude.{ℕ, Bool, ◌+◌, ◌-◌, ◌/◌, max, not, List, [], ◌∷◌, ◌++◌, length, map, filter, sum_by, Option, find}
 use Rattle.std.specs.List.{list_any}
 use Rattle.std.specs.Str.{bytes_eq}
 use Rattle.ucm_base.specs.declared.parts.Action.{Action}
@@ -8,18 +8,10 @@ use Rattle.ucm_base.specs.Limits.{block_limit}
 use Rattle.ucm_base.specs.Names.{name_lt}
 use Rattle.ucm_base.specs.Needs.{Unmet, missing}
 use Rattle.ucm_base.specs.Parts.{Bytes}
-use Rattle.pm_types.specs.declared.clusters.Part.{Part}
+pub use Rattle.ucm_base.specs.Parts.{cluster_of}
+use Rattle.ucm_base.specs.declared.parts.Part.{Part}
 use Rattle.pm_types.specs.declared.clusters.Cluster.{Cluster}
 use Rattle.pm_types.specs.declared.clusters.Change.{Change}
-
--- a value that may be missing, as a list
-abbrev pub one_or_none : {X : Type 0} → Option X → List X
-one_or_none None = []
-one_or_none (Some x) = x ∷ []
-
--- the name of the cluster that a part changes
-abbrev pub cluster_of : {C : Type 0} → Part C → List ℕ
-cluster_of part = part.manifest.name
 
 -- the cluster of a name
 abbrev pub cluster_at : {C : Type 0} → List (Cluster C) → List ℕ → Option (Cluster C)

@@ -1,8 +1,8 @@
 -- What a node is, apart from where its bytes lie.
-use Rattle.std.specs.Prelude.{ℕ, Bool, true, false, ◌==◌, List, Option, Some, None, slice_index_or}
+use Rattle.std.specs.Prelude.{ℕ, Bool, true, false, ◌==◌, List, [], ◌∷◌, Option, Some, None, slice_index_or}
 use Rattle.ucm_base.specs.Parts.{Bytes}
 use Rattle.pm_types.specs.declared.clusters.Cluster.{Cluster}
-use Rattle.pm_types.specs.declared.clusters.Part.{Part}
+use Rattle.ucm_base.specs.declared.parts.Part.{Part}
 use Rattle.pm_types.specs.declared.clusters.Change.{Change}
 use Rattle.pm_types.specs.declared.status.Status.{Status}
 use Rattle.pm_types.specs.declared.status.Status.TheVariants.{Idle, Ready, Processing, Activating, Verifying, Activated, RollingBack, RolledBack, CleaningUp}
@@ -79,6 +79,15 @@ status_code Activated = 5
 status_code RollingBack = 6
 status_code RolledBack = 7
 status_code CleaningUp = 8
+
+-- the statuses in the order of their codes
+abbrev pub statuses_by_code : List Status
+statuses_by_code =
+    Idle ∷ Ready ∷ Processing ∷ Activating ∷ Verifying ∷ Activated ∷ RollingBack ∷ RolledBack ∷ CleaningUp ∷ []
+
+-- the status of a code; Idle where no status has it
+abbrev pub status_at : ℕ → Status
+status_at code = slice_index_or statuses_by_code code Idle
 
 abbrev pub has_status : Status → NodeState → Bool
 has_status status s = status_code s.status == status_code status

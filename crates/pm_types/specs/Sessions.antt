@@ -8,7 +8,7 @@ use Rattle.ucm_base.specs.declared.parts.Action.TheVariants.{Install, Update, Re
 use Rattle.ucm_base.specs.Limits.{cluster_limit}
 use Rattle.ucm_base.specs.Names.{different_names}
 use Rattle.ucm_base.specs.Parts.{Bytes}
-use Rattle.pm_types.specs.declared.clusters.Part.{Part}
+use Rattle.ucm_base.specs.declared.parts.Part.{Part}
 use Rattle.ucm_base.specs.Versions.{is_newer}
 use Rattle.pm_types.specs.declared.calls.Call.{Call}
 use Rattle.pm_types.specs.declared.calls.Call.TheVariants.{ProcessSwPackage, Activate, Finish, Rollback, RevertProcessedSwPackages, Cancel}

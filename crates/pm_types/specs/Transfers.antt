@@ -4,7 +4,7 @@ use Rattle.std.specs.Prelude.{ℕ, ◌+◌, Bool, not, ◌||◌, ◌&&◌, ◌==
 use Rattle.std.specs.Option.{option_map_or}
 use Rattle.ucm_base.specs.Limits.{transfer_limit, package_limit, block_limit, last_id}
 use Rattle.ucm_base.specs.Parts.{Bytes}
-use Rattle.pm_types.specs.declared.clusters.Part.{Part}
+use Rattle.ucm_base.specs.declared.parts.Part.{Part}
 use Rattle.pm_types.specs.declared.status.Phase.{Phase}
 use Rattle.pm_types.specs.declared.status.Phase.TheVariants.{Transferring, Transferred, Processing as BeingProcessed, Processed}
 use Rattle.pm_types.specs.declared.replies.Refusal.{Refusal}

@@ -5,7 +5,7 @@ use Rattle.std.specs.Option.{option_map_or}
 use Rattle.ucm_base.specs.Limits.{client_limit, cluster_limit, transfer_limit, package_limit, last_id, line_limit, entry_limit}
 use Rattle.ucm_base.specs.Names.{all_differ, names_rise}
 use Rattle.ucm_base.specs.Parts.{Bytes}
-use Rattle.pm_types.specs.declared.clusters.Part.{Part}
+use Rattle.ucm_base.specs.declared.parts.Part.{Part}
 use Rattle.pm_types.specs.declared.history.Line.{Line}
 use Rattle.pm_types.specs.declared.status.Outcome.{Outcome}
 use Rattle.pm_types.specs.declared.status.Outcome.TheVariants.{New}
@@ -90,7 +90,7 @@ pub record ProcessingIsDue (s : NodeState) : Type 0 where
 -- in Verifying a change is left to verify
 abbrev pub LeavesOneToVerify : Session → Status → Type 0
 LeavesOneToVerify x Verifying = x.verified < length x.changes
-LeavesOneToVerify x _ = x.verified ≤ length x.changes
+LeavesOneToVerify x _ = ⊤
 
 -- and an outcome is there exactly in CleaningUp
 abbrev pub VerdictsAreDue : NodeState → Type 0

@@ -6,9 +6,8 @@ use crate::{Call, CallName, Reply, Status};
 use circular_buffer::HeapCircularBuffer;
 use std::alloc::{AllocError, Global};
 use std::marker::Model;
+use ucm_base::limits::LINE_LIMIT;
 use ucm_base::{CallNo, ClientId, Rows};
-
-const LIMIT: usize = 256;
 
 /// One event of a node's history.
 #[derive(Drop)]
@@ -58,13 +57,14 @@ pub struct NewestLines {
 
 impl Model for NewestLines {
     ghost use Rattle.std.specs.Prelude.{List, ◌≡◌};
+    ghost use Rattle.ucm_base.specs.Limits.{line_limit};
     ghost use Rattle.pm_types.specs.declared.history.Line.{Line};
 
     ghost Value = { List Line };
 
     ghost view = { λ s. s.ring.items };
 
-    ghost invariant = { λ s. s.ring.capacity ≡ 256 };
+    ghost invariant = { λ s. s.ring.capacity ≡ line_limit };
 }
 
 impl NewestLines {
@@ -72,7 +72,7 @@ impl NewestLines {
     pub fn new(alloc: Global) -> Result<NewestLines, AllocError>
         ensures { IfOk result (λ s. s ≡ []) }
     {
-        let ring = HeapCircularBuffer::with_capacity(alloc, LIMIT)?;
+        let ring = HeapCircularBuffer::with_capacity(alloc, LINE_LIMIT as usize)?;
         Ok(NewestLines { ring })
     }
 

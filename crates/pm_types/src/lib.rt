@@ -7,6 +7,7 @@
 
 mod calls;
 mod clusters;
+mod contents;
 mod history;
 mod queries;
 mod replies;
@@ -16,12 +17,13 @@ mod text;
 mod transfers;
 
 pub use calls::{Call, CallName};
-pub use clusters::{Change, Cluster, Contents, Extent, Part};
+pub use clusters::{Change, Cluster, Extent};
+pub use contents::{Contents, units_of};
 pub use history::{Entry, Happened, Line, LineList, NewestLines};
 pub use queries::{
     Answer, ChangeInfo, ChangeList, ClusterInfo, ClusterList, PackageInfo, PackageList, Query,
 };
 pub use replies::{EndMark, IdList, Reached, Refusal, Reply, SessionMark, Synced, Worked};
-pub use state::{Changes, Clusters, Kept, PartList, Session, State, StoredTransfer, TransferList};
+pub use state::{Changes, Clusters, Kept, Session, State, StoredTransfer, TransferList};
 pub use status::{Outcome, Phase, Status};
 pub use transfers::{ExitVerdict, Header};

@@ -6,6 +6,7 @@ ghost use Rattle.pm_types.specs.Steps.{reply_code};
 
 use crate::{Outcome, Status};
 use std::marker::Model;
+use ucm_base::limits::TRANSFER_LIMIT;
 use ucm_base::{CallNo, ClientId, ClusterName, ShortText};
 
 /// Why a call is refused; its number and its words are those that scripts print.
@@ -76,23 +77,24 @@ pub struct EndMark {
 /// At most 8 ids of transfers, seen as their list.
 #[derive(Clone, Copy)]
 pub struct IdList {
-    ids: [u32; 8],
+    ids: [u32; TRANSFER_LIMIT as usize],
     len: usize,
 }
 
 impl Model for IdList {
     ghost use Rattle.std.specs.Prelude.{ℕ, List, length, take};
+    ghost use Rattle.ucm_base.specs.Limits.{transfer_limit};
     ghost use Rattle.ucm_base.specs.Padding.{IsPadded, padded, padded-again};
 
     ghost Value = { List ℕ };
 
     ghost view = { λ s. take s.len s.ids };
 
-    ghost invariant = { λ s. IsPadded 8 s.ids s.len };
+    ghost invariant = { λ s. IsPadded transfer_limit s.ids s.len };
 
-    ghost inverse = { λ xs. record { ids = padded 8 xs; len = length xs } };
+    ghost inverse = { λ xs. record { ids = padded transfer_limit xs; len = length xs } };
 
-    ghost inverse_ok = { λ s h i. record { ids = padded-again 8 s.ids s.len h i; len = h.0 i } };
+    ghost inverse_ok = { λ s h i. record { ids = padded-again transfer_limit s.ids s.len h i; len = h.0 i } };
 }
 
 impl IdList {
@@ -101,7 +103,7 @@ impl IdList {
         ensures { result ≡ [] }
     {
         IdList {
-            ids: [0; 8],
+            ids: [0; TRANSFER_LIMIT as usize],
             len: 0,
         }
     }

@@ -1,6 +1,5 @@
 //! A node's state as it is kept: where the bytes lie in place of the bytes.
-ghost use Rattle.std.specs.Prelude.{◌≡◌, ◌<◌, ◌≤◌, ◌++◌, ◌∷◌, [], None, length, vec_capacity, IfOk, IfSome};
-ghost use Rattle.pm_types.specs.Clusters.{stored_units};
+ghost use Rattle.std.specs.Prelude.{◌≡◌, ◌<◌, ◌≤◌, ◌+◌, ◌++◌, ◌∷◌, [], length, vec_capacity, IfOk};
 ghost use Rattle.pm_types.specs.Stored.{fresh_state};
 ghost use Rattle.ucm_base.specs.Limits.{cluster_limit, transfer_limit};
 
@@ -9,6 +8,7 @@ use crate::{
 };
 use std::alloc::{AllocError, Global};
 use std::marker::Model;
+use ucm_base::limits::{CLIENT_LIMIT, CLUSTER_LIMIT, TRANSFER_LIMIT};
 use ucm_base::{CallNo, ClientId};
 
 /// A client's last number, and the reply that is kept for it.
@@ -18,56 +18,6 @@ pub struct Kept {
     pub reply: Reply,
 }
 
-/// What a transfer's package has, once that is known; seen as the list of its parts with the lengths of their payloads.
-#[derive(Drop)]
-pub struct PartList {
-    part: Option<Contents>,
-}
-
-impl Model for PartList {
-    ghost use Rattle.std.specs.Prelude.{ℕ, List};
-    ghost use Rattle.pm_types.specs.declared.clusters.Part.{Part};
-    ghost use Rattle.pm_types.specs.Clusters.{one_or_none};
-
-    ghost Value = { List (Part ℕ) };
-
-    ghost view = { λ a. one_or_none a.part };
-}
-
-impl PartList {
-    /// No part.
-    pub fn none() -> PartList
-        ensures { result ≡ [] }
-    {
-        PartList { part: None }
-    }
-
-    /// One part.
-    pub fn one(part: Contents) -> PartList
-        ensures { result ≡ part ∷ [] }
-    {
-        PartList { part: Some(part) }
-    }
-
-    /// The part, where there is one.
-    pub fn first(&self) -> Option<&Contents>
-        ensures some { IfSome result (λ part. self.now ≡ part.now ∷ []) }
-        ensures none { result ≡ None → self.now ≡ [] }
-    {
-        self.part.as_ref()
-    }
-
-    /// The units of work that bring all parts.
-    pub fn units(&self) -> u64
-        ensures { result ≡ stored_units self.now }
-    {
-        match &self.part {
-            Some(part) => part.units(),
-            None => 0,
-        }
-    }
-}
-
 /// A transfer, with the slot in which its bytes lie.
 #[derive(Drop)]
 pub struct StoredTransfer {
@@ -75,7 +25,7 @@ pub struct StoredTransfer {
     /// 0 to 7.
     pub slot: u8,
     /// The parts of the package that its bytes are, once they are whole; none before.
-    pub contents: PartList,
+    pub contents: Contents,
 }
 
 /// The transfers of a node, by rising ids, seen as their list. It has room for eight from its making.
@@ -86,13 +36,15 @@ pub struct TransferList {
 
 impl Model for TransferList {
     ghost use Rattle.std.specs.Prelude.{List, ◌≤◌, length, vec_capacity};
+    ghost use Rattle.ucm_base.specs.Limits.{transfer_limit};
     ghost use Rattle.pm_types.specs.declared.state.StoredTransfer.{StoredTransfer};
 
     ghost Value = { List StoredTransfer };
 
     ghost view = { λ a. a.items.items };
 
-    ghost invariant = { λ a. (length a.items.items ≤ 8) × (8 ≤ vec_capacity a.items) };
+    ghost invariant = { λ a. (length a.items.items ≤ transfer_limit)
+        × (transfer_limit ≤ vec_capacity a.items) };
 }
 
 impl TransferList {
@@ -100,7 +52,7 @@ impl TransferList {
     pub fn new(alloc: Global) -> Result<TransferList, AllocError>
         ensures { IfOk result (λ list. list ≡ []) }
     {
-        let items = Vec::with_capacity(alloc, 8)?;
+        let items = Vec::with_capacity(alloc, TRANSFER_LIMIT as usize)?;
         Ok(TransferList { items })
     }
 
@@ -174,7 +126,7 @@ impl Clusters {
     }
 }
 
-/// At most 16 planned changes in order, with where their payloads lie, seen as their list. It has room for them from
+/// At most 64 planned changes in order, with where their payloads lie, seen as their list. It has room for them from
 /// its making.
 #[derive(Drop)]
 pub struct Changes {
@@ -183,6 +135,7 @@ pub struct Changes {
 
 impl Model for Changes {
     ghost use Rattle.std.specs.Prelude.{List, ◌≤◌, length, vec_capacity};
+    ghost use Rattle.ucm_base.specs.Limits.{cluster_limit};
     ghost use Rattle.pm_types.specs.declared.clusters.Change.{Change};
     ghost use Rattle.pm_types.specs.declared.clusters.Extent.{Extent};
 
@@ -190,7 +143,8 @@ impl Model for Changes {
 
     ghost view = { λ a. a.items.items };
 
-    ghost invariant = { λ a. (length a.items.items ≤ 16) × (16 ≤ vec_capacity a.items) };
+    ghost invariant = { λ a. (length a.items.items ≤ cluster_limit)
+        × (cluster_limit ≤ vec_capacity a.items) };
 }
 
 impl Changes {
@@ -198,16 +152,16 @@ impl Changes {
     pub fn new(alloc: Global) -> Result<Changes, AllocError>
         ensures { IfOk result (λ changes. changes ≡ []) }
     {
-        let items = Vec::with_capacity(alloc, 16)?;
+        let items = Vec::with_capacity(alloc, CLUSTER_LIMIT as usize)?;
         Ok(Changes { items })
     }
 
-    /// Adds a change behind the others. It takes no memory.
-    pub fn push(&mut self, change: Change<Extent>)
-        requires { length self.old < cluster_limit }
-        ensures { self.new ≡ self.old ++ change ∷ [] }
+    /// Adds changes behind the others. It takes no memory.
+    pub fn append(&mut self, mut changes: Vec<Change<Extent>>)
+        requires { length self.old + length changes.items ≤ cluster_limit }
+        ensures { self.new ≡ self.old ++ changes.items }
     {
-        self.items.push(change).unwrap();
+        self.items.append(&mut changes).unwrap();
     }
 
     /// The changes, in order.
@@ -265,9 +219,9 @@ pub struct State {
     pub transfers: TransferList,
     pub session: Option<Session>,
     /// For each client its last number and the reply to it.
-    pub last: [Option<Kept>; 32],
+    pub last: [Option<Kept>; CLIENT_LIMIT as usize],
     /// For each client how its last session ended.
-    pub ended: [Option<EndMark>; 32],
+    pub ended: [Option<EndMark>; CLIENT_LIMIT as usize],
     /// The entries of the history so far.
     pub entries: u64,
     pub lines: NewestLines,
@@ -304,8 +258,8 @@ impl State {
             running,
             transfers: TransferList::new(alloc)?,
             session: None,
-            last: [None; 32],
-            ended: [None; 32],
+            last: [None; CLIENT_LIMIT as usize],
+            ended: [None; CLIENT_LIMIT as usize],
             entries: 0,
             lines: NewestLines::new(alloc)?,
         })

@@ -1,4 +1,6 @@
 //! Where a node's session and its transfers stand.
+ghost use Rattle.std.specs.Prelude.{◌≡◌};
+ghost use Rattle.pm_types.specs.NodeState.{status_at};
 
 /// The status of a node, after the state machine of the service PackageManagement (AUTOSAR Adaptive Platform,
 /// release 20-11, Specification of Update and Configuration Management).
@@ -13,6 +15,25 @@ pub enum Status {
     RollingBack,
     RolledBack,
     CleaningUp,
+}
+
+impl Status {
+    /// The status of a code; Idle where no status has it.
+    pub fn of_code(code: u8) -> Status
+        ensures { result ≡ status_at code }
+    {
+        match code {
+            1 => Status::Ready,
+            2 => Status::Processing,
+            3 => Status::Activating,
+            4 => Status::Verifying,
+            5 => Status::Activated,
+            6 => Status::RollingBack,
+            7 => Status::RolledBack,
+            8 => Status::CleaningUp,
+            _ => Status::Idle,
+        }
+    }
 }
 
 /// How far a transfer is.

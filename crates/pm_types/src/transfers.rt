@@ -20,6 +20,7 @@ pub struct Header {
 /// What reading a transfer's bytes as a package says.
 #[derive(Drop)]
 pub enum ExitVerdict {
+    /// The parts of the package, with the lengths of their payloads.
     Good(Contents),
     Bad(Refusal),
 }
