@@ -1,29 +1,80 @@
--- The history that calls make is legal.
+-- The history that calls and units make is legal, and true to the names that fail.
 use Rattle.node_laws.proofs.Names.{◌≡◌, ◌++◌, ◌∙◌, [], ◌∷◌, Option, Some, None, refl, ap, Ordering, Greater, Reached}
 use Rattle.node_laws.proofs.Names.{Kept, NodeState, of_client, by_last, by_order, call_no_cmp, executed, Reading}
-use Rattle.node_laws.proofs.Names.{IsLegal, verdict_for, MakesLegal, entries_of, entry_of}
+use Rattle.node_laws.proofs.Names.{IsLegal, verdict_for, sym, subst, option_map, unwrap_or, Bool, true, false, not}
+use Rattle.node_laws.proofs.Names.{◌||◌, List, ℕ, UnitLine, with_entry, has_status, AllByRecursion, Entry, CallNo, Call}
+use Rattle.node_laws.proofs.Names.{MakesLegal, entries_of, call_entry, Verifying, arith, Reply, step, Answered, reply_to}
+use Rattle.std.specs.Prelude.{IsTrue}
+use Rattle.pm_types.specs.Histories.{IsTrueTo, unit_passes}
+use Rattle.pm_types.specs.Work.{unit}
+use Rattle.node_laws.specs.Runs.{IsOfClient, Asked, Calls, Works, unit_entry}
 
-module _ (read : Reading) where
-  pub makes-legal : MakesLegal read
-  makes-legal s [] clients = tt
-  makes-legal s (a ∷ calls) clients = by_kept (of_client s.last a.client) refl (λ t. makes-legal t calls clients.1)
+-- outside Verifying a unit passes
+passes-outside : (v q : Bool) → IsTrue ((not v || q) || v)
+passes-outside true true = refl
+passes-outside true false = refl
+passes-outside false q = refl
+
+module _ (fails : List (List ℕ)) (read : Reading) where
+  abbrev Both : NodeState → List Entry → Type 0
+  Both s entries = IsLegal read s entries × IsTrueTo fails read s entries
+
+  -- what follows is so after any state
+  abbrev Rest : List Asked → Type 0
+  Rest asked = (t : NodeState) → Both t (entries_of fails read t asked)
+
+  work-legal : (s : NodeState) (asked : List Asked) → Rest asked → Both s (entries_of fails read s (Works ∷ asked))
+  work-legal s asked rest = go (unit s p) refl
+    where
+      p : Bool
+      p = unit_passes fails s
+
+      f : NodeState → NodeState
+      f t = with_entry (UnitLine t.status) t
+
+      go : (u : Option NodeState) → unit s p ≡ u
+          → Both s (unit_entry p u ++ entries_of fails read (unwrap_or (option_map f u) s) asked)
+      go None e = rest s
+      go (Some t) e =
+          let after = subst (λ o. Both (unwrap_or (option_map f o) s) (entries_of fails read (f t) asked)) (sym e)
+          (rest (f t)) in (
+            ((ap (option_map (λ t. t.status)) e, passes-outside (has_status Verifying s) _), after.0),
+            (refl, after.1),
+          )
+
+  call-legal : (s : NodeState) (client : ℕ) (at : CallNo) (call : Call) (asked : List Asked)
+      → IsOfClient (Calls client at call) → Rest asked → Both s (entries_of fails read s (Calls client at call ∷ asked))
+  call-legal s client at call asked low rest = by_kept (of_client s.last client) refl
     where
       done : NodeState × Reached
-      done = executed s a.client a.no a.call (verdict_for read s a.client a.call)
+      done = executed s client at call (verdict_for read s client call)
 
-      -- what the first call left and gave, and the entries of the others
-      Legal : NodeState × Reached → Type 0
-      Legal now = IsLegal read s (entry_of a now.1 ++ entries_of read now.0 calls)
+      -- what the call left and gave, and the entries of what follows
+      After : NodeState × Reached → Type 0
+      After now = Both s (call_entry client at call now.1 ++ entries_of fails read now.0 asked)
 
-      -- that the others are legal after any state
-      Rest : Type 0
-      Rest = (t : NodeState) → IsLegal read t (entries_of read t calls)
-
-      by_kept : (kept : Option Kept) → of_client s.last a.client ≡ kept → Rest → Legal (by_last s done a.no kept)
-      by_kept None e rest = ((clients.0, ap (λ k. (by_last s done a.no k).1) e), rest done.0)
-      by_kept (Some kept) e rest = by_order_of (call_no_cmp a.no kept.no) refl
+      by_kept : (kept : Option Kept) → of_client s.last client ≡ kept → After (by_last s done at kept)
+      by_kept None e = (((low, ap (λ k. (by_last s done at k).1) e), (rest done.0).0), (rest done.0).1)
+      by_kept (Some kept) e = by_order_of (call_no_cmp at kept.no) refl
         where
-          by_order_of : (o : Ordering) → call_no_cmp a.no kept.no ≡ o → Legal (by_order s done kept o)
+          by_order_of : (o : Ordering) → call_no_cmp at kept.no ≡ o → After (by_order s done kept o)
           by_order_of Greater f =
-              ((clients.0, ap (λ k. (by_last s done a.no k).1) e ∙ ap (λ o. (by_order s done kept o).1) f), rest done.0)
+              let is = ap (λ k. (by_last s done at k).1) e ∙ ap (λ o. (by_order s done kept o).1) f in
+              (((low, is), (rest done.0).0), (rest done.0).1)
           by_order_of _ f = rest s
+
+  both : (s : NodeState) (asked : List Asked) → AllByRecursion IsOfClient asked → Both s (entries_of fails read s asked)
+  both s [] clients = (tt, tt)
+  both s (Works ∷ asked) clients = work-legal s asked (λ t. both t asked clients.1)
+  both s (Calls client at call ∷ asked) clients =
+      call-legal s client at call asked clients.0 (λ t. both t asked clients.1)
+
+-- the reply of an entry that is next is the judgment's
+pub answered : (read : Reading) (s : NodeState) (client : ℕ) (at : CallNo) (c : Call) (r : Reply)
+    → (step s client at c (verdict_for read s client c)).1 ≡ Answered r
+    → r ≡ reply_to s client c (verdict_for read s client c)
+answered read s client at c r e =
+    grind (arith, of_client, by_order, executed, verdict_for, reply_to, by_last, call_no_cmp)
+
+pub makes-legal : (read : Reading) → MakesLegal read
+makes-legal read fails s asked clients = both fails read s asked clients

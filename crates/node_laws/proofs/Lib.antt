@@ -9,3 +9,6 @@ pub mod Lists
 pub mod NameLists
 pub mod KeptSessions
 pub mod Kept
+pub mod GoingOn
+pub mod NewestKept
+pub mod Others

@@ -5,7 +5,8 @@ use Rattle.node_laws.proofs.Names.{ltb-true, numbers_rise, not, ◌||◌, is_non
 use Rattle.node_laws.proofs.Names.{Transferring, Transferred, BeingProcessed, Transfer, is_in, first_refusal, header_of}
 use Rattle.node_laws.proofs.Names.{ap, ◌==◌, if◌then◌else◌, option_map, eqb-true, is_of}
 
-pub each-append : {X : Type 0} (P : X → Type 0) (xs ys : List X) → AllByRecursion P xs → AllByRecursion P ys → AllByRecursion P (xs ++ ys)
+pub each-append : {X : Type 0} (P : X → Type 0) (xs ys : List X) → AllByRecursion P xs → AllByRecursion P ys
+    → AllByRecursion P (xs ++ ys)
 each-append P [] ys h k = k
 each-append P (x ∷ xs) ys h k = (h.0, each-append P xs ys h.1 k)
 
@@ -13,23 +14,28 @@ pub each-first : {X : Type 0} (P : X → Type 0) (xs ys : List X) → AllByRecur
 each-first P [] ys h = tt
 each-first P (x ∷ xs) ys h = (h.0, each-first P xs ys h.1)
 
-pub each-imp : {X : Type 0} (P Q : X → Type 0) → ((x : X) → P x → Q x) → (xs : List X) → AllByRecursion P xs → AllByRecursion Q xs
+pub each-imp : {X : Type 0} (P Q : X → Type 0) → ((x : X) → P x → Q x) → (xs : List X) → AllByRecursion P xs
+    → AllByRecursion Q xs
 each-imp P Q f [] h = tt
 each-imp P Q f (x ∷ xs) h = (f x h.0, each-imp P Q f xs h.1)
 
-pub each-both : {X : Type 0} (P Q R : X → Type 0) → ((x : X) → P x → Q x → R x) → (xs : List X) → AllByRecursion P xs → AllByRecursion Q xs → AllByRecursion R xs
+pub each-both : {X : Type 0} (P Q R : X → Type 0) → ((x : X) → P x → Q x → R x) → (xs : List X) → AllByRecursion P xs
+    → AllByRecursion Q xs → AllByRecursion R xs
 each-both P Q R f [] h k = tt
 each-both P Q R f (x ∷ xs) h k = (f x h.0 k.0, each-both P Q R f xs h.1 k.1)
 
-pub each-map : {X Y : Type 0} (P : Y → Type 0) (f : X → Y) (xs : List X) → AllByRecursion (λ x. P (f x)) xs → AllByRecursion P (map f xs)
+pub each-map : {X Y : Type 0} (P : Y → Type 0) (f : X → Y) (xs : List X) → AllByRecursion (λ x. P (f x)) xs
+    → AllByRecursion P (map f xs)
 each-map P f [] h = tt
 each-map P f (x ∷ xs) h = (h.0, each-map P f xs h.1)
 
-pub each-unmap : {X Y : Type 0} (P : Y → Type 0) (f : X → Y) (xs : List X) → AllByRecursion P (map f xs) → AllByRecursion (λ x. P (f x)) xs
+pub each-unmap : {X Y : Type 0} (P : Y → Type 0) (f : X → Y) (xs : List X) → AllByRecursion P (map f xs)
+    → AllByRecursion (λ x. P (f x)) xs
 each-unmap P f [] h = tt
 each-unmap P f (x ∷ xs) h = (h.0, each-unmap P f xs h.1)
 
-pub each-filter : {X : Type 0} (P : X → Type 0) (p : X → Bool) (xs : List X) → AllByRecursion P xs → AllByRecursion P (filter p xs)
+pub each-filter : {X : Type 0} (P : X → Type 0) (p : X → Bool) (xs : List X) → AllByRecursion P xs
+    → AllByRecursion P (filter p xs)
 each-filter P p [] h = tt
 each-filter P p (x ∷ xs) h = grind (arith, each-filter P p xs h.1)
 
@@ -43,17 +49,20 @@ length-filter p [] = omega arith
 length-filter p (x ∷ xs) = grind (arith, length-filter p xs)
 
 -- what a search finds passes its test and has each element's fact
-pub found-has : {X : Type 0} (p : X → Bool) (P : X → Type 0) (xs : List X) (x : X) → AllByRecursion P xs → find p xs ≡ Some x → (p x ≡ true) × P x
+pub found-has : {X : Type 0} (p : X → Bool) (P : X → Type 0) (xs : List X) (x : X) → AllByRecursion P xs
+    → find p xs ≡ Some x → (p x ≡ true) × P x
 found-has p P [] x h e = absurd (cc)
 found-has {X} p P (y ∷ ys) x h e = grind (arith, found-has p P ys x h.1)
 
 -- a search goes through a filter that lets all that it looks for pass
-pub find-filter : {X : Type 0} (p q : X → Bool) → ((x : X) → p x ≡ true → q x ≡ true) → (xs : List X) → find p (filter q xs) ≡ find p xs
+pub find-filter : {X : Type 0} (p q : X → Bool) → ((x : X) → p x ≡ true → q x ≡ true) → (xs : List X)
+    → find p (filter q xs) ≡ find p xs
 find-filter p q f [] = refl
 find-filter {X} p q f (x ∷ xs) = grind (arith, find-filter p q f xs)
 
 -- and so does the test that some element passes
-pub any-filter : {X : Type 0} (p q : X → Bool) (xs : List X) → AllByRecursion (λ x. p x ≡ true → q x ≡ true) xs → list_any p xs ≡ true → list_any p (filter q xs) ≡ true
+pub any-filter : {X : Type 0} (p q : X → Bool) (xs : List X) → AllByRecursion (λ x. p x ≡ true → q x ≡ true) xs
+    → list_any p xs ≡ true → list_any p (filter q xs) ≡ true
 any-filter p q [] f h = h
 any-filter {X} p q (x ∷ xs) f h = grind (arith, any-filter p q xs f.1)
 
@@ -72,22 +81,28 @@ rise-above a (b ∷ ns) r =
     let first = ltb-true a b parts.0 in
     (first, each-imp _ _ (λ n h. omega (arith, first, h)) ns (rise-above b ns parts.1))
 
-rise-onto : (a : ℕ) (ns : List ℕ) → AllByRecursion (λ n. a < n) ns → numbers_rise ns ≡ true → numbers_rise (a ∷ ns) ≡ true
+rise-onto : (a : ℕ) (ns : List ℕ) → AllByRecursion (λ n. a < n) ns → numbers_rise ns ≡ true
+    → numbers_rise (a ∷ ns) ≡ true
 rise-onto a x h r = grind arith
 
-pub rise-append : (ns : List ℕ) (n : ℕ) → numbers_rise ns ≡ true → AllByRecursion (λ m. m < n) ns → numbers_rise (ns ++ n ∷ []) ≡ true
+pub rise-append : (ns : List ℕ) (n : ℕ) → numbers_rise ns ≡ true → AllByRecursion (λ m. m < n) ns
+    → numbers_rise (ns ++ n ∷ []) ≡ true
 rise-append [] n r b = refl
 rise-append (a ∷ []) n r b = grind arith
 rise-append (a ∷ c ∷ ns) n r b =
     let parts = and_parts (nat_lt a c) (numbers_rise (c ∷ ns)) r in
     both_true parts.0 (rise-append (c ∷ ns) n parts.1 b.1)
 
-pub rise-filter : {X : Type 0} (f : X → ℕ) (p : X → Bool) (xs : List X) → numbers_rise (map f xs) ≡ true → numbers_rise (map f (filter p xs)) ≡ true
+pub rise-filter : {X : Type 0} (f : X → ℕ) (p : X → Bool) (xs : List X) → numbers_rise (map f xs) ≡ true
+    → numbers_rise (map f (filter p xs)) ≡ true
 rise-filter f p [] r = refl
 rise-filter {X} f p (x ∷ xs) r = go (p x) (rise-filter f p xs (rise-tail (f x) (map f xs) r))
   where
-    go : (b : Bool) → numbers_rise (map f (filter p xs)) ≡ true → numbers_rise (map f (cond b (x ∷ filter p xs) (filter p xs))) ≡ true
-    go true rest = rise-onto (f x) (map f (filter p xs)) (each-map _ f (filter p xs) (each-filter _ p xs (each-unmap _ f xs (rise-above (f x) (map f xs) r)))) rest
+    go : (b : Bool) → numbers_rise (map f (filter p xs)) ≡ true
+        → numbers_rise (map f (cond b (x ∷ filter p xs) (filter p xs))) ≡ true
+    go true rest =
+        rise-onto (f x) (map f (filter p xs))
+        (each-map _ f (filter p xs) (each-filter _ p xs (each-unmap _ f xs (rise-above (f x) (map f xs) r)))) rest
     go false rest = rest
 
 -- What a call that isn't refused shows.
@@ -143,9 +158,11 @@ abbrev pub changed : ℕ → (Transfer → Transfer) → Transfer → Transfer
 changed id f t = if t.header.id == id then f t else t
 
 -- a transfer that is found has the id and the client
-pub found-is : (client id : ℕ) (ts : List Transfer) (u : Transfer) → found client id ts ≡ Some u → (u.header.id ≡ id) × (u.header.client ≡ client)
+pub found-is : (client id : ℕ) (ts : List Transfer) (u : Transfer) → found client id ts ≡ Some u
+    → (u.header.id ≡ id) × (u.header.client ≡ client)
 found-is client id ts u e =
-    let own = and_parts (u.header.id == id) (u.header.client == client) (found-has (λ t. is_of client id t.header) (λ _. Unit {0}) ts u (every ts) e).0 in
+    let own = and_parts (u.header.id == id) (u.header.client == client)
+    (found-has (λ t. is_of client id t.header) (λ _. Unit {0}) ts u (every ts) e).0 in
     (eqb-true _ _ own.0, eqb-true _ _ own.1)
   where
     every : (us : List Transfer) → AllByRecursion (λ _. Unit {0}) us
@@ -153,14 +170,18 @@ found-is client id ts u e =
     every (_ ∷ us) = (tt, every us)
 
 -- and is the only one of its id
-pub only : (client id : ℕ) (ts : List Transfer) (u : Transfer) → numbers_rise (ids ts) ≡ true → found client id ts ≡ Some u → AllByRecursion (λ t. (t.header.id == id) ≡ true → t ≡ u) ts
+pub only : (client id : ℕ) (ts : List Transfer) (u : Transfer) → numbers_rise (ids ts) ≡ true
+    → found client id ts ≡ Some u → AllByRecursion (λ t. (t.header.id == id) ≡ true → t ≡ u) ts
 only client id [] u r e = tt
-only client id (t ∷ ts) u r e = go (is_of client id t.header) refl e (only client id ts u (rise-tail t.header.id (ids ts) r))
+only client id (t ∷ ts) u r e =
+    go (is_of client id t.header) refl e (only client id ts u (rise-tail t.header.id (ids ts) r))
   where
     above : AllByRecursion (λ v. t.header.id < v.header.id) ts
     above = each-unmap (λ n. t.header.id < n) (λ (v : Transfer). v.header.id) ts (rise-above t.header.id (ids ts) r)
 
-    go : (b : Bool) → is_of client id t.header ≡ b → cond b (Some t) (found client id ts) ≡ Some u → (found client id ts ≡ Some u → AllByRecursion (λ v. (v.header.id == id) ≡ true → v ≡ u) ts) → AllByRecursion (λ v. (v.header.id == id) ≡ true → v ≡ u) (t ∷ ts)
+    go : (b : Bool) → is_of client id t.header ≡ b → cond b (Some t) (found client id ts) ≡ Some u
+        → (found client id ts ≡ Some u → AllByRecursion (λ v. (v.header.id == id) ≡ true → v ≡ u) ts)
+        → AllByRecursion (λ v. (v.header.id == id) ≡ true → v ≡ u) (t ∷ ts)
     go true q k rec =
         let same : t.header.id ≡ id = eqb-true _ _ (and_parts (t.header.id == id) (t.header.client == client) q).0 in
         (λ _. cc, each-imp _ _ (λ v m w. absurd (let z = eqb-true _ _ w in let f : ⊥ = omega (arith, m) in f)) ts above)
@@ -170,7 +191,8 @@ only client id (t ∷ ts) u r e = go (is_of client id t.header) refl e (only cli
         (λ w. absurd (let z = eqb-true _ _ w in let f : ⊥ = omega (arith, there.1) in f), rec k)
 
 -- a relation of each transfer to what becomes of it
-pub each-changed : (R : Transfer → Transfer → Type 0) (client id : ℕ) (f : Transfer → Transfer) (ts : List Transfer) (u : Transfer) → numbers_rise (ids ts) ≡ true → found client id ts ≡ Some u
+pub each-changed : (R : Transfer → Transfer → Type 0) (client id : ℕ) (f : Transfer
+    → Transfer) (ts : List Transfer) (u : Transfer) → numbers_rise (ids ts) ≡ true → found client id ts ≡ Some u
     → ((t : Transfer) → (t.header.id == id) ≡ false → R t t) → R u (f u) → AllByRecursion (λ t. R t (changed id f t)) ts
 each-changed R client id f ts u r e other own = each-imp _ _ (λ t. go t) ts (only client id ts u r e)
   where
@@ -178,13 +200,17 @@ each-changed R client id f ts u r e other own = each-imp _ _ (λ t. go t) ts (on
     go t h = grind (arith)
 
 -- a fact of each transfer
-pub all-changed : (P Q : Transfer → Type 0) (client id : ℕ) (f : Transfer → Transfer) (ts : List Transfer) (u : Transfer) → numbers_rise (ids ts) ≡ true → found client id ts ≡ Some u
-    → AllByRecursion P ts → ((t : Transfer) → (t.header.id == id) ≡ false → P t → Q t) → (P u → Q (f u)) → AllByRecursion Q (map (changed id f) ts)
+pub all-changed : (P Q : Transfer → Type 0) (client id : ℕ) (f : Transfer
+    → Transfer) (ts : List Transfer) (u : Transfer) → numbers_rise (ids ts) ≡ true → found client id ts ≡ Some u
+    → AllByRecursion P ts → ((t : Transfer) → (t.header.id == id) ≡ false → P t → Q t) → (P u → Q (f u))
+    → AllByRecursion Q (map (changed id f) ts)
 all-changed P Q client id f ts u r e h other own =
-    each-map Q (changed id f) ts (each-both P _ _ (λ t p k. k p) ts h (each-changed (λ t v. P t → Q v) client id f ts u r e other own))
+    each-map Q (changed id f) ts
+    (each-both P _ _ (λ t p k. k p) ts h (each-changed (λ t v. P t → Q v) client id f ts u r e other own))
 
 -- a test that each transfer answers as before
-pub any-changed : (p : Transfer → Bool) (g : Transfer → Transfer) (ts : List Transfer) → AllByRecursion (λ t. p (g t) ≡ p t) ts → list_any p (map g ts) ≡ list_any p ts
+pub any-changed : (p : Transfer → Bool) (g : Transfer → Transfer) (ts : List Transfer)
+    → AllByRecursion (λ t. p (g t) ≡ p t) ts → list_any p (map g ts) ≡ list_any p ts
 any-changed p g [] h = refl
 any-changed p g (t ∷ ts) h = rw h.0 (ap (λ b. p t || b) (any-changed p g ts h.1))
 
@@ -193,10 +219,12 @@ pub record KeepsNames (f : Transfer → Transfer) : Type 0 where
   pub id : (t : Transfer) → (f t).header.id ≡ t.header.id
   pub client : (t : Transfer) → (f t).header.client ≡ t.header.client
 
-pub ids-changed : (id : ℕ) (f : Transfer → Transfer) → KeepsNames f → (ts : List Transfer) → ids (map (changed id f) ts) ≡ ids ts
+pub ids-changed : (id : ℕ) (f : Transfer → Transfer) → KeepsNames f → (ts : List Transfer)
+    → ids (map (changed id f) ts) ≡ ids ts
 ids-changed id f k [] = refl
 ids-changed id f k (t ∷ ts) = grind (arith, ids-changed id f k ts)
 
-pub found-changed : (owner n id : ℕ) (f : Transfer → Transfer) → KeepsNames f → (ts : List Transfer) → found owner n (map (changed id f) ts) ≡ option_map (changed id f) (found owner n ts)
+pub found-changed : (owner n id : ℕ) (f : Transfer → Transfer) → KeepsNames f → (ts : List Transfer)
+    → found owner n (map (changed id f) ts) ≡ option_map (changed id f) (found owner n ts)
 found-changed owner n id f k [] = refl
 found-changed owner n id f k (t ∷ ts) = grind (arith, found-changed owner n id f k ts)

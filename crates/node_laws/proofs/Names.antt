@@ -1,6 +1,6 @@
 -- The words of the definitions and of the library that these proofs use.
 pub use Rattle.node_laws.specs.Fit.{IsFit, IsInstalled, IsRead, IsReading, KeepsFit}
-pub use Rattle.node_laws.specs.Runs.{MakesLegal, entries_of, entry_of}
+pub use Rattle.node_laws.specs.Runs.{MakesLegal, call_entry, entries_of}
 pub use Rattle.pm_types.specs.Clusters.{all_units, brought, changed_as, changed_by, changes_of, cluster_of, has_cluster}
 pub use Rattle.pm_types.specs.Clusters.{planned, units_of, with_cluster}
 pub use Rattle.pm_types.specs.Histories.{IsLegal, IsNext, Reading, after_entry, formatted, state_after, verdict_for}
@@ -28,7 +28,7 @@ pub use Rattle.pm_types.specs.declared.calls.Call.TheVariants.{RevertProcessedSw
 pub use Rattle.pm_types.specs.declared.calls.Call.TheVariants.{TransferExit, TransferStart}
 pub use Rattle.pm_types.specs.declared.clusters.Change.{Change}
 pub use Rattle.pm_types.specs.declared.clusters.Cluster.{Cluster}
-pub use Rattle.pm_types.specs.declared.clusters.Part.{Part}
+pub use Rattle.ucm_base.specs.declared.parts.Part.{Part}
 pub use Rattle.pm_types.specs.declared.history.Entry.{Entry}
 pub use Rattle.pm_types.specs.declared.history.Entry.TheVariants.{Numbered, Unit as UnitDone}
 pub use Rattle.pm_types.specs.declared.history.Happened.{Happened}

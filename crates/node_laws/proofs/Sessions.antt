@@ -69,21 +69,41 @@ busy-of s x e v = record {
   runs = subst (λ o. IfSome o (λ y. s.running ≡ should_run y s.status y.outcome)) e v.running;
   changes = subst (ChangesAreDue s) e v.changes;
   applies = subst (λ o. IfSome o (λ y. PartsApply y.saved (parts_in s y))) e v.applying;
-  each = subst (λ (o : Option Session). InProcessing (option_and_then (λ y. y.processing) o) s.transfers) e v.processing.each;
-  working = subst (λ (o : Option Session). is_some (option_and_then (λ y. y.processing) o) ≡ has_status Processing s) e v.processing.status;
-  unfinished = subst (λ (o : Option Session). IfSome o (λ y. IfSome y.processing (IsUnfinished y.owner y.units_done s.transfers))) e v.processing.unfinished;
-  leaves = (subst (λ o. IfSome o (λ y. LeavesOneToVerify y s.status × (is_some y.outcome ≡ has_status CleaningUp s))) e v.verdicts).0;
-  outcome = (subst (λ o. IfSome o (λ y. LeavesOneToVerify y s.status × (is_some y.outcome ≡ has_status CleaningUp s))) e v.verdicts).1;
-  names = subst (λ (o : Option Session). length (option_map_or (λ y. names_among {D = Bytes} (s.running ++ y.saved) [] (parts_in s y)) o (names_among {D = Bytes} {E = Bytes} s.running [] [])) ≤ cluster_limit) e v.limits.names;
-  saved = subst (λ (o : Option Session). IfSome o (λ y. (names_rise (names_of y.saved) ≡ true) × (y.owner < client_limit))) e v.limits.saved;
+  each =
+      subst (λ (o : Option Session). InProcessing (option_and_then (λ y. y.processing) o) s.transfers)
+      e v.processing.each;
+  working =
+      subst (λ (o : Option Session). is_some (option_and_then (λ y. y.processing) o) ≡ has_status Processing s)
+      e v.processing.status;
+  unfinished =
+      subst (λ (o : Option Session). IfSome o
+      (λ y. IfSome y.processing (IsUnfinished y.owner y.units_done s.transfers))) e v.processing.unfinished;
+  leaves =
+      (subst (λ o. IfSome o (λ y. LeavesOneToVerify y s.status × (is_some y.outcome ≡ has_status CleaningUp s)))
+      e v.verdicts).0;
+  outcome =
+      (subst (λ o. IfSome o (λ y. LeavesOneToVerify y s.status × (is_some y.outcome ≡ has_status CleaningUp s)))
+      e v.verdicts).1;
+  names =
+      subst (λ (o : Option Session). length
+      (option_map_or (λ y. names_among {D = Bytes} (s.running ++ y.saved) [] (parts_in s y)) o
+      (names_among {D = Bytes} {E = Bytes} s.running [] [])) ≤ cluster_limit) e v.limits.names;
+  saved =
+      subst (λ (o : Option Session). IfSome o (λ y. (names_rise (names_of y.saved) ≡ true) × (y.owner < client_limit)))
+      e v.limits.saved;
 }
 
 pub free-of : (s : NodeState) → s.session ≡ None → IsConsistent s → Free s
 free-of s e v = record {
   idle = idle s.status (subst (SessionIsDue s.status) e v.session);
   changes = subst (ChangesAreDue s) e v.changes;
-  each = subst (λ (o : Option Session). InProcessing (option_and_then (λ y. y.processing) o) s.transfers) e v.processing.each;
-  names = subst (λ (o : Option Session). length (option_map_or (λ y. names_among {D = Bytes} (s.running ++ y.saved) [] (parts_in s y)) o (names_among {D = Bytes} {E = Bytes} s.running [] [])) ≤ cluster_limit) e v.limits.names;
+  each =
+      subst (λ (o : Option Session). InProcessing (option_and_then (λ y. y.processing) o) s.transfers)
+      e v.processing.each;
+  names =
+      subst (λ (o : Option Session). length
+      (option_map_or (λ y. names_among {D = Bytes} (s.running ++ y.saved) [] (parts_in s y)) o
+      (names_among {D = Bytes} {E = Bytes} s.running [] [])) ≤ cluster_limit) e v.limits.names;
 }
   where
     idle : (st : Status) → SessionIsDue st None → st ≡ Idle
@@ -91,5 +111,6 @@ free-of s e v = record {
     idle _ h = absurd h
 
 -- a fact of the state without a session, and of the state with one
-pub by-session : (s : NodeState) (P : Option Session → Type 0) → (s.session ≡ None → P None) → ((x : Session) → s.session ≡ Some x → P (Some x)) → P s.session
+pub by-session : (s : NodeState) (P : Option Session → Type 0) → (s.session ≡ None → P None)
+    → ((x : Session) → s.session ≡ Some x → P (Some x)) → P s.session
 by-session s P none some = grind arith

@@ -7,7 +7,7 @@ use Rattle.ucm_base.specs.Names.{all_differ, names_rise}
 use Rattle.ucm_base.specs.Parts.{Bytes}
 use Rattle.pm_types.specs.declared.calls.Call.{Call}
 use Rattle.pm_types.specs.declared.clusters.Cluster.{Cluster}
-use Rattle.pm_types.specs.declared.clusters.Part.{Part}
+use Rattle.ucm_base.specs.declared.parts.Part.{Part}
 use Rattle.pm_types.specs.declared.history.Entry.{Entry}
 use Rattle.pm_types.specs.declared.status.Phase.{Phase}
 use Rattle.pm_types.specs.declared.status.Phase.TheVariants.{Transferring}
@@ -21,7 +21,8 @@ use Rattle.pm_types.specs.Validity.{IsConsistent}
 
 -- bytes that are a package have at least one part, and its parts are of different clusters
 pub record IsReading (read : Reading) : Type 0 where
-  pub parts_of : (bytes : List ℕ) (parts : List (Part Bytes)) → read bytes ≡ Ok parts → (0 < length parts) × IsTrue (all_differ (map cluster_of parts))
+  pub parts_of : (bytes : List ℕ) (parts : List (Part Bytes)) → read bytes ≡ Ok parts
+      → (0 < length parts) × IsTrue (all_differ (map cluster_of parts))
 
 -- from phase Transferred on a transfer's parts are what its bytes read as
 abbrev pub IsRead : Reading → Transfer → Phase → Type 0
@@ -41,7 +42,10 @@ pub record IsInstalled (clusters : List (Cluster Bytes)) : Type 0 where
 -- a formatted node is fit, and calls of its clients, units of work and whole histories leave it fit
 pub record KeepsFit (read : Reading) : Type 0 where
   pub formatted : (clusters : List (Cluster Bytes)) → IsInstalled clusters → IsFit read (formatted clusters)
-  pub judge : (s : NodeState) (client : ℕ) (c : Call) → client < client_limit → IsFit read s → IsFit read (judge s client c (verdict_for read s client c)).0
-  pub step : (s : NodeState) (client : ℕ) (at : CallNo) (c : Call) → client < client_limit → IsFit read s → IsFit read (step s client at c (verdict_for read s client c)).0
+  pub judge : (s : NodeState) (client : ℕ) (c : Call) → client < client_limit → IsFit read s
+      → IsFit read (judge s client c (verdict_for read s client c)).0
+  pub step : (s : NodeState) (client : ℕ) (at : CallNo) (c : Call) → client < client_limit → IsFit read s
+      → IsFit read (step s client at c (verdict_for read s client c)).0
   pub unit : (s : NodeState) (passed : Bool) → IsFit read s → IsFit read (unwrap_or (worked s passed) s)
-  pub history : (s : NodeState) (entries : List Entry) → IsFit read s → IsLegal read s entries → IsFit read (state_after read s entries)
+  pub history : (s : NodeState) (entries : List Entry) → IsFit read s → IsLegal read s entries
+      → IsFit read (state_after read s entries)

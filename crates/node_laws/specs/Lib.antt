@@ -1,2 +1,5 @@
 pub mod Fit
 pub mod Runs
+pub mod Appends
+pub mod NewestKept
+pub mod Others
