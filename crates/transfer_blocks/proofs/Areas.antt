@@ -1,13 +1,13 @@
 -- What lies in the areas after a put.
 use Rattle.std.proofs.Common.{◌≡◌, ◌≢◌, ◌⊎◌, inl, inr, ⊎_elim, ℕ, zero, suc, ◌<◌, ◌≤◌, ◌==◌, Bool, true, false, cond, [], length, get_or, set, refl, sym, ◌∙◌, ap, subst, arith, get_or-set_other, get_or-set_same}
 use Rattle.std.proofs.lemmas.Bool.{cases_eq}
-use Rattle.std.proofs.lemmas.List.{length-set}
+use Rattle.std.proofs.lemmas.List.{get_or-replicate, length-replicate, length-set}
 use Rattle.ucm_base.specs.Limits.{transfer_limit, cluster_limit, package_limit}
 use Rattle.ucm_base.specs.Parts.{Bytes}
 use Rattle.pm_types.specs.Stored.{Areas}
 use Rattle.transfer_blocks.specs.declared.area.Area.{Area}
 use Rattle.transfer_blocks.specs.declared.area.Area.TheVariants.{Transfer, Side}
-use Rattle.transfer_blocks.specs.Areas.{IsArea, on_pair, with_side, content_of, with_content, overwritten, AreasFit, AgreesOutside, LeavesOutside}
+use Rattle.transfer_blocks.specs.Areas.{IsArea, on_pair, with_side, content_of, with_content, overwritten, no_contents, AreasFit, AgreesOutside, LeavesOutside}
 use Rattle.transfer_blocks.proofs.Bytes.{agrees}
 
 -- a side after another content is put there, and the other one
@@ -34,6 +34,16 @@ same_area (Transfer slot) (Side place side) = inr (λ e. absurd (cc e))
 same_area (Side place side) (Transfer slot) = inr (λ e. absurd (cc e))
 same_area (Side place side) (Side p s) =
     ⊎_elim (λ e. ⊎_elim (λ f. inl (λ i. Side (e i) (f i))) (λ n. inr (λ e. n cc)) (cases_eq s side)) (λ n. inr (λ e. n cc)) (cases_eq p place)
+
+-- areas with nothing in them fit
+pub nothing_fits : AreasFit no_contents
+nothing_fits = record { slots = length-replicate {A = Bytes} transfer_limit []; sides = length-replicate {A = Bytes × Bytes} cluster_limit ([], []); contents = short }
+  where
+    short : (area : Area) → IsArea area → length (content_of area no_contents) ≤ package_limit
+    short (Transfer slot) is = omega (arith, ap length (get_or-replicate {A = Bytes} transfer_limit slot [] [] is))
+    short (Side place side) is =
+        let none : on_pair side ([], []) ≡ [] = grind arith in
+        omega (arith, ap (λ p. length (on_pair side p)) (get_or-replicate {A = Bytes × Bytes} cluster_limit place ([], []) ([], []) is.0), ap length none)
 
 module _ (area : Area) (areas : Areas) (is : IsArea area) (fit : AreasFit areas) where
   -- the area holds what was put there

@@ -1,9 +1,8 @@
--- Fewer than eight transfers leave a slot free.
+-- Where fewer slots are taken than there are, one is free.
 use Rattle.std.proofs.Common.{◌≡◌, ◌≢◌, ◌⊎◌, inl, inr, ⊎_elim, refl, sym, ap, subst, ◌∙◌, ℕ, zero, suc, ◌+◌, ◌-◌, ◌<◌, ◌≤◌, ◌==◌, ◌&&◌, Bool, true, false, not, cond, List, [], ◌∷◌, length, filter, Option, Some, None, arith}
 use Rattle.std.specs.Prelude.{find, unwrap_or}
 use Rattle.std.specs.List.{range_with_len}
 use Rattle.std.proofs.lemmas.Bool.{cases_eq, eqb-true, ne_eqb}
-use Rattle.ucm_base.specs.Limits.{transfer_limit}
 use Rattle.transfer_blocks.specs.Table.{is_free, lowest_free}
 
 -- one step of a search, and how it ends
@@ -81,12 +80,9 @@ found_or_none test a (suc n) = by-test (test a) refl (found_or_none test (a + 1)
     by-test false is (inr none) = inr (λ k le lt. ⊎_elim (λ e. ap test e ∙ is) (λ n. none k (omega (arith, le, n)) (omega (arith, lt))) (cases_eq k a))
 
 -- of n slots, where fewer are taken, the lowest free one is free and is one of them
-free_below : (n : ℕ) (slots : List ℕ) → length slots < n → (is_free slots (unwrap_or (find (is_free slots) (range_with_len 0 n)) 0) ≡ true) × (unwrap_or (find (is_free slots) (range_with_len 0 n)) 0 < n)
-free_below n slots few =
+pub lowest-is_free : (n : ℕ) (slots : List ℕ) → length slots < n → (is_free slots (lowest_free n slots) ≡ true) × (lowest_free n slots < n)
+lowest-is_free n slots few =
     ⊎_elim
     (λ found. subst (λ (o : Option ℕ). (is_free slots (unwrap_or o 0) ≡ true) × (unwrap_or o 0 < n)) (sym found.1) (found.2, omega (arith, found.3)))
     (λ none. absurd (omega (arith, few, pigeons n slots (λ k lt. none k (omega arith) (omega (arith, lt))))))
     (found_or_none (is_free slots) 0 n)
-
-pub lowest-is_free : (slots : List ℕ) → length slots < transfer_limit → (is_free slots (lowest_free slots) ≡ true) × (lowest_free slots < transfer_limit)
-lowest-is_free slots few = free_below transfer_limit slots few

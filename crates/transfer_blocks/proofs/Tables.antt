@@ -59,9 +59,9 @@ raised next t is = record { id = omega (arith, is.id); received = is.received; s
 -- a transfer more
 pub table-fresh : (client size : ℕ) (s : Table) → IsTable s → length s.transfers < transfer_limit → size ≤ package_limit → IsTable (with_fresh client size s)
 table-fresh client size s is few small =
-    let free = lowest-is_free (slots_of s.transfers) (omega (arith, few, length-map s.transfers (λ t. t.slot))) in
+    let free = lowest-is_free transfer_limit (slots_of s.transfers) (omega (arith, few, length-map s.transfers (λ t. t.slot))) in
     record {
-      few = omega (arith, few, length-append s.transfers (record { header = fresh s.next_id client size; slot = lowest_free (slots_of s.transfers); contents = [] } ∷ []));
+      few = omega (arith, few, length-append s.transfers (record { header = fresh s.next_id client size; slot = lowest_free transfer_limit (slots_of s.transfers); contents = [] } ∷ []));
       each = each-push (IsBounded (s.next_id + 1)) s.transfers _ (each-imp (IsBounded s.next_id) (IsBounded (s.next_id + 1)) (raised s.next_id) s.transfers is.each)
           (record { id = omega arith; received = omega arith; size = small; counter = omega arith; slot = free.1 });
       ids = ap slots_differ (map-append id_of s.transfers _) ∙ differ-push (map id_of s.transfers) s.next_id is.ids (next-is_free s.next_id s.transfers is.each);

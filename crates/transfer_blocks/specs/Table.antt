@@ -2,7 +2,7 @@
 use Rattle.std.specs.Prelude.{ℕ, ◌+◌, ◌<◌, ◌≤◌, Bool, not, ◌||◌, ◌==◌, IsTrue, if◌then◌else◌, List, [], ◌∷◌, ◌++◌, length, map, filter, find, Option, Some, None, option_map, unwrap_or}
 use Rattle.std.specs.List.{list_all, range_with_len, AllByRecursion}
 use Rattle.ucm_base.specs.Limits.{transfer_limit, package_limit}
-use Rattle.pm_types.specs.declared.clusters.Part.{Part}
+use Rattle.ucm_base.specs.declared.parts.Part.{Part}
 use Rattle.pm_types.specs.declared.replies.Refusal.{Refusal}
 use Rattle.pm_types.specs.declared.replies.Reply.{Reply}
 use Rattle.pm_types.specs.declared.replies.Reply.TheVariants.{Refused}
@@ -44,9 +44,9 @@ slots_of transfers = map (λ t. t.slot) transfers
 abbrev pub is_free : List ℕ → ℕ → Bool
 is_free slots slot = list_all (λ other. not (other == slot)) slots
 
--- the lowest slot that is free
-abbrev pub lowest_free : List ℕ → ℕ
-lowest_free slots = unwrap_or (find (is_free slots) (range_with_len 0 transfer_limit)) 0
+-- the lowest of so many slots that is free
+abbrev pub lowest_free : ℕ → List ℕ → ℕ
+lowest_free limit slots = unwrap_or (find (is_free slots) (range_with_len 0 limit)) 0
 
 -- the refusal of what isn't a package, and the parts of what is one
 abbrev pub bad_refusal : ExitVerdict → Option Refusal
@@ -54,14 +54,14 @@ bad_refusal (Good contents) = None
 bad_refusal (Bad refusal) = Some refusal
 
 abbrev pub good_parts : ExitVerdict → List (Part ℕ)
-good_parts (Good contents) = contents ∷ []
+good_parts (Good contents) = contents
 good_parts (Bad refusal) = []
 
 -- one transfer more, in the lowest free slot
 abbrev pub with_fresh : ℕ → ℕ → Table → Table
 with_fresh client size s = record {
   next_id = s.next_id + 1;
-  transfers = s.transfers ++ record { header = fresh s.next_id client size; slot = lowest_free (slots_of s.transfers); contents = [] } ∷ [];
+  transfers = s.transfers ++ record { header = fresh s.next_id client size; slot = lowest_free transfer_limit (slots_of s.transfers); contents = [] } ∷ [];
 }
 
 -- the transfer of this id changed

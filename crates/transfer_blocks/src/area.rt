@@ -5,6 +5,6 @@
 pub enum Area {
     /// Of a transfer. A slot is 0 to 7.
     Transfer { slot: u8 },
-    /// Of a cluster. A place is 0 to 15, a side 0 or 1.
+    /// Of a cluster. A place is 0 to 63, a side 0 or 1.
     Side { place: u8, side: u8 },
 }

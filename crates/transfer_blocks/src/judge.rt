@@ -6,7 +6,7 @@ ghost use Rattle.pm_types.specs.Refusals.{first_refusal};
 ghost use Rattle.pm_types.specs.Transfers.{start_refusals, data_refusals, exit_refusals, delete_refusals};
 
 use pm_types::{Header, Phase, Refusal};
-use ucm_base::limits::{BLOCK_LIMIT, PACKAGE_LIMIT, TRANSFER_LIMIT};
+use ucm_base::limits::{BLOCK_LIMIT, LAST_ID, PACKAGE_LIMIT, TRANSFER_LIMIT};
 
 /// Why a transfer of this size doesn't begin, where so many are there.
 pub(crate) fn start_refusal(next_id: u32, count: u64, size: u64) -> Option<Refusal>
@@ -18,7 +18,7 @@ pub(crate) fn start_refusal(next_id: u32, count: u64, size: u64) -> Option<Refus
     if size == 0 {
         return Some(Refusal::IncorrectSize);
     }
-    if size > PACKAGE_LIMIT || count >= TRANSFER_LIMIT || next_id == u32::MAX {
+    if size > PACKAGE_LIMIT || count >= TRANSFER_LIMIT || u64::from(next_id) == LAST_ID {
         return Some(Refusal::InsufficientMemory);
     }
     None

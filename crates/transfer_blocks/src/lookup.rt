@@ -1,6 +1,7 @@
 //! Searches in a list of transfers.
 ghost use Rattle.std.specs.Prelude.{◌≡◌, ◌==◌, not};
 ghost use Rattle.std.specs.List.{list_all, position};
+ghost use Rattle.ucm_base.specs.Limits.{transfer_limit};
 ghost use Rattle.pm_types.specs.Transfers.{is_of};
 ghost use Rattle.transfer_blocks.specs.Table.{lowest_free, slots_of};
 
@@ -32,7 +33,7 @@ fn is_free(all: &[StoredTransfer], slot: u8) -> bool
 
 /// The lowest slot that no transfer has.
 pub(crate) fn lowest_free(all: &[StoredTransfer]) -> u8
-    ensures { result ≡ lowest_free (slots_of all.now) }
+    ensures { result ≡ lowest_free transfer_limit (slots_of all.now) }
 {
     for slot in 0..TRANSFER_LIMIT as u8 {
         if is_free(all, slot) {

@@ -16,6 +16,7 @@ pub struct MemStaging {
 
 impl MemStaging {
     /// All areas, with nothing in them.
+    #[tactic(auto, using(crate::proofs::Areas::nothing_fits))]
     pub fn new(alloc: Global) -> Result<MemStaging, AllocError>
         ensures { IfOk result (λ s. ⟦<MemStaging as Staging>⟧.areas s ≡ no_contents) }
     {

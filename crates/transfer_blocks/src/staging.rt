@@ -3,11 +3,11 @@ ghost use Rattle.std.specs.Prelude.{◌≡◌, ◌+◌, ◌≤◌, ℕ, length, 
 ghost use Rattle.ucm_base.specs.Limits.{package_limit};
 ghost use Rattle.pm_types.specs.Stored.{Areas};
 ghost use Rattle.transfer_blocks.specs.Areas.{content_of, with_content, overwritten, IsArea, AreasFit, LeavesOutside};
-ghost use Rattle.transfer_blocks.specs.Faults.{HasRisen};
+ghost use Rattle.fault_count.specs.Faults.{HasRisen};
 
 use crate::{Area, StagingError};
 
-/// The bytes of eight transfers, and of sixteen clusters with two sides each. Places and lengths are in bytes.
+/// The bytes of eight transfers, and of 64 clusters with two sides each. Places and lengths are in bytes.
 pub trait Staging {
     /// What lies in the areas now.
     ghost areas: { Self → Areas };

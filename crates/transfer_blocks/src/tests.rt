@@ -3,7 +3,7 @@
 use crate::{Area, MemStaging, Staging, StagingError, Transfers};
 use pm_types::{Contents, ExitVerdict, Phase, Refusal, Reply, TransferList};
 use std::alloc::{AllocError, Global};
-use ucm_base::{Action, ClientId, ClusterName, Manifest, Needs, VersionText};
+use ucm_base::{Action, ClientId, ClusterName, Manifest, Needs, Part, VersionText};
 
 #[test]
 fn an_area_holds_what_was_put(rt: HostRuntime) -> Result<(), StagingError> {
@@ -11,29 +11,33 @@ fn an_area_holds_what_was_put(rt: HostRuntime) -> Result<(), StagingError> {
     let area = Area::Transfer { slot: 7 };
     staging.put(area, 0, b"abcd")?;
     staging.put(area, 2, b"XYZ")?;
-    staging.put(Area::Side { place: 15, side: 1 }, 0, b"side")?;
+    staging.put(Area::Side { place: 63, side: 1 }, 0, b"side")?;
     let bytes = staging.get(area, 0, 5)?;
     assert!(rt; bytes.as_slice() == b"abXYZ".as_slice());
-    let bytes = staging.get(Area::Side { place: 15, side: 1 }, 1, 3)?;
+    let bytes = staging.get(Area::Side { place: 63, side: 1 }, 1, 3)?;
     assert!(rt; bytes.as_slice() == b"ide".as_slice());
     assert_eq!(rt; staging.faults(), 0);
     Ok(())
 }
 
-/// What was read of a package whose payload has five bytes.
+/// What was read of a package whose one payload has five bytes.
 fn contents(alloc: Global) -> Option<Contents> {
     let name = ClusterName::of(b"brake").ok()?;
     let version = VersionText::of(alloc, b"1.2.3").ok()?;
-    Some(Contents {
-        manifest: Manifest {
-            action: Action::Install,
-            name,
-            version,
-            needs: Needs::of(Vec::new(alloc)),
-            sha256: [7; 32],
-        },
-        payload: 5,
-    })
+    let mut parts = Vec::new(alloc);
+    parts
+        .push(Part {
+            manifest: Manifest {
+                action: Action::Install,
+                name,
+                version,
+                needs: Needs::of(Vec::new(alloc)),
+                sha256: [7; 32],
+            },
+            payload: 5,
+        })
+        .ok()?;
+    Some(Contents::of(parts))
 }
 
 #[test]
@@ -82,6 +86,6 @@ fn a_transfer_runs_to_its_end(rt: HostRuntime) -> Result<(), AllocError> {
         panic!(rt; "two transfers");
     };
     assert_eq!(rt; last.header.phase, Phase::Transferred);
-    assert!(rt; matches!(last.contents.first(), Some(part) if part.payload == 5));
+    assert!(rt; matches!(last.contents.as_slice(), [part] if part.payload == 5));
     Ok(())
 }

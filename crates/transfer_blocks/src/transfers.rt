@@ -11,7 +11,7 @@ use crate::Found;
 use crate::judge::{data_refusal, delete_refusal, exit_refusal, outlasts, start_refusal};
 use crate::lookup::{lowest_free, place_of, place_of_id};
 use pm_types::{
-    ExitVerdict, Header, IdList, PartList, Phase, Refusal, Reply, StoredTransfer, TransferList,
+    Contents, ExitVerdict, Header, IdList, Phase, Refusal, Reply, StoredTransfer, TransferList,
 };
 use std::marker::Model;
 use ucm_base::ClientId;
@@ -25,6 +25,7 @@ pub struct Transfers {
 
 impl Model for Transfers {
     ghost use Rattle.std.specs.Prelude.{◌≤◌, vec_capacity};
+    ghost use Rattle.ucm_base.specs.Limits.{transfer_limit};
     ghost use Rattle.transfer_blocks.specs.Table.{Table, IsTable};
 
     ghost Value = { Table };
@@ -32,7 +33,7 @@ impl Model for Transfers {
     ghost view = { λ t. record { next_id = t.next_id; transfers = t.held.items } };
 
     ghost invariant = { λ t. IsTable (record { next_id = t.next_id; transfers = t.held.items }) ×
-        (8 ≤ vec_capacity t.held) };
+        (transfer_limit ≤ vec_capacity t.held) };
 }
 
 impl Transfers {
@@ -118,7 +119,7 @@ impl Transfers {
                 phase: Phase::Transferring,
             },
             slot,
-            contents: PartList::none(),
+            contents: Contents::none(*self.held.allocator()),
         });
         self.next_id += 1;
         Reply::Started { id }
@@ -164,7 +165,7 @@ impl Transfers {
             ExitVerdict::Good(contents) => {
                 let transfer = &mut self.held[place];
                 transfer.header.phase = Phase::Transferred;
-                transfer.contents = PartList::one(contents);
+                transfer.contents = contents;
                 Reply::Done
             }
         }
