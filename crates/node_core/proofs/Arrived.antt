@@ -1,11 +1,11 @@
 -- Where a call leads, a stored node stands for the node there, and stays in order.
-use Rattle.node_core.proofs.Names.{Action, AllByRecursion, Area, Areas, Bytes, Call, Change, CleanUp, CleaningUp, Cluster, Done, Extent}
-use Rattle.node_core.proofs.Names.{Goal, Holding, IfSome, IsCopied, IsCopiedIn, IsInOrder, IsJudged, IsSound, List, Manifest, NodeState}
-use Rattle.node_core.proofs.Names.{None, Old, OnlyLeads, Option, Outcome, Part, Prepared, Ready, Refusal, Refused, Reply, Resume}
+use Rattle.node_core.proofs.Names.{AllByRecursion, AreCopied, Areas, Call, extents_of, map, transfer_meaning, Change, CleanUp, CleaningUp, Cluster, Done, Extent}
+use Rattle.node_core.proofs.Names.{Goal, Holding, IfSome, IsCopied, IsCopiedIn, IsInOrder, IsJudged, IsSound, List, NodeState}
+use Rattle.node_core.proofs.Names.{None, Old, OnlyLeads, Option, Outcome, Prepared, Ready, Refusal, Refused, Reply, Resume}
 use Rattle.node_core.proofs.Names.{RunsWhatItShould, SessionOf, Some, State, Status, StoredTransfer, To, acceptance, accepted, ap}
-use Rattle.node_core.proofs.Names.{arith, arrive, arrived, block_limit, cleaning_up, content_of, each-imp, first_refusal, goes_to}
+use Rattle.node_core.proofs.Names.{arith, arrive, arrived, cleaning_up, each-imp, first_refusal}
 use Rattle.node_core.proofs.Names.{led_by, meaning, node_of, option_map_or, package_reading, places_in, refl, refusal_by, refused_or}
-use Rattle.node_core.proofs.Names.{session_refusals, should_run, status_table, subst, sym, take, units_done, verdict_on, [], ℕ, ◌*◌}
+use Rattle.node_core.proofs.Names.{session_refusals, should_run, status_table, subst, sym, units_done, verdict_on, [], ℕ}
 use Rattle.node_core.proofs.Names.{◌∙◌, ◌∷◌, ◌≡◌}
 use Rattle.node_core.proofs.Stored.{copied-when}
 
@@ -19,20 +19,14 @@ refused-judged v client call why p sound refused = record {
   entries = refl;
 }
 
--- a payload goes to the same side by the same clusters and places
-pub goes-by : (s n : State) → n.running ≡ s.running → places_in n ≡ places_in s → (m : Manifest) (a : Action) → goes_to n m a ≡ goes_to s m a
-goes-by s n ran places m a = grind (arith, ran, places)
-
--- so what is copied stays copied while as many units are done
+-- what is copied stays copied while as many units are done, and the same clusters run at the same places
 pub copied-by : (areas : Areas) (s n : State) → units_done n ≡ units_done s → n.running ≡ s.running → places_in n ≡ places_in s
     → (ts : List StoredTransfer) → AllByRecursion (λ t. IsCopiedIn package_reading areas s t t.header.phase) ts
     → AllByRecursion (λ t. IsCopiedIn package_reading areas n t t.header.phase) ts
 copied-by areas s n done ran places ts = each-imp _ _ (λ t copied. copied-when areas n t t.header.phase (λ e.
-    each-imp _ _ (λ part c. subst (λ (x : ℕ × Area). IsAt part x.0 x.1) (sym (λ i. (done i, goes-by s n ran places part.manifest part.manifest.action i))) c)
-    _ (subst (IsCopiedIn package_reading areas s t) e copied))) ts
-  where
-    IsAt : Part Bytes → ℕ → Area → Type 0
-    IsAt part k area = take (k * block_limit) (content_of area areas) ≡ take (k * block_limit) part.payload
+    subst (λ (k : ℕ × List (Cluster Extent) × List (List ℕ × ℕ)).
+    AreCopied areas k.0 (transfer_meaning package_reading areas t).parts (extents_of k.1 (map (λ taken. taken.1) k.2) t.contents))
+    (sym (λ i. (done i, ran i, places i))) (subst (IsCopiedIn package_reading areas s t) e copied))) ts
 
 -- whatever a session has processed, verified and decided, it has the same plan
 abbrev pub marked : Option ℕ → ℕ → ℕ → Option Outcome → SessionOf Extent → SessionOf Extent

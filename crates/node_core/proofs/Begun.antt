@@ -1,7 +1,7 @@
 -- ProcessSwPackage is judged as the node's table says.
-use Rattle.node_core.proofs.Names.{Activate, AllByRecursion, BeingProcessed, Bool, Bytes, Cluster, Done, Extent, Found, Goal, Holding}
+use Rattle.node_core.proofs.Names.{Activate, AllByRecursion, BeingProcessed, Bool, Cluster, Done, Extent, Found, Goal, Holding}
 use Rattle.node_core.proofs.Names.{Idle, InvalidTransferId, IsCopied, IsInOrder, IsJudged, IsPlaced, IsReady, IsSound, List, None}
-use Rattle.node_core.proofs.Names.{OperationNotPermitted, Option, Part, ProcessSwPackage, Refusal, Refused, Reply, Session, SessionOf}
+use Rattle.node_core.proofs.Names.{OperationNotPermitted, Option, ProcessSwPackage, Refusal, Refused, Reply, Session, SessionOf}
 use Rattle.node_core.proofs.Names.{Some, State, StoredTransfer, Transfer, Transferred, activate_refusal, ap, arith, arrived}
 use Rattle.node_core.proofs.Names.{begin_processing, begun, both-none, change_meaning, changes_in, changes_kept, cluster_place}
 use Rattle.node_core.proofs.Names.{contents_of, each-append, each-first, false, first_refusal, found-has, found_of, free-of}
@@ -15,6 +15,8 @@ use Rattle.node_core.proofs.Phased.{phased-order, phased-means, phased-placed, p
 use Rattle.node_core.proofs.Stored.{copied-when, found-header, found-means, some-stored}
 use Rattle.node_core.proofs.Planned.{among-fit}
 use Rattle.node_core.proofs.Lists.{every}
+use Rattle.node_core.proofs.Pieces.{none-done}
+use Rattle.node_core.proofs.Names.{extents_in}
 use Rattle.node_core.proofs.Arrived.{done-judged, led-judged, refused-judged}
 use Rattle.node_core.proofs.Natural.{parts-mean, planned-means, unmet-means}
 
@@ -131,9 +133,7 @@ module _ (v : Holding) (sound : IsSound v) (client id tag : ℕ) (u : StoredTran
       go (Some x) some i = phased-order v sound client id u e BeingProcessed was-whole refl x (Some id) 0 i
 
   begun-copied : IsCopied package_reading v.areas next
-  begun-copied =
-      every (λ t. copied-when v.areas next t t.header.phase (λ e. every (λ (part : Part Bytes). refl) (transfer_meaning package_reading v.areas t).parts))
-      next.transfers
+  begun-copied = every (λ t. copied-when v.areas next t t.header.phase (λ e. none-done v.areas _ (extents_in next t))) next.transfers
 
 -- the session that was taken: the node's own, or the one that is ready
 taken-is : (o kept : Option (SessionOf Extent)) (x : SessionOf Extent) → (o ≡ None → kept ≡ Some x) → option_or o kept ≡ Some (unwrap_or o x)

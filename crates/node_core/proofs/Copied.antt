@@ -1,250 +1,193 @@
--- What copying the next unit of a package leaves, and makes ready.
-use Rattle.node_core.proofs.Names.{Action, AllByRecursion, Area, Areas, AreasFit, Bytes, Err, Extent, Holding, IfSome, IsArea}
-use Rattle.node_core.proofs.Names.{IsCopiedIn, IsKept, IsNextUnit, IsPackageReady, IsPartCopied, IsPartReady, IsReservedWork, IsSound}
-use Rattle.node_core.proofs.Names.{IsUnitOf, LeavesOutside, Manifest, NextUnit, None, Ok, OnOk, Option, Package, Part, Processing}
-use Rattle.node_core.proofs.Names.{Remove, Result, SessionOf, Side, Some, State, StoredTransfer, Transfer as MeantTransfer, ap, arith}
-use Rattle.node_core.proofs.Names.{before-stands, block_limit, change_due, change_kept, change_next, content-here, content_of, drop}
-use Rattle.node_core.proofs.Names.{drop-drop, drop-take, extent_in, extent_next, found-has, from_be_bytes, goes_to, has_cluster}
-use Rattle.node_core.proofs.Names.{if◌then◌else◌, is_of, length, length-drop, length-take, min, number_at, overwritten, package_limit}
-use Rattle.node_core.proofs.Names.{package_reading, payload_place, payload_start, refl, slice_range, subst, suits, sym, take, take-add}
-use Rattle.node_core.proofs.Names.{take-overwritten, take-take, take_min, transfer_meaning, true, unit_end, w32, with_content}
-use Rattle.node_core.proofs.Names.{with_length, ℕ, ◌*◌, ◌++◌, ◌+◌, ◌-◌, ◌<◌, ◌∙◌, ◌≡◌, ◌≢◌, ◌≤◌}
-use Rattle.package_reader.specs.Reading.{reading}
+-- What copying the next unit of a package leaves of a sound node, and makes ready.
+use Rattle.node_core.proofs.Names.{AllByRecursion, AreCopied, Areas, AreasFit, Bytes, Change, Extent, Holding, IfSome, IsArea, IsExtent, IsKept}
+use Rattle.node_core.proofs.Names.{IsNextUnit, IsPackageReady, IsReservedWork, IsSound, IsUnitOf, LeavesOutside, LieWithin, List, NextUnit, None}
+use Rattle.node_core.proofs.Names.{Ok, OnOk, Option, Piece, Processing, Result, SessionOf, Some, State, StoredTransfer, Err}
+use Rattle.node_core.proofs.Names.{Transfer as MeantTransfer, ap, append-nil, arith, before-stands, changes_due, changes_to, content-here, content_of}
+use Rattle.node_core.proofs.Names.{drop, each-imp, extents_in, if◌then◌else◌, length, length-drop, length-map, length-take, on_side, found-has, is_of, IsCopiedIn, Part, PartsLie, option_map}
+use Rattle.node_core.proofs.Names.{overwritten, package_limit, package_reading, parts_place, piece_of, plan_kept, refl, side_of, slice_range}
+use Rattle.node_core.proofs.Names.{subst, sym, take, take-overwritten, take-take, transfer_meaning, with_content, with_length, ℕ, ◌++◌}
+use Rattle.node_core.proofs.Names.{◌+◌, ◌-◌, ◌<◌, ◌∙◌, ◌≡◌, ◌≢◌, ◌≤◌}
 use Rattle.transfer_blocks.specs.declared.area.Area.TheVariants.{Transfer}
-use Rattle.node_core.proofs.Handled.{hand-copied, InHand, at_process, begin-within, busy, bytes_of, in-hand, part_of, payload-is}
+use Rattle.node_core.proofs.Handled.{hand-copied, InHand, at_process, busy, extents, extents-are, in-hand}
 use Rattle.node_core.proofs.Worked.{at-work}
 use Rattle.node_core.proofs.Staging.{came-lies, slot-is}
-use Rattle.node_core.proofs.Lastly.{change-extent, short, there-is}
-use Rattle.node_core.proofs.Removal.{removal-empty}
-use Rattle.node_core.proofs.Sides.{goes-apart, side-means, side-order}
+use Rattle.node_core.proofs.Lastly.{brings, matches, planned-extents}
+use Rattle.node_core.proofs.Packages.{parts-read}
+use Rattle.node_core.proofs.Pieces.{Copies, lie-in-all, lie-within, next-piece}
+use Rattle.node_core.proofs.Placing.{match-length}
+use Rattle.node_core.proofs.Sides.{AreApart, goes-apart, places-apart, same-extent, side-means, side-order}
 
--- bytes within the first n are those of the whole
-pub slice-take : (at len n : ℕ) (xs : Bytes) → at + len ≤ n → take len (drop at (take n xs)) ≡ take len (drop at xs)
-slice-take at len n xs le =
-    let split : at + (n - at) ≡ n = omega (arith, le) in
-    ap (λ k. take len (drop at (take k xs))) (sym split) ∙ ap (take len) (drop-take at (n - at) xs) ∙ take-take len (n - at) (drop at xs) (omega (arith, le))
+-- a node whose areas and whose state stay is kept
+pub still-kept : {v : Holding} {new : Holding} → IsSound v → new.areas ≡ v.areas → new.state ≡ v.state → v.faults ≤ new.faults → IsKept v new
+still-kept {v = v} {new = new} sound areas state more = subst (IsKept v) (λ i. record new { areas = sym areas i; state = sym state i })
+    (record { state = refl; node = refl; order = sound.order; copied = sound.copied; faults = more })
 
-module _ (came : ℕ) (content : Bytes) (p : Package) (e : reading (take came content) ≡ Ok p) (lies : came ≤ length content) (at len : ℕ) (some : 0 < len) (within : at + len ≤ length p.payload) where
-  abbrev bytes : Bytes
-  bytes = take came content
-
-  size-of : length p.payload ≡ min (number_at bytes (payload_place bytes)) (length bytes - (payload_place bytes + 4))
-  size-of = ap length (sym (payload-is bytes p e)) ∙ length-take (number_at bytes (payload_place bytes)) (drop (payload_place bytes + 4) bytes)
-      ∙ ap (min (number_at bytes (payload_place bytes))) (length-drop (payload_place bytes + 4) bytes)
-
-  wide : length bytes ≡ came
-  wide = let w = length-take came content in omega (arith, w, lies)
-
-  inside : payload_place bytes + 4 + at + len ≤ came
-  inside = let s = size-of in let w = wide in omega (arith, s, w, some, within)
-
-  -- the length of the manifest's text lies in the bytes
-  pub head-lies : 8 ≤ length content
-  head-lies = let i = inside in omega (arith, i, lies)
-
-  same-head : number_at content 4 ≡ number_at bytes 4
-  same-head = let i = inside in ap (from_be_bytes w32) (sym (slice-take 4 4 came content (omega (arith, i))))
-
-  start-is : payload_start content ≡ payload_place bytes + 4
-  start-is = ap (λ n. 4 + 4 + n + 4) same-head
-
-  -- and so does the unit
-  pub unit-lies : payload_start content + at + len ≤ length content
-  unit-lies = let i = inside in let s = start-is in omega (arith, i, s, lies)
-
-  -- what is read of the slot are the payload's bytes
-  pub piece-is : slice_range content (payload_start content + at) (payload_start content + at + len) ≡ take len (drop at p.payload)
-  piece-is =
-      let s = start-is in
-      let i = inside in
-      let w = wide in
-      let n = size-of in
-      let start = payload_place bytes + 4 in
-      let width : payload_start content + at + len - (payload_start content + at) ≡ len = omega arith in
-      ap (λ k. take k (drop (payload_start content + at) content)) width
-      ∙ ap (λ k. take len (drop (k + at) content)) s
-      ∙ sym (slice-take (start + at) len came content (omega (arith, i)))
-      ∙ ap (take len) (sym (drop-drop at start bytes))
-      ∙ sym (slice-take at len (number_at bytes (payload_place bytes)) (drop start bytes) (omega (arith, n, within)))
-      ∙ ap (λ y. take len (drop at y)) (payload-is bytes p e)
-
--- the side of an extent
-abbrev pub side_of : Extent → Area
-side_of e = Side e.place e.side
-
--- where a payload goes is a side
-goes-side : (s : State) (m : Manifest) (a : Action) (size : ℕ) → side_of (extent_in (goes_to s m a) size) ≡ goes_to s m a
-goes-side s m a size = grind arith
-
--- what a next unit needs of the area that it goes to, and what copying it there leaves and makes ready
-pub record Needs (v : Holding) (n : NextUnit) (side : Area) : Type 0 where
-  pub slot : IsArea (Transfer n.slot)
-  pub area : IsArea side
-  pub head : n.len ≢ 0 → 8 ≤ length (content_of (Transfer n.slot) v.areas)
-  pub range : n.len ≢ 0
-      → payload_start (content_of (Transfer n.slot) v.areas) + n.at + n.len ≤ length (content_of (Transfer n.slot) v.areas)
-  pub done : n.at ≤ length (content_of side v.areas)
-  pub fits : n.at + n.len ≤ package_limit
-  pub kept : AreasFit v.areas → n.len ≢ 0 → (new : Holding) → new.state ≡ v.state → v.faults ≤ new.faults
-      → LeavesOutside side n.at n.len v.areas new.areas → IsKept v new
-  pub ready : AreasFit v.areas → n.len ≢ 0 → (new : Holding) → new.state ≡ v.state → change_kept new.prepared ≡ n.change
-      → LeavesOutside side n.at n.len v.areas new.areas
-      → new.areas ≡ with_content side (overwritten n.at
-      (slice_range (content_of (Transfer n.slot) v.areas)
-      (payload_start (content_of (Transfer n.slot) v.areas) + n.at)
-      (payload_start (content_of (Transfer n.slot) v.areas) + n.at + n.len))
-      (content_of side v.areas)) v.areas
+-- what copying a piece needs, leaves and makes ready
+pub record PieceNeeds (v : Holding) (slot : ℕ) (changes : Option (List (Change Extent))) (piece : Piece) : Type 0 where
+  pub area : IsArea (side_of piece.to)
+  pub range : piece.from + piece.len ≤ length (content_of (Transfer slot) v.areas)
+  pub begin : piece.at ≤ length (content_of (side_of piece.to) v.areas)
+  pub fits : piece.at + piece.len ≤ package_limit
+  pub kept : AreasFit v.areas → piece.len ≢ 0 → (new : Holding) → new.state ≡ v.state → v.faults ≤ new.faults
+      → LeavesOutside (side_of piece.to) piece.at piece.len v.areas new.areas → IsKept v new
+  pub ready : AreasFit v.areas → piece.len ≢ 0 → (new : Holding) → new.state ≡ v.state → plan_kept new.prepared ≡ changes
+      → LeavesOutside (side_of piece.to) piece.at piece.len v.areas new.areas
+      → new.areas ≡ with_content (side_of piece.to) (overwritten piece.at
+      (slice_range (content_of (Transfer slot) v.areas) piece.from (piece.from + piece.len))
+      (content_of (side_of piece.to) v.areas)) v.areas
       → IsReservedWork new
-  pub none : n.len ≡ 0 → (new : Holding) → new.areas ≡ v.areas → new.state ≡ v.state → change_kept new.prepared ≡ n.change
-      → IsReservedWork new
+  pub none : piece.len ≡ 0 → (new : Holding) → new.areas ≡ v.areas → new.state ≡ v.state → plan_kept new.prepared ≡ changes → IsReservedWork new
+
+-- what a next unit needs: its package lies in the slot, and there is a piece
+pub record Needs (v : Holding) (slot done : ℕ) (extents : List Extent) (changes : Option (List (Change Extent))) : Type 0 where
+  pub slot-is : IsArea (Transfer slot)
+  pub lie : LieWithin (content_of (Transfer slot) v.areas) (parts_place (length extents)) extents
+  pub some : piece_of (content_of (Transfer slot) v.areas) (parts_place (length extents)) done extents ≡ None → ⊥
+  pub piece : (piece : Piece) → piece_of (content_of (Transfer slot) v.areas) (parts_place (length extents)) done extents ≡ Some piece
+      → PieceNeeds v slot changes piece
 
 module _ (v : Holding) (x : SessionOf Extent) (id : ℕ) (sound : IsSound (at_process v x id)) (h : InHand v x id) where
   abbrev s : State
   s = (at_process v x id).state
 
-  abbrev payload : Bytes
-  payload = h.pack.payload
+  abbrev slot : Bytes
+  slot = content_of (Transfer h.transfer.slot) v.areas
 
-  abbrev pub part : Part ℕ
-  part = with_length (part_of h.pack)
+  abbrev goes : List Extent
+  goes = extents v x id v.prepared sound h
 
-  abbrev pub goes : Extent
-  goes = extent_next s part
+  same-count : length goes ≡ length h.parts
+  same-count = match-length (brings v x id sound h) goes (matches v x id sound h) ∙ length-map h.parts with_length
 
-  abbrev pub area : Area
-  area = goes_to s h.pack.manifest h.pack.manifest.action
+  parts-lie : PartsLie slot (parts_place (length goes)) h.parts
+  parts-lie =
+      let came = h.transfer.header.received in
+      let lies = came-lies (at_process v x id) sound x.owner id h.transfer h.is in
+      lie-in-all came slot (parts_place (length goes)) h.parts lies
+      (subst (λ n. PartsLie (take came slot) (parts_place n) h.parts) (sym same-count) (parts-read (take came slot) h.parts h.reads).lie)
 
-  pub is-side : side_of goes ≡ area
-  is-side = goes-side s h.pack.manifest h.pack.manifest.action (length payload)
-
-  abbrev at : ℕ
-  at = x.units_done * block_limit
-
-  abbrev len : ℕ
-  len = min (length payload - at) block_limit
-
-  begin : at ≤ length payload
-  begin = begin-within x.units_done (length payload) h.unfinished
-
-  within : at + len ≤ length payload
-  within = let b = begin in omega (arith, b)
-
-  ends : at + len ≡ unit_end x.units_done (length payload)
-  ends = let b = begin in omega (arith, b)
-
-  there : suits h.pack.manifest.action (has_cluster x.saved h.pack.manifest.name) ≡ true
-  there = there-is v x id sound h
-
-  area-is : IsArea area
-  area-is = let e = change-extent v x id sound h h.pack.manifest.action there (short v x id sound h) in subst IsArea is-side (e.0, e.1)
-
-  -- the units done lie there
-  copied-so-far : IsPartCopied v.areas s (part_of h.pack)
+  copied-so-far : AreCopied v.areas x.units_done h.parts goes
   copied-so-far =
       let own = found-has (λ t. is_of x.owner id t.header) (λ t. IsCopiedIn package_reading v.areas s t t.header.phase)
       v.state.transfers h.transfer sound.copied h.is in
-      (subst (AllByRecursion (IsPartCopied v.areas s)) h.parts (subst (IsCopiedIn package_reading v.areas s h.transfer) h.phase own.1)).0
+      subst (λ (k : List (Part Bytes) × List Extent). AreCopied v.areas x.units_done k.0 k.1) (λ i. (h.means i, extents-are v x id v.prepared sound h i))
+      (subst (IsCopiedIn package_reading v.areas s h.transfer) h.phase own.1)
 
-  done-lies : at ≤ length (content_of area v.areas)
-  done-lies =
-      let b = begin in
-      let wide = ap length copied-so-far in
-      let here = length-take at (content_of area v.areas) in
-      let all = length-take at payload in
-      omega (arith, b, wide, here, all)
+  next : Copies slot v.areas (parts_place (length goes)) x.units_done h.parts goes
+  next = next-piece slot v.areas (parts_place (length goes)) x.units_done h.parts goes parts-lie (matches v x id sound h) (places-apart v x id sound h)
+      copied-so-far h.unfinished
 
-  some-left : len ≢ 0 → 0 < len
-  some-left some = omega (arith, some)
+  abbrev piece : Piece
+  piece = next.piece
 
-  -- what is put elsewhere than on a removal's side
-  no-removal : 0 < len → h.pack.manifest.action ≢ Remove
-  no-removal some is =
-      let none = ap length (removal-empty (bytes_of v.areas h.transfer) h.pack h.reads is) in
-      let w = within in
-      let f : ⊥ = omega (arith, some, none, w) in f
+  extent : IsExtent piece.to
+  extent = next.among IsExtent (planned-extents v x id sound h)
+
+  area : IsArea (side_of piece.to)
+  area = (extent.0, extent.1)
+
+  begin : piece.at ≤ length (content_of (side_of piece.to) v.areas)
+  begin = let lies = next.lies in omega (arith, lies, length-take piece.to.length (content_of (side_of piece.to) v.areas))
 
   as-left : (new : Holding) → new.state ≡ s → new ≡ record { areas = new.areas; faults = new.faults; state = s; prepared = new.prepared }
   as-left new e = λ i. record new { state = e i }
 
-  same-read : (areas : Areas) → LeavesOutside area at len v.areas areas
+  same-read : (areas : Areas) → LeavesOutside (side_of piece.to) piece.at piece.len v.areas areas
       → (t : StoredTransfer) → transfer_meaning package_reading areas t ≡ transfer_meaning package_reading v.areas t
-  same-read areas left t =
-      ap (λ (k : Areas). transfer_meaning package_reading k t) (subst (λ a. LeavesOutside a at len v.areas areas) (sym is-side) left).elsewhere
+  same-read areas left t = ap (λ (k : Areas). transfer_meaning package_reading k t) left.elsewhere
+
+  -- the other sides where payloads go hold what they held
+  others-stand : AreasFit v.areas → (areas : Areas) → LeavesOutside (side_of piece.to) piece.at piece.len v.areas areas
+      → AllByRecursion (λ e. e.place ≢ piece.to.place → on_side areas e ≡ on_side v.areas e) goes
+  others-stand fit areas left = each-imp _ _ (λ e is differ.
+      same-extent v x id sound h (side_of piece.to) piece.at piece.len areas area fit left (same-read areas left) e is (λ same. differ (place-of e piece.to same))) goes (planned-extents v x id sound h)
+    where
+      place-of : (e f : Extent) → side_of e ≡ side_of f → e.place ≡ f.place
+      place-of e f same = cc
+
+  -- the first bytes of the side where the piece goes
+  front : (areas : Areas) (n : ℕ) → n ≤ piece.to.length → take n (on_side areas piece.to) ≡ take n (content_of (side_of piece.to) areas)
+  front areas n le = take-take n piece.to.length (content_of (side_of piece.to) areas) le
 
   -- a put behind the done units, of no more than these bytes, leaves the node as it is
-  put-kept : AreasFit v.areas → len ≢ 0 → (new : Holding) → new.state ≡ s → v.faults ≤ new.faults
-      → LeavesOutside area at len v.areas new.areas → IsKept (at_process v x id) new
-  put-kept fit some new same more left = subst (IsKept (at_process v x id)) (sym (as-left new same)) (record {
-    state = refl;
-    node = side-means v x id sound h area at len new.areas area-is fit left (same-read new.areas left)
-        (goes-apart v x id sound h h.pack.manifest.action there (no-removal (some-left some)));
-    order = side-order v x id sound h area at len new.areas area-is fit left (same-read new.areas left);
-    copied = hand-copied v x id v.prepared sound h new.areas s (same-read new.areas left)
-        (before-stands at len (content_of area v.areas) (content_of area new.areas) at (omega arith) left.here ∙ copied-so-far);
-    faults = more;
-  })
+  put-kept : AreasFit v.areas → piece.len ≢ 0 → (new : Holding) → new.state ≡ s → v.faults ≤ new.faults
+      → LeavesOutside (side_of piece.to) piece.at piece.len v.areas new.areas → IsKept (at_process v x id) new
+  put-kept fit some new same more left =
+      let within = next.within in
+      let long : 0 < piece.to.length = omega (arith, within, some) in
+      let begins : piece.at ≤ piece.to.length = omega (arith, within) in
+      subst (IsKept (at_process v x id)) (sym (as-left new same)) (record {
+        state = refl;
+        node = side-means v x id sound h (side_of piece.to) piece.at piece.len new.areas area fit left (same-read new.areas left)
+            (next.among (λ e. 0 < e.length → AreApart (side_of e) v x) (goes-apart v x id sound h) long);
+        order = side-order v x id sound h (side_of piece.to) piece.at piece.len new.areas area fit left (same-read new.areas left);
+        copied = hand-copied v x id v.prepared sound h new.areas s (same-read new.areas left)
+            (subst (AreCopied new.areas x.units_done h.parts) (sym (extents-are v x id v.prepared sound h))
+            (next.kept new.areas (others-stand fit new.areas left)
+            (front new.areas piece.at begins
+            ∙ before-stands piece.at piece.len (content_of (side_of piece.to) v.areas) (content_of (side_of piece.to) new.areas) piece.at (omega arith) left.here
+            ∙ sym (front v.areas piece.at begins))));
+        faults = more;
+      })
 
   -- and makes the unit ready
-  unit-ready : (new : Holding) → new.state ≡ s → change_kept new.prepared ≡ change_due x.units_done id part goes
+  unit-ready : (new : Holding) → new.state ≡ s → plan_kept new.prepared ≡ changes_due x.units_done id h.transfer.contents (extents_in s h.transfer)
       → transfer_meaning package_reading new.areas h.transfer ≡ transfer_meaning package_reading v.areas h.transfer
-      → take (at + len) (content_of area new.areas) ≡ take (at + len) payload → IsReservedWork new
+      → AreCopied new.areas (x.units_done + 1) h.parts goes → IsReservedWork new
   unit-ready new same kept reads bytes = subst IsReservedWork (sym (as-left new same))
-      (subst (λ o. IfSome o (IsPackageReady left (busy x id) id)) (sym h.is)
-      (subst (AllByRecursion (IsPartReady left (busy x id) id)) (sym (ap (λ (k : MeantTransfer). k.parts) reads ∙ h.parts)) (
-        record {
-          bytes = ap (λ n. take n (content_of area new.areas)) (sym ends) ∙ bytes ∙ ap (λ n. take n payload) ends
-              ∙ take_min ((x.units_done + 1) * block_limit) payload;
-          change = λ last. kept ∙ ap (λ b. if b then None else Some (change_next s id part)) last;
-        },
-        tt,
-      )))
+      (subst (λ o. IfSome o (IsPackageReady left (busy x id) id)) (sym h.is) (record {
+        bytes = subst (λ (k : List (Part Bytes) × List Extent). AreCopied new.areas (x.units_done + 1) k.0 k.1)
+            (λ i. (sym (ap (λ (k : MeantTransfer). k.parts) reads ∙ h.means) i, sym (extents-are v x id v.prepared sound h) i)) bytes;
+        changes = λ last. kept ∙ ap (λ b. if b then None else Some (changes_to id h.transfer.contents (extents_in s h.transfer))) last;
+      }))
     where
       left : Holding
       left = record { areas = new.areas; faults = new.faults; state = s; prepared = new.prepared }
 
-  abbrev pub next : NextUnit
-  next = record { slot = h.transfer.slot; at = at; len = len; payload = goes; change = change_due x.units_done id part goes }
+  abbrev plan : Option (List (Change Extent))
+  plan = changes_due x.units_done id h.transfer.contents (extents_in s h.transfer)
 
-  pub needs-next : Needs (at_process v x id) next area
-  needs-next = record {
-    slot = slot-is (at_process v x id) sound x.owner id h.transfer h.is;
-    area = area-is;
-    head = λ some. head-lies came slot h.pack h.reads lies at len (some-left some) within;
-    range = λ some. unit-lies came slot h.pack h.reads lies at len (some-left some) within;
-    done = done-lies;
-    fits = let w = within in let low = short v x id sound h in omega (arith, w, low);
+  needs-piece : PieceNeeds (at_process v x id) h.transfer.slot plan piece
+  needs-piece = record {
+    area = area;
+    range = next.range;
+    begin = begin;
+    fits = let within = next.within in let low = extent.2 in omega (arith, within, low);
     kept = put-kept;
     ready = λ fit some new same kept left put.
+        let within = next.within in
+        let range = next.range in
+        let bytes = slice_range slot piece.from (piece.from + piece.len) in
+        let wide : piece.from + piece.len - piece.from ≡ piece.len = omega arith in
+        let piece-is : bytes ≡ take piece.len (drop piece.from slot) = ap (λ n. take n (drop piece.from slot)) wide in
+        let long : piece.at + piece.len ≡ piece.at + length bytes =
+        omega (arith, range, ap length piece-is, length-take piece.len (drop piece.from slot), length-drop piece.from slot) in
         unit-ready new same kept (same-read new.areas left h.transfer)
-        (ap (λ a. take (at + len) (content_of area a)) put ∙ ap (take (at + len)) (content-here area v.areas area-is fit _)
-        ∙ ap (λ b. take (at + len) (overwritten at b (content_of area v.areas))) (piece-is came slot h.pack h.reads lies at len (some-left some) within)
-        ∙ take-overwritten at piece (content_of area v.areas) done-lies (at + len) wide
-        ∙ ap (λ b. b ++ piece) copied-so-far ∙ sym (take-add at len payload));
+        (next.ready new.areas (others-stand fit new.areas left)
+        (front new.areas (piece.at + piece.len) within
+        ∙ ap (λ a. take (piece.at + piece.len) (content_of (side_of piece.to) a)) put
+        ∙ ap (take (piece.at + piece.len)) (content-here (side_of piece.to) v.areas area fit _)
+        ∙ take-overwritten piece.at bytes (content_of (side_of piece.to) v.areas) begin (piece.at + piece.len) long
+        ∙ (λ i. sym (front v.areas piece.at (omega (arith, within))) i ++ piece-is i)));
     none = λ zero new areas same kept.
-        let all : at + len ≡ at = omega (arith, zero) in
         unit-ready new same kept (ap (λ (k : Areas). transfer_meaning package_reading k h.transfer) areas)
-        (ap (λ a. take (at + len) (content_of area a)) areas ∙ ap (λ n. take n (content_of area v.areas)) all ∙ copied-so-far
-        ∙ ap (λ n. take n payload) (sym all));
+        (next.ready new.areas (each-imp _ _ (λ e is differ. ap (λ a. on_side a e) areas) goes (planned-extents v x id sound h))
+        (let all : piece.at + piece.len ≡ piece.at = omega (arith, zero) in
+        (λ i. take (all i) (on_side (areas i) piece.to)) ∙ sym (append-nil (take piece.at (on_side v.areas piece.to)))
+        ∙ ap (λ n. take piece.at (on_side v.areas piece.to) ++ take n (drop piece.from slot)) (sym zero)));
   }
-    where
-      came : ℕ
-      came = h.transfer.header.received
 
-      slot : Bytes
-      slot = content_of (Transfer h.transfer.slot) v.areas
-
-      lies : came ≤ length slot
-      lies = came-lies (at_process v x id) sound x.owner id h.transfer h.is
-
-      piece : Bytes
-      piece = take len (drop at payload)
-
-      wide : at + len ≡ at + length piece
-      wide = let w = within in omega (arith, w, length-take len (drop at payload), length-drop at payload)
+  needs-next : Needs (at_process v x id) h.transfer.slot x.units_done goes plan
+  needs-next = record {
+    slot-is = slot-is (at_process v x id) sound x.owner id h.transfer h.is;
+    lie = lie-within slot (parts_place (length goes)) h.parts goes (matches v x id sound h) parts-lie;
+    some = λ none. let z = sym none ∙ next.is in let f : ⊥ = cc in f;
+    piece = λ other e. subst (PieceNeeds (at_process v x id) h.transfer.slot plan) (let z = sym next.is ∙ e in let same : piece ≡ other = cc in same) needs-piece;
+  }
 
 -- what is needed of a node in processing, and of its next unit
 pub needs : {v w : Holding} → v ≡ w → IsSound w → w.state.status ≡ Processing → {o : Option NextUnit} {n : NextUnit} → IsNextUnit w o → o ≡ Some n
-    → Needs v n (side_of n.payload)
+    → Needs v n.slot n.done n.extents.items (option_map (λ c. c.items) n.changes)
 needs {v = v} {w = w} e sound q {o = o} {n = n} unit is-next =
     let u : IsUnitOf w n = subst (IsNextUnit w) is-next unit in
     let at : w.state.session ≡ Some (busy u.x u.id) = u.session ∙ ap (λ p. Some (record u.x { processing = p })) u.processing in
@@ -252,19 +195,58 @@ needs {v = v} {w = w} e sound q {o = o} {n = n} unit is-next =
     let whole = subst IsSound base sound in
     let hand = in-hand w u.x u.id whole in
     let same : u.transfer ≡ hand.transfer = let z = sym u.stored ∙ hand.is in cc in
-    let brings : u.part ≡ part w u.x u.id whole hand = let z = sym u.contents ∙ ap (λ t. t.contents) same ∙ hand.contents in cc in
-    let extent : n.payload ≡ goes w u.x u.id whole hand = u.payload ∙ (λ i. extent_next (base i).state (brings i)) in
-    let is : n ≡ next w u.x u.id whole hand = λ i. record {
-      slot = (u.slot ∙ ap (λ (t : StoredTransfer). t.slot) same) i;
-      at = u.at i;
-      len = (u.len ∙ ap (λ (k : Part ℕ). min (k.payload - u.x.units_done * block_limit) block_limit) brings) i;
-      payload = extent i;
-      change = (u.change ∙ (λ j. change_due u.x.units_done u.id (brings j) (extent j))) i;
-    } in
-    subst (λ (k : Holding × NextUnit × Area). Needs k.0 k.1 k.2)
-    (λ i. (sym (e ∙ base) i, sym is i, (sym (is-side w u.x u.id whole hand) ∙ ap side_of (sym extent)) i)) (needs-next w u.x u.id whole hand)
+    let goes : n.extents.items ≡ extents w u.x u.id w.prepared whole hand =
+    u.extents ∙ (λ i. extents_in (base i).state (same i)) ∙ extents-are w u.x u.id w.prepared whole hand in
+    let plan : option_map (λ c. c.items) n.changes ≡ changes_due u.x.units_done u.id hand.transfer.contents (extents_in (at_process w u.x u.id).state hand.transfer) =
+    u.changes ∙ (λ i. changes_due u.x.units_done u.id (same i).contents (extents_in (base i).state (same i))) in
+    subst (λ (k : Holding × (ℕ × ℕ) × List Extent × Option (List (Change Extent))). Needs k.0 k.1.0 k.1.1 k.2 k.3)
+    (λ i. (sym (e ∙ base) i, (sym (u.slot ∙ ap (λ (t : StoredTransfer). t.slot) same) i, sym u.done i), sym goes i, sym plan i)) (needs-next w u.x u.id whole hand)
 
 -- what holds on success, carried on
 pub on-ok : {X E : Type 0} {P Q : Type 0} (r : Result X E) → (P → Q) → OnOk r P → OnOk r Q
 on-ok (Ok x) f p = f p
 on-ok (Err e) f p = tt
+
+-- the piece that was found, in a node whose areas and whose state stay
+module _ {v : Holding} {slot done : ℕ} {extents : List Extent} {changes : Option (List (Change Extent))} (n : Needs v slot done extents changes)
+    (slice : List Extent) (same : slice ≡ extents) (o : Option Piece)
+    (found : o ≡ piece_of (content_of (Transfer slot) v.areas) (parts_place (length slice)) done slice) where
+  is : piece_of (content_of (Transfer slot) v.areas) (parts_place (length extents)) done extents ≡ o
+  is = ap (λ es. piece_of (content_of (Transfer slot) v.areas) (parts_place (length es)) done es) (sym same) ∙ sym found
+
+  pub no-piece : o ≡ None → ⊥
+  no-piece none = n.some (is ∙ none)
+
+  module _ (piece : Piece) (some : o ≡ Some piece) (m : Holding) (areas : m.areas ≡ v.areas) (state : m.state ≡ v.state) (more : v.faults ≤ m.faults) where
+    abbrev own : PieceNeeds v slot changes piece
+    own = n.piece piece (is ∙ some)
+
+    pub piece-area : IsArea (side_of piece.to)
+    piece-area = own.area
+
+    pub piece-range : piece.from + piece.len ≤ length (content_of (Transfer slot) m.areas)
+    piece-range = subst (λ (a : Areas). piece.from + piece.len ≤ length (content_of (Transfer slot) a)) (sym areas) own.range
+
+    pub piece-begin : piece.at ≤ length (content_of (side_of piece.to) m.areas)
+    piece-begin = subst (λ (a : Areas). piece.at ≤ length (content_of (side_of piece.to) a)) (sym areas) own.begin
+
+    pub piece-fits : piece.at + piece.len ≤ package_limit
+    piece-fits = own.fits
+
+    pub piece-none : piece.len ≡ 0 → plan_kept m.prepared ≡ changes → IsReservedWork m
+    piece-none zero plan = own.none zero m areas state plan
+
+    module _ (fit : AreasFit v.areas) (some_bytes : piece.len ≢ 0) (new : Holding) (stays : new.state ≡ m.state)
+        (left : LeavesOutside (side_of piece.to) piece.at piece.len m.areas new.areas) where
+      left-of : LeavesOutside (side_of piece.to) piece.at piece.len v.areas new.areas
+      left-of = subst (λ (a : Areas). LeavesOutside (side_of piece.to) piece.at piece.len a new.areas) areas left
+
+      pub piece-kept : m.faults ≤ new.faults → IsKept v new
+      piece-kept rises = own.kept fit some_bytes new (stays ∙ state) (omega (arith, more, rises)) left-of
+
+      pub piece-ready : plan_kept new.prepared ≡ changes → new.areas ≡ with_content (side_of piece.to) (overwritten piece.at
+          (slice_range (content_of (Transfer slot) m.areas) piece.from (piece.from + piece.len)) (content_of (side_of piece.to) m.areas)) m.areas
+          → IsReservedWork new
+      piece-ready plan put = own.ready fit some_bytes new (stays ∙ state) plan left-of
+          (put ∙ ap (λ (a : Areas). with_content (side_of piece.to) (overwritten piece.at
+          (slice_range (content_of (Transfer slot) a) piece.from (piece.from + piece.len)) (content_of (side_of piece.to) a)) a) areas)

@@ -1,4 +1,7 @@
 -- A node that begins with installed clusters is sound.
+use Rattle.std.proofs.lemmas.List.{get_or-replicate}
+use Rattle.transfer_blocks.specs.Areas.{no_contents}
+use Rattle.node_core.proofs.Lists.{each-second}
 use Rattle.node_core.proofs.Names.{AllByRecursion, AreInstalled, Area, Areas, AreasFit, Bytes, Cluster, Extent, IsExtent, IsFit}
 use Rattle.node_core.proofs.Names.{IsSound, List, Side, ap, append-nil, ap₂, arith, bytes_eq, cluster_limit, cluster_meaning}
 use Rattle.node_core.proofs.Names.{cluster_place, content-elsewhere, content-here, content_of, different_names, each-unmap, false}
@@ -104,6 +107,21 @@ next-installed old new fit stored more cs rest all c place bytes is whole few at
     subst (λ a. AreInstalled a more (cs ++ c ∷ [])) (sym (put ∙ ap₂ (λ n (b : Bytes). with_content (Side n 0) b old) here same))
     (subst (λ l. AreInstalled (with_content (Side (length cs) 0) c.content old) l (cs ++ c ∷ [])) (sym (added ∙ ap (λ n. stored ++ placed n c ∷ []) here))
     (one-installed old fit stored cs c is room))
+
+-- no cluster lies in areas with nothing in them
+pub none-installed : (areas : Areas) → areas ≡ no_contents → AreInstalled areas [] []
+none-installed areas empty = record {
+  places = refl;
+  contents = refl;
+  others = λ place least low. ap (content_of (Side place 0)) empty
+      ∙ ap (λ (p : Bytes × Bytes). p.0) (get_or-replicate {A = Bytes × Bytes} cluster_limit place ([], []) ([], []) low);
+}
+
+-- the next of clusters is no longer than each
+pub next-short : (cs rest all : List (Cluster Bytes)) (c : Cluster Bytes) → cs ++ c ∷ rest ≡ all
+    → AllByRecursion (λ c. length c.content ≤ package_limit) all → length c.content ≤ package_limit
+next-short cs rest all c whole short =
+    (each-second _ cs (c ∷ rest) (subst (AllByRecursion (λ (d : Cluster Bytes). length d.content ≤ package_limit)) (sym whole) short)).0
 
 -- clusters in order
 pub formatted-sound : (areas : Areas) (faults : ℕ) (stored : List (Cluster Extent)) (ordered cs : List (Cluster Bytes)) → AreInstalled areas stored ordered → ordered ≡ in_order cs → length ordered ≡ length cs → length cs ≤ cluster_limit → AllByRecursion (λ c. length c.content ≤ package_limit) cs

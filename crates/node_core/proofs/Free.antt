@@ -1,19 +1,44 @@
 -- Which places are taken, and that one is free where the names are few.
-use Rattle.node_core.proofs.Names.{AllByRecursion, Bool, Cluster, Extent, Holding, List, None, Option, SessionOf, Some, State, Within}
-use Rattle.node_core.proofs.Names.{all_differ, all_places, and_parts, ap, arith, beq, booleans_Decides, both_true, bytes_eq}
+use Rattle.node_core.proofs.Names.{AllByRecursion, Bool, List, None, Option, Some, Within, is_free, lowest_free, length-map, ltb-true, nat_lt, not-true, range_with_len, subst, unwrap_or, ◌<◌}
+use Rattle.node_core.proofs.Names.{all_differ, and_parts, ap, arith, beq, booleans_Decides, both_true, bytes_eq}
 use Rattle.node_core.proofs.Names.{change_place, cluster_limit, cluster_place, different_names, each-both, each-imp, each-map}
 use Rattle.node_core.proofs.Names.{each-unmap, eq-eqb, eq-name, false, find, found-has, has-within, has_name, length, list_all}
-use Rattle.node_core.proofs.Names.{list_any, list_any-append, list_any-map, map, name-swap, names_fit_places, nat_tests, none-passes}
-use Rattle.node_core.proofs.Names.{not, not-false, option_map_or, places_in, refl, session_takes, slots_differ, sym, true, within-self}
-use Rattle.node_core.proofs.Names.{within-trans, [], ℕ, ◌++◌, ◌==◌, ◌||◌, ◌∙◌, ◌∷◌, ◌≡◌, ◌≤◌}
-use Rattle.node_core.proofs.Lists.{all-each, each-all, any-found, none-any}
+use Rattle.node_core.proofs.Names.{list_any, map, name-swap, names_fit_places, nat_tests, none-passes}
+use Rattle.node_core.proofs.Names.{not, not-false, option_map_or, places_in, refl, slots_differ, sym, true, within-self}
+use Rattle.node_core.proofs.Names.{within-trans, [], ℕ, ◌++◌, ◌==◌, ◌∙◌, ◌∷◌, ◌≡◌, ◌≤◌}
+use Rattle.node_core.proofs.Lists.{all-each, each-all, any-found, every, none-any}
+use Rattle.std.specs.Prelude.{⊤}
+use Rattle.node_core.proofs.Names.{Change, Cluster, Extent, SessionOf, State, append-nil, append_assoc, change_place, cluster_place, map-append, map-map, places_in, taken_in}
 use Rattle.node_core.proofs.Named.{differ-few, none-named}
 
 abbrev pub Pair : Type 0
 Pair = List ℕ × ℕ
 
+-- their places
+abbrev pub places_of : List Pair → List ℕ
+places_of pairs = map (λ taken. taken.1) pairs
+
 abbrev pub is_taken : List Pair → ℕ → Bool
 is_taken pairs place = list_any (λ taken. taken.1 == place) pairs
+
+-- a place is free where it isn't taken
+free-is : (pairs : List Pair) (place : ℕ) → is_free (places_of pairs) place ≡ not (is_taken pairs place)
+free-is [] place = refl
+free-is (a ∷ pairs) place = grind (arith, free-is pairs place)
+
+-- the places of a node, from the lowest
+abbrev all_places : List ℕ
+all_places = range_with_len 0 cluster_limit
+
+-- the lowest free place is one of them
+pub lowest-low : (taken : List ℕ) → lowest_free cluster_limit taken < cluster_limit
+lowest-low taken = go (find (is_free taken) all_places) refl
+  where
+    go : (o : Option ℕ) → find (is_free taken) all_places ≡ o → lowest_free cluster_limit taken < cluster_limit
+    go None e = subst (λ o. unwrap_or o 0 < cluster_limit) (sym e) (omega arith)
+    go (Some p) e = subst (λ o. unwrap_or o 0 < cluster_limit) (sym e)
+        (found-has (is_free taken) (λ p. p < cluster_limit) all_places p
+        (each-imp _ _ (λ p k. ltb-true p cluster_limit k) all_places (all-each (λ p. nat_lt p cluster_limit) all_places refl)) e).1
 
 -- one name has one place, and one place one name
 abbrev pub FitsAll : List Pair → Pair → Type 0
@@ -87,19 +112,27 @@ module _ (pairs : List Pair) (fit : AllByRecursion (FitsAll pairs) pairs) where
   all-taken : (ps : List ℕ) → find (λ p. not (is_taken pairs p)) ps ≡ None → AllByRecursion (λ p. is_taken pairs p ≡ true) ps
   all-taken ps e = each-imp _ _ (λ p k. not-false _ k) ps (none-passes (λ p. not (is_taken pairs p)) ps e)
 
-  -- where a further name is among few, a place is free
-  pub free-place : (n : List ℕ) (zs : List (List ℕ)) → has_name (map (λ (a : Pair). a.0) pairs) n ≡ false → has_name zs n ≡ true → Within (map (λ (a : Pair). a.0) pairs) zs → length (different_names zs) ≤ cluster_limit
-      → (place : ℕ) × (find (λ p. not (is_taken pairs p)) all_places ≡ Some place)
+  -- where a further name is among few, the lowest free place is free
+  pub free-place : (n : List ℕ) (zs : List (List ℕ)) → has_name (map (λ (a : Pair). a.0) pairs) n ≡ false → has_name zs n ≡ true
+      → Within (map (λ (a : Pair). a.0) pairs) zs → length (different_names zs) ≤ cluster_limit
+      → is_taken pairs (lowest_free cluster_limit (places_of pairs)) ≡ false
   free-place n zs new among within few = go (find (λ p. not (is_taken pairs p)) all_places) refl
     where
-      go : (o : Option ℕ) → find (λ p. not (is_taken pairs p)) all_places ≡ o → (place : ℕ) × (find (λ p. not (is_taken pairs p)) all_places ≡ Some place)
-      go (Some p) e = (p, e)
+      same : lowest_free cluster_limit (places_of pairs) ≡ unwrap_or (find (λ p. not (is_taken pairs p)) all_places) 0
+      same = ap (λ test. unwrap_or (find test all_places) 0) (λ i p. free-is pairs p i)
+
+      go : (o : Option ℕ) → find (λ p. not (is_taken pairs p)) all_places ≡ o → is_taken pairs (lowest_free cluster_limit (places_of pairs)) ≡ false
+      go (Some p) e =
+          ap (is_taken pairs) (same ∙ ap (λ o. unwrap_or o 0) e)
+          ∙ not-true _ (found-has (λ p. not (is_taken pairs p)) (λ p. ⊤) all_places p (every (λ p. tt) all_places) e).0
       go None e =
           let all = all-taken all_places e in
           let names = map (name_at pairs) all_places in
           let there = names-in all_places all in
           let count = differ-few (n ∷ names) zs (both_true (ap not (other-name n new names there)) (names-differ all_places all refl)) (among, within-trans names (map (λ (a : Pair). a.0) pairs) zs there within) in
-          absurd (let f : ⊥ = omega (arith, count, few) in f)
+          let size = length-map all_places (name_at pairs) in
+          let as_many : length all_places ≡ cluster_limit = refl in
+          absurd (let f : ⊥ = omega (arith, count, few, size, as_many) in f)
 
 -- a pair with a new name and a new place fits the others
 pub fresh-fits : (pairs : List Pair) (n : List ℕ) (place : ℕ) → names_fit_places pairs ≡ true
@@ -108,26 +141,20 @@ fresh-fits pairs n place fit new free =
     fits-onto (n, place) pairs (each-both _ _ _ (λ a h k. (h, flip a.1 place k)) pairs (none-named (λ (a : Pair). a.0) pairs n new)
     (none-any (λ (a : Pair). a.1 == place) pairs free)) fit
 
--- a place is taken by what runs, or by the session
-taken-is : (s : State) (place : ℕ)
-    → is_taken (places_in s) place ≡ (list_any (λ c. c.content.place == place) s.running || session_takes s.session place)
-taken-is s place =
-    list_any-append here (map cluster_place s.running) _ ∙ (λ i. list_any-map here cluster_place s.running i || of s.session i)
-  where
-    here : Pair → Bool
-    here taken = taken.1 == place
+-- the places that a state's clusters and changes have, one kind behind the other
+pub taken_none : (s : State) → s.session ≡ None → taken_in s ≡ map (λ (c : Cluster Extent). c.content.place) s.running
+taken_none s e =
+    ap (λ o. places_of (places_in (record s { session = o }))) e
+    ∙ map-append (λ (p : Pair). p.1) (map cluster_place s.running) [] ∙ append-nil _ ∙ map-map (λ (p : Pair). p.1) cluster_place s.running
 
-    of : (o : Option (SessionOf Extent))
-        → list_any here (option_map_or (λ x. map cluster_place x.saved ++ map change_place x.changes) o []) ≡ session_takes o place
-    of None = refl
-    of (Some x) =
-        list_any-append here (map cluster_place x.saved) (map change_place x.changes)
-        ∙ (λ i. list_any-map here cluster_place x.saved i || list_any-map here change_place x.changes i)
-
--- the same, told of a node by its parts
-pub taken-of : {v w : Holding} → v ≡ w → (place : ℕ) (a b : Bool) (cs : List (Cluster Extent)) → cs ≡ v.state.running
-    → list_any (λ c. c.content.place == place) cs ≡ a → session_takes v.state.session place ≡ b
-    → (a || b) ≡ is_taken (places_in w.state) place
-taken-of {v = v} e place a b cs same ran planned =
-    (λ i. (sym ran ∙ ap (list_any (λ (c : Cluster Extent). c.content.place == place)) same) i || sym planned i)
-    ∙ sym (taken-is v.state place) ∙ ap (λ (u : Holding). is_taken (places_in u.state) place) e
+pub taken_some : (s : State) (x : SessionOf Extent) → s.session ≡ Some x → taken_in s
+    ≡ (map (λ (c : Cluster Extent). c.content.place) s.running ++ map (λ (c : Cluster Extent). c.content.place) x.saved)
+    ++ map (λ (c : Change Extent). c.part.payload.place) x.changes
+taken_some s x e =
+    let place = λ (p : Pair). p.1 in
+    ap (λ o. places_of (places_in (record s { session = o }))) e
+    ∙ map-append place (map cluster_place s.running) (map cluster_place x.saved ++ map change_place x.changes)
+    ∙ ap (λ ns. map place (map cluster_place s.running) ++ ns) (map-append place (map cluster_place x.saved) (map change_place x.changes))
+    ∙ (λ i. map-map place cluster_place s.running i ++ (map-map place cluster_place x.saved i ++ map-map place change_place x.changes i))
+    ∙ sym (append_assoc (map (λ (c : Cluster Extent). c.content.place) s.running) (map (λ (c : Cluster Extent). c.content.place) x.saved)
+    (map (λ (c : Change Extent). c.part.payload.place) x.changes))

@@ -1,44 +1,49 @@
 -- What the last unit of a package leaves of a sound node.
-use Rattle.node_core.proofs.Names.{Action, AllByRecursion, Areas, BeingProcessed, Bool, Bytes, Change, Cluster, Extent, Holding}
-use Rattle.node_core.proofs.Names.{Install, IsExtent, IsReservedWork, IsSound, IsUnit, IsUnitReady, List, Manifest, None, Option, Part}
-use Rattle.node_core.proofs.Names.{Prepared, Processed, Processing, Ready, Remove, SessionOf, Some, State, Status, StoredTransfer}
-use Rattle.node_core.proofs.Names.{Table, Transfer, Update, Within, all_differ, all_places, ap, append-nil, applies, arith, block_limit}
-use Rattle.node_core.proofs.Names.{bytes_eq, change_kept, change_meaning, change_place, change_to, cluster_at, cluster_limit}
-use Rattle.node_core.proofs.Names.{cluster_meaning, cluster_of, cluster_place, content_of, different_names, each-append, each-first}
-use Rattle.node_core.proofs.Names.{each-imp, each-map, each-unmap, extent_in, false, found-has, goes_to, has-append, has_cluster}
-use Rattle.node_core.proofs.Names.{has_name, if◌then◌else◌, is_in, is_of, le-ltb, length, length-append, length-map, length-take}
-use Rattle.node_core.proofs.Names.{lowest_free, lt-ltb, ltb-false, ltb-true, map, map-append, map-map, moved as moved_to, name-eq}
-use Rattle.node_core.proofs.Names.{names_fit_places, nat_lt, nat_tests, node_of, not, not-true, on_side, option_map_or, package_limit}
-use Rattle.node_core.proofs.Names.{package_reading, parts_in, phase_code, places_in, refl, running_at, session_meaning, slice_index_or}
-use Rattle.node_core.proofs.Names.{stored_of, stored_units, subst, suits, sym, table_of, take, take_all, takes_side, transfer_meaning}
-use Rattle.node_core.proofs.Names.{true, unit_end, units_of, unwrap_or, with_length, with_stored, with_table, within-left, within-right}
-use Rattle.node_core.proofs.Names.{within-self, [], ℕ, ◌*◌, ◌++◌, ◌+◌, ◌-◌, ◌<◌, ◌==◌, ◌^◌, ◌||◌, ◌∙◌, ◌∷◌, ◌≡◌, ◌≤◌}
-use Rattle.node_core.proofs.Lists.{all-each, each-all, any-found, each-second}
-use Rattle.node_core.proofs.Named.{differ-before, has-named, differ-few}
+use Rattle.node_core.proofs.Names.{AllByRecursion, BeingProcessed, Bool, Bytes, Change, Cluster, Extent, Holding, IsExtent, IsReservedWork, IsSound}
+use Rattle.node_core.proofs.Names.{IsUnit, IsUnitReady, List, None, Part, Prepared, Processed, Processing, Ready, SessionOf, Some, State, Status}
+use Rattle.node_core.proofs.Names.{StoredTransfer, Table, Transfer, Within, all_differ, all_units, ap, append-nil, append_assoc, applies, arith}
+use Rattle.node_core.proofs.Names.{change_meaning, change_place, changes_to, cluster_at, cluster_limit, cluster_meaning, cluster_of, cluster_place}
+use Rattle.node_core.proofs.Names.{different_names, each-append, each-both, each-first, each-imp, each-map, each-unmap, false, found-has, has-append}
+use Rattle.node_core.proofs.Names.{has_cluster, has_name, if◌then◌else◌, is_in, is_of, le-ltb, length, length-append, length-map, length-take, lt-ltb}
+use Rattle.node_core.proofs.Names.{ltb-false, map, map-append, map-map, moved as moved_to, name-swap, names_fit_places, nat_lt, nat_tests, node_of}
+use Rattle.node_core.proofs.Names.{package_limit, package_reading, parts_in, parts_place, phase_code, places_in, plan_kept, refl, session_meaning}
+use Rattle.node_core.proofs.Names.{slice_index_or, stored_of, stored_units, subst, suits, sym, table_of, taken_in, takes_side, transfer_meaning, true}
+use Rattle.node_core.proofs.Names.{with_length, with_stored, with_table, within-left, within-right, within-self, [], ℕ, ◌++◌, ◌+◌, ◌<◌, ◌==◌}
+use Rattle.node_core.proofs.Names.{◌||◌, ◌∙◌, ◌∷◌, ◌≡◌, ◌≤◌}
+use Rattle.std.proofs.lemmas.List.{map-id}
+use Rattle.pm_types.specs.Clusters.{changes_of}
+use Rattle.node_core.proofs.Lists.{all-each, each-all, each-second, every}
+use Rattle.node_core.proofs.Named.{differ-few, has-named, none-named}
 use Rattle.node_core.proofs.Phased.{phased-means, phased-placed, phased-slots}
 use Rattle.node_core.proofs.Sound.{table-is}
 use Rattle.node_core.proofs.Worked.{none-copied, ready-at, sound-at, unit-at}
-use Rattle.node_core.proofs.Free.{Pair, each-fits, free-place, fresh-fits, is_taken}
-use Rattle.node_core.proofs.Handled.{InHand, at_process, busy, bytes_of, end-last, in-hand, more-unit, part-ready, part_of, parts-found}
-use Rattle.node_core.proofs.Handled.{payload-fits, stored-one, unit-done}
+use Rattle.node_core.proofs.Free.{Pair}
+use Rattle.node_core.proofs.Handled.{InHand, at_process, busy, bytes-ready, bytes_of, changes-ready, extents, in-hand, more-unit, parts-found}
+use Rattle.node_core.proofs.Handled.{stored-same, unit-done}
 use Rattle.node_core.proofs.Natural.{has-means}
-use Rattle.node_core.proofs.Planned.{among-fit}
+use Rattle.node_core.proofs.Packages.{parts-read}
+use Rattle.node_core.proofs.Pieces.{all-lie, lie-short}
+use Rattle.node_core.proofs.Placing.{Match, all-fit, changes-side, extents-are-extents, extents-match, match-length, name_of, planned-payloads}
 
--- a payload goes to an area of a place
-goes-lies : (areas : Areas) (s : State) (m : Manifest) (a : Action) (n : ℕ)
-    → on_side areas (extent_in (goes_to s m a) n) ≡ take n (content_of (goes_to s m a) areas)
-goes-lies areas s m a n = grind arith
-
--- where a cluster lies that is found, or isn't
-abbrev lies : Option (Cluster Extent) → Extent
-lies found = option_map_or (λ c. c.content) found (record { place = 0; side = 0; length = 0 })
+-- of different names, none of the later ones is an earlier one, and these differ
+apart-names : (ns ms : List (List ℕ)) → all_differ (ns ++ ms) ≡ true → AllByRecursion (λ m. has_name ns m ≡ false) ms × (all_differ ms ≡ true)
+apart-names [] ms d = (every (λ m. refl) ms, d)
+apart-names (n ∷ ns) ms d =
+    let parts : (has_name (ns ++ ms) n ≡ false) × (all_differ (ns ++ ms) ≡ true) = grind (arith, d) in
+    let both : (has_name ns n || has_name ms n) ≡ false = sym (has-append ns ms n) ∙ parts.0 in
+    let other : has_name ms n ≡ false = grind (arith, both) in
+    let rest = apart-names ns ms parts.1 in
+    (each-both _ _ _ (λ m h k. grind (arith, name-swap n m, h, k)) ms (none-named (λ (m : List ℕ). m) ms n (subst (λ l. has_name l n ≡ false) (sym (map-id ms)) other)) rest.0, rest.1)
 
 module _ (v : Holding) (x : SessionOf Extent) (id : ℕ) (sound : IsSound (at_process v x id)) (h : InHand v x id) where
   abbrev pub state : State
   state = (at_process v x id).state
 
-  abbrev name : List ℕ
-  name = h.pack.manifest.name
+  abbrev pub brings : List (Part ℕ)
+  brings = map with_length h.parts
+
+  abbrev names : List (List ℕ)
+  names = map name_of brings
 
   abbrev changed : List (List ℕ)
   changed = map (λ (c : Change Extent). cluster_of c.part) x.changes
@@ -46,34 +51,38 @@ module _ (v : Holding) (x : SessionOf Extent) (id : ℕ) (sound : IsSound (at_pr
   abbrev plans : List (Part Bytes)
   plans = map (λ (c : Change Bytes). c.part) (map (change_meaning v.areas) x.changes)
 
+  abbrev pub planned : List (Change Extent)
+  planned = changes_to id brings (extents v x id v.prepared sound h)
+
+  pub matches : Match brings (extents v x id v.prepared sound h)
+  matches = extents-match v.state.running (taken_in state) brings
+
   -- the names that the session's parts have
   part-names : (changes : List (Change Extent))
-      → map cluster_of (map (λ (c : Change Bytes). c.part) (map (change_meaning v.areas) changes) ++ part_of h.pack ∷ [])
-      ≡ map (λ (c : Change Extent). cluster_of c.part) changes ++ name ∷ []
-  part-names [] = refl
+      → map cluster_of (map (λ (c : Change Bytes). c.part) (map (change_meaning v.areas) changes) ++ h.parts)
+      ≡ map (λ (c : Change Extent). cluster_of c.part) changes ++ names
+  part-names [] = sym (map-map name_of with_length h.parts)
   part-names (c ∷ cs) = ap (λ ns. cluster_of c.part ∷ ns) (part-names cs)
 
-  parts-are : parts_in (node_of (at_process v x id)) (session_meaning v.areas (busy x id)) ≡ plans ++ part_of h.pack ∷ []
+  parts-are : parts_in (node_of (at_process v x id)) (session_meaning v.areas (busy x id)) ≡ plans ++ h.parts
   parts-are = ap (λ ps. plans ++ ps) (parts-found v x id v.prepared sound h)
 
-  differ : all_differ (changed ++ name ∷ []) ≡ true
-  differ =
-      subst (λ ns. all_differ ns ≡ true) (part-names x.changes)
-      (subst (λ ps. all_differ (map cluster_of ps) ≡ true) parts-are sound.fit.consistent.applying.differ)
-
-  -- the part applies to what runs
-  pub there-is : suits h.pack.manifest.action (has_cluster x.saved name) ≡ true
-  there-is =
-      ap (suits h.pack.manifest.action) (sym (has-means v.areas x.saved name))
-      ∙ (each-second (λ part. applies part (map (cluster_meaning v.areas) x.saved) ≡ true) plans (part_of h.pack ∷ [])
-      (subst (AllByRecursion (λ part. applies part (map (cluster_meaning v.areas) x.saved) ≡ true)) parts-are sound.fit.consistent.applying.each)).0
+  -- no change is planned of theirs, and they differ
+  pub apart : AllByRecursion (λ n. has_name changed n ≡ false) names × (all_differ names ≡ true)
+  apart = apart-names changed names
+      (subst (λ ns. all_differ ns ≡ true) (part-names x.changes)
+      (subst (λ ps. all_differ (map cluster_of ps) ≡ true) parts-are sound.fit.consistent.applying.differ))
 
   pub runs : v.state.running ≡ x.saved
   runs = sound.order.running
 
-  -- no change is planned of its name
-  pub new-change : has_name changed name ≡ false
-  new-change = differ-before changed name [] differ
+  -- each applies to what runs
+  pub suiting : AllByRecursion (λ (part : Part ℕ). suits part.manifest.action (has_cluster v.state.running (cluster_of part)) ≡ true) brings
+  suiting =
+      each-map _ with_length h.parts (each-imp _ _ (λ part a.
+      ap (λ cs. suits part.manifest.action (has_cluster cs (cluster_of part))) runs ∙ ap (suits part.manifest.action) (sym (has-means v.areas x.saved (cluster_of part))) ∙ a) h.parts
+      (each-second (λ part. applies part (map (cluster_meaning v.areas) x.saved) ≡ true) plans h.parts
+      (subst (AllByRecursion (λ part. applies part (map (cluster_meaning v.areas) x.saved) ≡ true)) parts-are sound.fit.consistent.applying.each)))
 
   abbrev ran : List (List ℕ)
   ran = map (λ (c : Cluster Extent). c.name) v.state.running
@@ -82,7 +91,7 @@ module _ (v : Holding) (x : SessionOf Extent) (id : ℕ) (sound : IsSound (at_pr
   kept = map (λ (c : Cluster Extent). c.name) x.saved
 
   abbrev all : List (List ℕ)
-  all = (ran ++ kept) ++ (changed ++ name ∷ [])
+  all = (ran ++ kept) ++ (changed ++ names)
 
   few : length (different_names all) ≤ cluster_limit
   few =
@@ -95,24 +104,23 @@ module _ (v : Holding) (x : SessionOf Extent) (id : ℕ) (sound : IsSound (at_pr
       ++ (ap (map cluster_of) parts-are ∙ part-names x.changes) i)
       sound.fit.consistent.limits.names
 
-  -- all names of a list are among them, where they are among the changed ones and the part's, or among the others
-  among-changed : (ns : List (List ℕ)) → Within ns (changed ++ name ∷ []) → Within ns all
-  among-changed ns = within-right ns (ran ++ kept) (changed ++ name ∷ [])
+  among-changed : (ns : List (List ℕ)) → Within ns (changed ++ names) → Within ns all
+  among-changed ns = within-right ns (ran ++ kept) (changed ++ names)
 
   among-clusters : (ns : List (List ℕ)) → Within ns (ran ++ kept) → Within ns all
-  among-clusters ns = within-left ns (ran ++ kept) (changed ++ name ∷ [])
+  among-clusters ns = within-left ns (ran ++ kept) (changed ++ names)
 
-  -- so a change more has room
-  pub room : length x.changes < cluster_limit
+  -- so their changes have room
+  pub room : length x.changes + length brings ≤ cluster_limit
   room =
-      let n = differ-few (changed ++ name ∷ []) all differ (among-changed (changed ++ name ∷ []) (within-self (changed ++ name ∷ []))) in
-      omega (arith, n, few, length-append changed (name ∷ []), length-map x.changes (λ (c : Change Extent). cluster_of c.part))
+      let n = differ-few (changed ++ names) all
+      (subst (λ ns. all_differ ns ≡ true) (part-names x.changes)
+      (subst (λ ps. all_differ (map cluster_of ps) ≡ true) parts-are sound.fit.consistent.applying.differ))
+      (among-changed (changed ++ names) (within-self (changed ++ names))) in
+      omega (arith, n, few, length-append changed names, length-map x.changes (λ (c : Change Extent). cluster_of c.part), length-map brings name_of)
 
   abbrev pub pairs : List Pair
   pairs = places_in state
-
-  abbrev size : ℕ
-  size = length h.pack.payload
 
   pair-names : map (λ (a : Pair). a.0) pairs ≡ ran ++ (kept ++ changed)
   pair-names =
@@ -121,116 +129,44 @@ module _ (v : Holding) (x : SessionOf Extent) (id : ℕ) (sound : IsSound (at_pr
       ++ (map-append (λ (a : Pair). a.0) (map cluster_place x.saved) (map change_place x.changes)
       ∙ (λ j. map-map (λ (a : Pair). a.0) cluster_place x.saved j ++ map-map (λ (a : Pair). a.0) change_place x.changes j)) i)
 
-  has-there : (cs : List (Cluster Extent)) → has_cluster cs name ≡ false → has_name (map (λ (c : Cluster Extent). c.name) cs) name ≡ false
-  has-there cs other = has-named (λ (c : Cluster Extent). c.name) cs name ∙ other
-
-  -- a place is free where the name is new
-  pub free : has_cluster x.saved name ≡ false
-      → (is_taken pairs (lowest_free state) ≡ false) × (lowest_free state < cluster_limit) × (has_name (map (λ (a : Pair). a.0) pairs) name ≡ false)
-  free other =
-      let absent : has_name (ran ++ (kept ++ changed)) name ≡ false = has-append ran (kept ++ changed) name
-      ∙ (λ i. has-there v.state.running (ap (λ cs. has_cluster cs name) runs ∙ other) i
-      || (has-append kept changed name ∙ (λ j. has-there x.saved other j || new-change j)) i) in
-      let new : has_name (map (λ (a : Pair). a.0) pairs) name ≡ false = ap (λ ns. has_name ns name) pair-names ∙ absent in
-      let inside : Within (ran ++ (kept ++ changed)) all =
-      each-append _ ran (kept ++ changed) (among-clusters ran (within-left ran ran kept (within-self ran)))
+  inside : Within (map (λ (a : Pair). a.0) pairs) all
+  inside = subst (λ ns. Within ns all) (sym pair-names)
+      (each-append _ ran (kept ++ changed) (among-clusters ran (within-left ran ran kept (within-self ran)))
       (each-append _ kept changed (among-clusters kept (within-right kept ran kept (within-self kept)))
-      (among-changed changed (within-left changed changed (name ∷ []) (within-self changed)))) in
-      let own : has_name all name ≡ true = (among-changed (name ∷ []) (within-right (name ∷ []) changed (name ∷ []) (within-self (name ∷ [])))).0 in
-      let found = free-place pairs (each-fits pairs sound.order.places) name all new own (subst (λ ns. Within ns all) (sym pair-names) inside) few in
-      let here = found-has (λ p. not (is_taken pairs p)) (λ p. p < cluster_limit) all_places found.0
-      (each-imp _ _ (λ p k. ltb-true p cluster_limit k) all_places (all-each (λ p. nat_lt p cluster_limit) all_places refl)) found.1 in
-      let at : lowest_free state ≡ found.0 = ap (λ o. unwrap_or o 0) found.1 in (
-        ap (is_taken pairs) at ∙ not-true _ here.0,
-        subst (λ n. n < cluster_limit) (sym at) here.1,
-        new,
-      )
+      (among-changed changed (within-left changed changed names (within-self changed)))))
 
-  -- the change that is planned, by its action
-  abbrev pub change_at : Action → Change Extent
-  change_at a = change_to id (with_length (part_of h.pack)) (extent_in (goes_to state h.pack.manifest a) size)
-
-  -- what a search for a running cluster finds
-  pub ran-there : has_cluster x.saved name ≡ true → (c : Cluster Extent) × (cluster_at v.state.running name ≡ Some c)
-  ran-there there =
-      any-found (λ (c : Cluster Extent). bytes_eq c.name name) v.state.running (ap (λ (cs : List (Cluster Extent)). has_cluster cs name) runs ∙ there)
-
-  -- what holds of each place holds of what runs, of what was saved and of what is planned
-  pub each-place : (P : Pair → Type 0) → AllByRecursion P pairs → AllByRecursion (λ c. P (cluster_place c)) v.state.running
-      × AllByRecursion (λ c. P (cluster_place c)) x.saved × AllByRecursion (λ c. P (change_place c)) x.changes
-  each-place P each =
-      let run = map cluster_place v.state.running in
-      let saved = map cluster_place x.saved in
-      let plan = map change_place x.changes in
-      let rest = each-second P run (saved ++ plan) each in (
-        each-unmap P cluster_place v.state.running (each-first P run (saved ++ plan) each),
-        each-unmap P cluster_place x.saved (each-first P saved plan rest),
-        each-unmap P change_place x.changes (each-second P saved plan rest),
-      )
-
-  -- the places with the change's
-  abbrev later : Action → List Pair
-  later a = map cluster_place v.state.running ++ (map cluster_place x.saved ++ map change_place (x.changes ++ change_at a ∷ []))
-
-  later-among : (a : Action) (P : Pair → Type 0) → P (change_place (change_at a)) → AllByRecursion P pairs → AllByRecursion P (later a)
-  later-among a P own each =
-      let k = each-place P each in
-      each-append P (map cluster_place v.state.running) _ (each-map P cluster_place v.state.running k.0)
-      (each-append P (map cluster_place x.saved) _ (each-map P cluster_place x.saved k.1)
-      (each-map P change_place (x.changes ++ change_at a ∷ []) (each-append (λ c. P (change_place c)) x.changes _ k.2 (own, tt))))
-
-  -- a change of a running cluster has its place
-  own-place : (c : Cluster Extent) → cluster_at v.state.running name ≡ Some c
-      → (P : Pair → Type 0) → AllByRecursion P pairs → P (name, (running_at state name).place)
-  own-place c e P each =
-      let own = found-has (λ (d : Cluster Extent). bytes_eq d.name name) (λ d. P (cluster_place d)) v.state.running c (each-place P each).0 e in
-      subst P (λ i. (name-eq c.name name own.0 i, (lies (sym e i)).place)) own.1
-
-  pub later-fits : (a : Action) → suits a (has_cluster x.saved name) ≡ true → names_fit_places (later a) ≡ true
-  later-fits Install s =
-      let f = free (not-true _ s) in
-      among-fit (later Install) ((name, lowest_free state) ∷ pairs) (λ P each. later-among Install P each.0 each.1) (fresh-fits pairs name (lowest_free state) sound.order.places f.2 f.0)
-  later-fits Update s = let r = ran-there s in among-fit (later Update) pairs (λ P each. later-among Update P (own-place r.0 r.1 P each) each) sound.order.places
-  later-fits Remove s = let r = ran-there s in among-fit (later Remove) pairs (λ P each. later-among Remove P (own-place r.0 r.1 P each) each) sound.order.places
-
-  -- where a running cluster lies is an extent
-  run-extent : IsExtent (running_at state name)
-  run-extent = go (cluster_at v.state.running name) refl
+  -- a part's name is among them where its cluster runs
+  here : AllByRecursion (λ (part : Part ℕ). has_name (map (λ (a : Pair). a.0) pairs) (cluster_of part) ≡ has_cluster v.state.running (cluster_of part)) brings
+  here = each-imp _ _ one brings (each-unmap (λ n. has_name changed n ≡ false) name_of brings apart.0)
     where
-      go : (o : Option (Cluster Extent)) → cluster_at v.state.running name ≡ o → IsExtent (lies o)
-      go None e = (omega arith, omega arith, omega arith)
-      go (Some c) e =
-          (found-has (λ (d : Cluster Extent). bytes_eq d.name name) (λ d. IsExtent d.content) v.state.running c sound.order.clusters e).1
+      twice : (b : Bool) → (b || (b || false)) ≡ b
+      twice b = grind arith
 
-  pub change-extent : (a : Action) → suits a (has_cluster x.saved name) ≡ true → size ≤ package_limit → IsExtent (change_at a).part.payload
-  change-extent Install s short = ((free (not-true _ s)).1, omega arith, short)
-  change-extent Update s short = (run-extent.0, omega arith, short)
-  change-extent Remove s short = (run-extent.0, run-extent.1, short)
+      one : (part : Part ℕ) → has_name changed (cluster_of part) ≡ false
+          → has_name (map (λ (a : Pair). a.0) pairs) (cluster_of part) ≡ has_cluster v.state.running (cluster_of part)
+      one part new =
+          let name = cluster_of part in
+          let there = has-named (λ (c : Cluster Extent). c.name) v.state.running name in
+          let saved = has-named (λ (c : Cluster Extent). c.name) x.saved name ∙ ap (λ cs. has_cluster cs name) (sym runs) in
+          ap (λ ns. has_name ns name) pair-names
+          ∙ has-append ran (kept ++ changed) name ∙ ap (λ b. has_name ran name || b) (has-append kept changed name)
+          ∙ (λ i. there i || (saved i || new i)) ∙ twice (has_cluster v.state.running name)
 
-  -- and on its side
-  change-side : (a : Action) → takes_side a (change_at a).part.payload.side (cluster_at x.saved name) ≡ true
-  change-side Install = refl
-  change-side Update = subst (λ cs. takes_side Update (1 - (lies (cluster_at cs name)).side) (cluster_at x.saved name) ≡ true) (sym runs) (grind (arith, nat_tests))
-  change-side Remove = subst (λ cs. takes_side Remove (lies (cluster_at cs name)).side (cluster_at x.saved name) ≡ true) (sym runs) (grind (arith, nat_tests))
+  -- the places with the changes'
+  pub later-fits : names_fit_places (pairs ++ map change_place planned) ≡ true
+  later-fits = all-fit v.state.running all few id pairs brings sound.order.places
+      (λ P each. each-first P (map cluster_place v.state.running) _ each) here suiting apart.1 inside (among-changed names (within-right names changed names (within-self names)))
 
-  -- a payload is no longer than a package
-  pub short : size ≤ package_limit
+  -- payloads are no longer than a package
+  pub short : AllByRecursion (λ (part : Part ℕ). part.payload ≤ package_limit) brings
   short =
       let bounded = (found-has (λ t. is_of x.owner id t.header) _ v.state.transfers h.transfer (table-is (at_process v x id) sound).each h.is).1 in
-      let fits = payload-fits (bytes_of v.areas h.transfer) h.pack h.reads in
-      omega (arith, fits, bounded.received, bounded.size, length-take h.transfer.header.received (slice_index_or v.areas.slots h.transfer.slot []))
+      let came = length-take h.transfer.header.received (slice_index_or v.areas.slots h.transfer.slot []) in
+      each-map _ with_length h.parts (lie-short (bytes_of v.areas h.transfer) (parts_place (length h.parts)) h.parts
+      (omega (arith, bounded.received, bounded.size, came)) (parts-read (bytes_of v.areas h.transfer) h.parts h.reads).lie)
 
-  abbrev m : Manifest
-  m = h.pack.manifest
-
-  -- what the change brings is the payload
-  brings : IsUnitReady Processing (at_process v x id) (busy x id) → nat_lt (x.units_done + 1) (units_of size) ≡ false
-      → on_side v.areas (extent_in (goes_to state m m.action) size) ≡ h.pack.payload
-  brings ready last =
-      let enough = end-last x.units_done size (ltb-false _ _ last) in
-      let ends : unit_end x.units_done size ≡ size = omega (arith, enough) in
-      goes-lies v.areas state m m.action size ∙ ap (λ n. take n (content_of (goes_to state m m.action) v.areas)) (sym ends)
-      ∙ (part-ready v x id v.prepared sound h ready).bytes ∙ take_all ((x.units_done + 1) * block_limit) h.pack.payload enough
+  pub planned-extents : AllByRecursion IsExtent (extents v x id v.prepared sound h)
+  planned-extents = extents-are-extents v.state.running sound.order.clusters (taken_in state) brings short
 
   -- the node after the last unit
   abbrev pub processed_with : Prepared → Table → List (Change Extent) → Holding
@@ -240,9 +176,6 @@ module _ (v : Holding) (x : SessionOf Extent) (id : ℕ) (sound : IsSound (at_pr
 
   abbrev after : Table
   after = with_stored id (moved_to Processed) (table_of v.state)
-
-  abbrev changes_then : List (Change Extent)
-  changes_then = x.changes ++ change_at m.action ∷ []
 
   was-whole : (phase_code h.transfer.header.phase == 0) ≡ false
   was-whole = ap (λ ph. phase_code ph == 0) h.phase
@@ -260,10 +193,10 @@ module _ (v : Holding) (x : SessionOf Extent) (id : ℕ) (sound : IsSound (at_pr
 
   -- the last unit
   pub last-unit : (passed : Bool) (p : Prepared) → IsUnitReady Processing (at_process v x id) (busy x id)
-      → nat_lt (x.units_done + 1) (units_of size) ≡ false → IsUnit (at_process v x id) passed (processed_with p after changes_then)
+      → nat_lt (x.units_done + 1) (all_units h.parts) ≡ false → IsUnit (at_process v x id) passed (processed_with p after (x.changes ++ planned))
   last-unit passed p ready last = record {
     node = unit-done v x id v.prepared sound h passed false last
-        ∙ (λ i. Some (record (node_of (processed_with p after changes_then)) {
+        ∙ (λ i. Some (record (node_of (processed_with p after (x.changes ++ planned))) {
           transfers = sym (phased-means (at_process v x id) sound x.owner id h.transfer h.is Processed was-whole refl) i;
           session = Some (record (session_meaning v.areas x) { changes = sym changes-mean i; processing = None; units_done = x.units_done + 1 });
         }));
@@ -271,26 +204,32 @@ module _ (v : Holding) (x : SessionOf Extent) (id : ℕ) (sound : IsSound (at_pr
       clusters = sound.order.clusters;
       session = (
         sound.order.session.0,
-        each-append (λ c. IsExtent c.part.payload) x.changes (change_at m.action ∷ []) sound.order.session.1
-            (change-extent m.action there-is short, tt),
-        each-all _ changes_then (each-append _ x.changes (change_at m.action ∷ []) (all-each _ x.changes sound.order.session.2)
-            (change-side m.action, tt)),
+        each-append (λ c. IsExtent c.part.payload) x.changes planned sound.order.session.1
+            (each-unmap IsExtent (λ (c : Change Extent). c.part.payload) planned (subst (AllByRecursion IsExtent) (sym (planned-payloads id brings _ matches)) planned-extents)),
+        each-all _ (x.changes ++ planned) (each-append _ x.changes planned (all-each _ x.changes sound.order.session.2)
+            (subst (λ cs. AllByRecursion (λ (c : Change Extent). takes_side c.part.manifest.action c.part.payload.side (cluster_at cs (cluster_of c.part)) ≡ true) planned) runs
+            (changes-side v.state.running id (taken_in state) brings))),
       );
       transfers = phased-placed (at_process v x id) sound x.owner id h.transfer h.is Processed was-whole refl;
       slots = phased-slots (at_process v x id) sound x.owner id h.transfer h.is Processed was-whole refl;
-      places = later-fits m.action there-is;
+      places = subst (λ ps. names_fit_places ps ≡ true) places-are later-fits;
       running = sound.order.running;
     };
-    copied = none-copied v.areas (processed_with p after changes_then).state none-in-processing;
+    copied = none-copied v.areas (processed_with p after (x.changes ++ planned)).state none-in-processing;
     entries = refl;
   }
     where
-      changes-mean : map (change_meaning v.areas) changes_then
-          ≡ map (change_meaning v.areas) x.changes ++ record { transfer = id; part = part_of h.pack } ∷ []
+      places-are : pairs ++ map change_place planned ≡ map cluster_place v.state.running ++ (map cluster_place x.saved ++ map change_place (x.changes ++ planned))
+      places-are =
+          append_assoc (map cluster_place v.state.running) (map cluster_place x.saved ++ map change_place x.changes) (map change_place planned)
+          ∙ ap (λ ps. map cluster_place v.state.running ++ ps) (append_assoc (map cluster_place x.saved) (map change_place x.changes) (map change_place planned)
+          ∙ ap (λ ps. map cluster_place x.saved ++ ps) (sym (map-append change_place x.changes planned)))
+
+      changes-mean : map (change_meaning v.areas) (x.changes ++ planned) ≡ map (change_meaning v.areas) x.changes ++ changes_of id h.parts
       changes-mean =
-          map-append (change_meaning v.areas) x.changes (change_at m.action ∷ [])
-          ∙ ap (λ b. map (change_meaning v.areas) x.changes ++ record { transfer = id; part = record { manifest = m; payload = b } } ∷ [])
-          (brings ready last)
+          map-append (change_meaning v.areas) x.changes planned
+          ∙ ap (λ cs. map (change_meaning v.areas) x.changes ++ cs)
+          (all-lie v.areas id (x.units_done + 1) h.parts (extents v x id v.prepared sound h) matches (ltb-false _ _ last) (bytes-ready v x id v.prepared sound h ready))
 
 -- the same, told of a node by its parts
 module _ {v w : Holding} (e : v ≡ w) (x : SessionOf Extent) (id : ℕ) (is : x.processing ≡ Some id) (there : v.state.session ≡ Some x)
@@ -307,25 +246,16 @@ module _ {v w : Holding} (e : v ≡ w) (x : SessionOf Extent) (id : ℕ) (is : x
   pub not-lost : stored_of v.state.transfers x.owner id ≡ None → ⊥
   not-lost none = let z = sym none ∙ hand.is in let f : ⊥ = cc in f
 
-  pub next-fits : x.units_done + 1 < 2 ^ 32
-  next-fits = let left = hand.unfinished in let low = short v x id whole hand in omega (arith, left, low)
-
-  pub has-room : length x.changes < cluster_limit
-  has-room = room v x id whole hand
-
   -- the transfer that is looked up
   module _ (u : StoredTransfer) (found : stored_of v.state.transfers x.owner id ≡ Some u) where
     is-hand : hand.transfer ≡ u
     is-hand = let z = sym hand.is ∙ found in cc
 
-    pub some-part : u.contents ≡ [] → ⊥
-    some-part none =
-        let z = sym none ∙ ap (λ (t : StoredTransfer). t.contents) (sym is-hand) ∙ hand.contents in let f : ⊥ = cc in f
+    same-units : stored_units u.contents ≡ all_units hand.parts
+    same-units = ap (λ (t : StoredTransfer). stored_units t.contents) (sym is-hand) ∙ ap stored_units hand.contents ∙ stored-same hand.parts
 
-    same-units : stored_units u.contents ≡ units_of (length hand.pack.payload)
-    same-units =
-        ap (λ (t : StoredTransfer). stored_units t.contents) (sym is-hand) ∙ ap stored_units hand.contents
-        ∙ stored-one (with_length (part_of hand.pack))
+    pub next-fits : x.units_done < stored_units u.contents
+    next-fits = subst (λ n. x.units_done < n) (sym same-units) hand.unfinished
 
     -- what is ready for its unit
     module _ (ready : IsReservedWork w) where
@@ -340,30 +270,39 @@ module _ {v w : Holding} (e : v ≡ w) (x : SessionOf Extent) (id : ℕ) (is : x
             prepared = p;
           })
           (unit-at v w Processing (busy x id) e q at passed _ (more-unit v x id p whole hand passed ready-now
-          (lt-ltb (x.units_done + 1) (units_of (length hand.pack.payload)) (subst (λ n. x.units_done + 1 < n) same-units more))))
+          (lt-ltb (x.units_done + 1) (all_units hand.parts) (subst (λ n. x.units_done + 1 < n) same-units more))))
 
       -- the last unit
       module _ (last : stored_units u.contents ≤ x.units_done + 1) where
-        last-is : nat_lt (x.units_done + 1) (units_of (length hand.pack.payload)) ≡ false
-        last-is = le-ltb (x.units_done + 1) (units_of (length hand.pack.payload)) (subst (λ n. n ≤ x.units_done + 1) same-units last)
+        last-is : nat_lt (x.units_done + 1) (all_units hand.parts) ≡ false
+        last-is = le-ltb (x.units_done + 1) (all_units hand.parts) (subst (λ n. n ≤ x.units_done + 1) same-units last)
 
-        change-ready : change_kept v.prepared ≡ Some (change_at v x id whole hand hand.pack.manifest.action)
-        change-ready = (part-ready v x id v.prepared whole hand ready-now).change last-is
+        plan-ready : plan_kept v.prepared ≡ Some (planned v x id whole hand)
+        plan-ready = changes-ready v x id v.prepared whole hand ready-now last-is
 
-        pub some-change : change_kept v.prepared ≡ None → ⊥
-        some-change none = let z = sym none ∙ change-ready in let f : ⊥ = cc in f
+        pub some-plan : plan_kept v.prepared ≡ None → ⊥
+        some-plan none = let z = sym none ∙ plan-ready in let f : ⊥ = cc in f
 
-        pub last-done : (passed : Bool) (p : Prepared) (change : Change Extent) → change_kept v.prepared ≡ Some change
-            → (table : Table) → table ≡ with_stored id (moved_to Processed) (table_of v.state)
-            → (changes : List (Change Extent)) → changes ≡ x.changes ++ change ∷ []
-            → IsUnit w passed (record v {
-              state = record (with_table table v.state) {
-                status = Ready;
-                session = Some (record x { changes = changes; processing = None; units_done = x.units_done + 1 });
-              };
-              prepared = p;
-            })
-        last-done passed p change kept table tables changes longer =
-            let same : change_at v x id whole hand hand.pack.manifest.action ≡ change = let z = sym change-ready ∙ kept in cc in
-            subst (IsUnit w passed) (λ i. processed_with v x id whole hand p (sym tables i) ((ap (λ c. x.changes ++ c ∷ []) same ∙ sym longer) i))
-            (unit-at v w Processing (busy x id) e q at passed _ (last-unit v x id whole hand passed p ready-now last-is))
+        module _ (plan : List (Change Extent)) (kept : plan_kept v.prepared ≡ Some plan) where
+          same-plan : planned v x id whole hand ≡ plan
+          same-plan = let z = sym plan-ready ∙ kept in cc
+
+          pub has-room : length x.changes + length plan ≤ cluster_limit
+          has-room =
+              let some = room v x id whole hand in
+              let many = ap length (planned-payloads id (brings v x id whole hand) _ (matches v x id whole hand)) in
+              let as_many = match-length (brings v x id whole hand) _ (matches v x id whole hand) in
+              omega (arith, some, many, as_many, ap length same-plan, length-map (planned v x id whole hand) (λ (c : Change Extent). c.part.payload))
+
+          pub last-done : (passed : Bool) (p : Prepared) (table : Table) → table ≡ with_stored id (moved_to Processed) (table_of v.state)
+              → (changes : List (Change Extent)) → changes ≡ x.changes ++ plan
+              → IsUnit w passed (record v {
+                state = record (with_table table v.state) {
+                  status = Ready;
+                  session = Some (record x { changes = changes; processing = None; units_done = x.units_done + 1 });
+                };
+                prepared = p;
+              })
+          last-done passed p table tables changes longer =
+              subst (IsUnit w passed) (λ i. processed_with v x id whole hand p (sym tables i) ((ap (λ c. x.changes ++ c) same-plan ∙ sym longer) i))
+              (unit-at v w Processing (busy x id) e q at passed _ (last-unit v x id whole hand passed p ready-now last-is))

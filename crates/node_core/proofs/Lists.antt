@@ -1,5 +1,5 @@
 -- Facts of each member of a list, and lists in which one member is changed.
-use Rattle.node_core.proofs.Names.{AllByRecursion, Bool, List, Some, and_parts, arith, both_true, cond, false, filter, find}
+use Rattle.node_core.proofs.Names.{AllByRecursion, is_some, Bool, List, Some, and_parts, arith, both_true, cond, false, filter, find}
 use Rattle.node_core.proofs.Names.{if◌then◌else◌, list_all, list_any, map, neither, option_map, refl, true, [], ◌++◌, ◌||◌, ◌∷◌, ◌≡◌}
 
 pub every : {X : Type 0} {P : X → Type 0} → ((x : X) → P x) → (xs : List X) → AllByRecursion P xs
@@ -33,6 +33,11 @@ any-found {X} p (x ∷ xs) t = go (p x) t (any-found p xs)
         → (y : X) × (cond b (Some x) (find p xs) ≡ Some y)
     go true k rec = (x, refl)
     go false k rec = rec k
+
+-- something is found where some passes
+pub found-some : {X : Type 0} (p : X → Bool) (xs : List X) → is_some (find p xs) ≡ list_any p xs
+found-some p [] = refl
+found-some {X} p (x ∷ xs) = grind (arith, found-some p xs)
 
 -- the images under functions that agree on the members
 pub map-same : {X Y : Type 0} (f g : X → Y) (xs : List X) → AllByRecursion (λ x. f x ≡ g x) xs → map f xs ≡ map g xs

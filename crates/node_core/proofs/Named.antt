@@ -1,6 +1,6 @@
 -- Which names things have, and how many different ones there are.
-use Rattle.node_core.proofs.Names.{AllByRecursion, Change, Cluster, Extent, List, Within, added, all_differ, ap, arith, bytes_eq}
-use Rattle.node_core.proofs.Names.{changed_names, cluster_of, count_of, different_names, drop, each-imp, false, fewer-within, get_or}
+use Rattle.node_core.proofs.Names.{AllByRecursion, Change, Cluster, Extent, List, Part, Within, added, all_differ, ap, arith, bytes_eq}
+use Rattle.node_core.proofs.Names.{cluster_of, count_of, different_names, drop, each-imp, false, fewer-within, get_or}
 use Rattle.node_core.proofs.Names.{has-append, has_name, if◌then◌else◌, length, list_any, map, name-swap, refl, subst, sym, take}
 use Rattle.node_core.proofs.Names.{take_rest, true, [], ℕ, ◌++◌, ◌+◌, ◌-◌, ◌||◌, ◌∙◌, ◌∷◌, ◌≡◌, ◌≤◌}
 use Rattle.node_core.proofs.Lists.{none-any}
@@ -42,22 +42,34 @@ pub one-named : (ns : List (List ℕ)) (n : List ℕ)
 one-named ns n = grind arith
 
 -- a cluster more
-pub cluster-more : (c : Cluster Extent) (cs : List (Cluster Extent)) (changes : List (Change Extent))
-    → count_of (c ∷ cs) changes ≡ added cs changes c.name + count_of cs changes
-cluster-more c cs changes =
+pub cluster-more : (c : Cluster Extent) (cs : List (Cluster Extent)) (changes : List (Change Extent)) (parts : List (Part ℕ))
+    → count_of (c ∷ cs) changes parts ≡ added cs changes parts c.name + count_of cs changes parts
+cluster-more c cs changes parts =
     let names = map (λ (d : Cluster Extent). d.name) cs in
+    let plans = map (λ (d : Change Extent). cluster_of d.part) changes in
+    let brings = map (λ (p : Part ℕ). cluster_of p) parts in
     let own = has-named (λ (d : Cluster Extent). d.name) cs c.name in
     let planned = has-named (λ (d : Change Extent). cluster_of d.part) changes c.name in
-    grind (arith, one-named (names ++ changed_names changes) c.name, has-append names (changed_names changes) c.name, own, planned)
+    let brought = has-named (λ (p : Part ℕ). cluster_of p) parts c.name in
+    grind (arith, one-named (names ++ plans ++ brings) c.name, has-append (names ++ plans) brings c.name, has-append names plans c.name, own, planned, brought)
 
 -- a change more
-pub change-more : (change : Change Extent) (changes : List (Change Extent))
-    → count_of [] (change ∷ changes) ≡ added [] changes (cluster_of change.part) + count_of [] changes
-change-more change changes =
-    grind (arith, one-named (changed_names changes), has-named (λ (c : Change Extent). cluster_of c.part) changes (cluster_of change.part))
+pub change-more : (change : Change Extent) (changes : List (Change Extent)) (parts : List (Part ℕ))
+    → count_of [] (change ∷ changes) parts ≡ added [] changes parts (cluster_of change.part) + count_of [] changes parts
+change-more change changes parts =
+    let name = cluster_of change.part in
+    let plans = map (λ (d : Change Extent). cluster_of d.part) changes in
+    let brings = map (λ (p : Part ℕ). cluster_of p) parts in
+    let planned = has-named (λ (d : Change Extent). cluster_of d.part) changes name in
+    let brought = has-named (λ (p : Part ℕ). cluster_of p) parts name in
+    grind (arith, one-named (plans ++ brings) name, has-append plans brings name, planned, brought)
 
-pub one-at-most : (clusters : List (Cluster Extent)) (changes : List (Change Extent)) (name : List ℕ) → added clusters changes name ≤ 1
-one-at-most clusters changes name = grind arith
+-- a part more
+pub part-more : (part : Part ℕ) (parts : List (Part ℕ)) → count_of [] [] (part ∷ parts) ≡ added [] [] parts (cluster_of part) + count_of [] [] parts
+part-more part parts = grind (arith, one-named (map (λ (p : Part ℕ). cluster_of p) parts) (cluster_of part), has-named (λ (p : Part ℕ). cluster_of p) parts (cluster_of part))
+
+pub one-at-most : (clusters : List (Cluster Extent)) (changes : List (Change Extent)) (parts : List (Part ℕ)) (name : List ℕ) → added clusters changes parts name ≤ 1
+one-at-most clusters changes parts name = grind arith
 
 -- a list without its first
 abbrev pub rest_of : {X : Type 0} → List X → List X

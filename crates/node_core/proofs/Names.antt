@@ -5,19 +5,20 @@ pub use Rattle.history_query.proofs.Answered.{changes-answered, clusters-answere
 pub use Rattle.history_query.proofs.Valid.{each-unfinished}
 pub use Rattle.history_query.specs.Shown.{EachIsUnfinished, changes_planned, progress_answer, progress_at, shown_change, shown_cluster}
 pub use Rattle.history_query.specs.Shown.{shown_transfer}
-pub use Rattle.manifest.specs.Form.{manifest_of}
 pub use Rattle.node_core.specs.Core.{Holding, IsBehind, IsJudged, IsKept, IsReady, IsSound, holding, mark_of, node_of, refusal_by, reply_by}
 pub use Rattle.node_core.specs.Core.{step_by, table_of, verdict_on, with_table}
 pub use Rattle.node_core.specs.Format.{AreInstalled, in_order, named_before, placed, placed_from}
 pub use Rattle.node_core.specs.Packages.{package_reading, verdict_of}
-pub use Rattle.node_core.specs.Places.{IsCopied, IsCopiedIn, IsPartCopied, all_places, goes_to, lowest_free, running_at, units_done}
+pub use Rattle.node_core.specs.Places.{AreCopied, IsCopied, IsCopiedIn, extent_of, extents_in, extents_of, goes_to, running_at}
+pub use Rattle.node_core.specs.Places.{taken_in, units_done}
 pub use Rattle.node_core.specs.Prepared.{IsVerdict, IsVerdictKept, session_kept, unmet_kept, verdict_in, verdict_kept, with_length}
-pub use Rattle.node_core.specs.Sessions.{OnlyLeads, added, arrived, begun, changed_names, changes_kept, cleaning_up, contents_of, count_of}
+pub use Rattle.node_core.specs.Sessions.{OnlyLeads, added, arrived, begun, changes_kept, cleaning_up, contents_of, count_of}
 pub use Rattle.node_core.specs.Sessions.{missing_dependencies, needing_of, opened, package_refusals, paused, phased, stopped, taken_up}
-pub use Rattle.node_core.specs.Units.{IsNextUnit, IsPackageReady, IsPartReady, IsReservedWork, IsUnit, IsUnitOf, IsUnitReady, after_work}
-pub use Rattle.node_core.specs.Units.{answer_to, change_due, change_kept, change_next, change_to, clusters_kept, extent_in, extent_next}
-pub use Rattle.node_core.specs.Units.{payload_start, picks, session_takes, unit_end}
+pub use Rattle.node_core.specs.Units.{IsNextUnit, IsPackageReady, IsReservedWork, IsUnit, IsUnitOf, IsUnitReady, LieWithin, after_work}
+pub use Rattle.node_core.specs.Units.{answer_to, changes_due, changes_to, clusters_kept, picks, piece_of, plan_kept}
+pub use Rattle.node_core.specs.Units.{side_of}
 pub use Rattle.node_core.specs.declared.copying.NextUnit.{NextUnit}
+pub use Rattle.node_core.specs.declared.copying.Piece.{Piece}
 pub use Rattle.node_core.specs.declared.prepared.Prepared.{Prepared}
 pub use Rattle.node_laws.proofs.Kept.{keeps-fit}
 pub use Rattle.node_laws.proofs.Lists.{both-none, each-append, each-both, each-filter, each-first, each-imp, each-map, each-unmap}
@@ -28,10 +29,9 @@ pub use Rattle.node_laws.proofs.NameLists.{names-behind, names-tail, names_of, p
 pub use Rattle.node_laws.proofs.NameLists.{within-trans}
 pub use Rattle.node_laws.proofs.Sessions.{free-of}
 pub use Rattle.node_laws.specs.Fit.{IsFit, IsRead, IsReading}
-pub use Rattle.package_reader.specs.Fields.{number_at, payload_in, payload_place, text_in}
-pub use Rattle.package_reader.specs.Reading.{content_faults, field_faults, first_fault, is_payload_of, unless}
+pub use Rattle.package_reader.specs.Fields.{number_at}
+pub use Rattle.package_reader.specs.Lies.{PartsLie, parts_place, payload_at}
 pub use Rattle.package_reader.specs.declared.fault.PackageError.{PackageError}
-pub use Rattle.package_reader.specs.declared.package.Package.{Package}
 pub use Rattle.pm_types.specs.Clusters.{all_units, brought, changed_as, changed_by, cluster_at, cluster_of, has_cluster, planned, stored_units, units_of}
 pub use Rattle.pm_types.specs.Clusters.{unmet_among, with_cluster}
 pub use Rattle.pm_types.specs.Histories.{Reading, formatted, unit_passes}
@@ -40,7 +40,7 @@ pub use Rattle.pm_types.specs.Queries.{answer}
 pub use Rattle.pm_types.specs.Refusals.{first_refusal}
 pub use Rattle.pm_types.specs.Sessions.{CleanUp, Goal, Resume, To, activate_refusal, applies, arrive, begin_processing, cancel_refusals}
 pub use Rattle.pm_types.specs.Sessions.{changes_in, is_install, is_update, is_wrong_tag, led_by, new_session, part_refusals, parts_refusal}
-pub use Rattle.pm_types.specs.Sessions.{process_refusal, session_refusals, status_table, stop_processing, suits}
+pub use Rattle.pm_types.specs.Sessions.{names_among, process_refusal, session_refusals, status_table, stop_processing, suits}
 pub use Rattle.pm_types.specs.Steps.{acceptance, accepted, after_call, after_reply, refused_or, repeat_of, reply_to, step, synced}
 pub use Rattle.pm_types.specs.Stored.{Areas, IsExtent, IsInOrder, IsPlaced, State, change_meaning, change_place, cluster_meaning}
 pub use Rattle.pm_types.specs.Stored.{cluster_place, fresh_state, meaning, names_fit_places, on_side, places_in, session_meaning}
@@ -55,7 +55,7 @@ pub use Rattle.pm_types.specs.declared.calls.Call.TheVariants.{TransferExit, Tra
 pub use Rattle.pm_types.specs.declared.clusters.Change.{Change}
 pub use Rattle.pm_types.specs.declared.clusters.Cluster.{Cluster}
 pub use Rattle.pm_types.specs.declared.clusters.Extent.{Extent}
-pub use Rattle.pm_types.specs.declared.clusters.Part.{Part}
+pub use Rattle.ucm_base.specs.declared.parts.Part.{Part}
 pub use Rattle.pm_types.specs.declared.queries.Answer.{Answer}
 pub use Rattle.pm_types.specs.declared.queries.ChangeInfo.{ChangeInfo}
 pub use Rattle.pm_types.specs.declared.queries.ClusterInfo.{ClusterInfo}
@@ -112,12 +112,12 @@ pub use Rattle.transfer_blocks.proofs.Meanings.{filter-means, header-means, ids-
 pub use Rattle.transfer_blocks.proofs.Slots.{scan-here, scan-next}
 pub use Rattle.transfer_blocks.specs.Areas.{AreasFit, IsArea, LeavesOutside, content_of, overwritten, with_content}
 pub use Rattle.transfer_blocks.specs.Table.{IsBounded, IsTable, Table, bad_refusal, cleaned, found_of, good_parts, moved, received}
-pub use Rattle.transfer_blocks.specs.Table.{slots_of, stored_header, stored_ids, stored_of, unless_refused, whole, with_fresh, with_stored}
+pub use Rattle.transfer_blocks.specs.Table.{is_free, lowest_free, slots_of, stored_header, stored_ids, stored_of, unless_refused, whole, with_fresh, with_stored}
 pub use Rattle.transfer_blocks.specs.Table.{without}
 pub use Rattle.transfer_blocks.specs.declared.area.Area.{Area}
 pub use Rattle.transfer_blocks.specs.declared.area.Area.TheVariants.{Side}
 pub use Rattle.transfer_blocks.specs.declared.found.Found.{Found}
-pub use Rattle.ucm_base.specs.Limits.{block_limit, client_limit, cluster_limit, package_limit, transfer_limit}
+pub use Rattle.ucm_base.specs.Limits.{block_limit, client_limit, cluster_limit, package_limit, part_limit, transfer_limit}
 pub use Rattle.ucm_base.specs.Names.{all_differ, different_names, has_name, name_lt, names_rise}
 pub use Rattle.ucm_base.specs.Needs.{missing}
 pub use Rattle.ucm_base.specs.Parts.{Bytes}

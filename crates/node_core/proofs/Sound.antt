@@ -1,25 +1,34 @@
 -- A sound node has a table, and each step leaves it sound.
 use Rattle.node_core.proofs.Names.{Bytes, Call, CallNo, Holding, IsBounded, IsFit, IsReading, IsSound, IsTable, IsTrue, List, NodeState}
-use Rattle.node_core.proofs.Names.{None, Ok, Option, Package, PackageError, Part, Reply, Result, SessionMark, Transfer, Verdict}
+use Rattle.node_core.proofs.Names.{None, Ok, Option, PackageError, Part, Reply, Result, SessionMark, Transfer, Verdict}
 use Rattle.node_core.proofs.Names.{after_call, all_differ, ap, arith, both_true, client_limit, cluster_of, each-both, each-imp}
 use Rattle.node_core.proofs.Names.{each-unmap, ids-mean, ids_of, keeps-fit, length, length-map, map, mark_of, nat_tests, node_of, not}
 use Rattle.node_core.proofs.Names.{numbers_rise, of_client, option_map, package_limit, package_reading, refl, repeat_of, reply_by}
 use Rattle.node_core.proofs.Names.{reply_to, rise-above, rise-tail, slice_index_or, slots_differ, step, step_by, stored_ids, subst, sym}
 use Rattle.node_core.proofs.Names.{synced, table_of, transfer_limit, transfer_meaning, true, verdict_of, verdict_on, [], ℕ, ◌<◌, ◌==◌}
 use Rattle.node_core.proofs.Names.{◌∙◌, ◌∷◌, ◌≡◌, ◌≤◌}
-use Rattle.package_reader.specs.Reading.{reading}
+use Rattle.package_reader.specs.Reading.{are_parts, reading}
+use Rattle.package_reader.proofs.Readings.{reading_are_parts}
+use Rattle.std.proofs.lemmas.Bool.{leb-true}
+use Rattle.node_core.proofs.Names.{Err, and_parts}
 use Rattle.pm_types.specs.declared.replies.Reached.TheVariants.{Done as Answered}
 use Rattle.pm_types.specs.Validity.{IsSound as IsSoundTransfer}
 use Rattle.node_core.proofs.Lists.{each-all}
 use Rattle.node_core.proofs.Stored.{rise, ids}
 
--- a package has one part
+-- a package has at least one part, and its parts are of different clusters
 pub reading-is : IsReading package_reading
-reading-is = record { parts_of = λ bytes parts e. of (reading bytes) parts e }
+reading-is = record { parts_of = λ bytes parts e. of (reading bytes) parts e (λ ps q. reading_are_parts bytes ps q) }
   where
-    of : (r : Result Package PackageError) (parts : List (Part Bytes)) → verdict_of r ≡ Ok parts
-        → (0 < length parts) × IsTrue (all_differ (map cluster_of parts))
-    of r parts e = grind arith
+    of : (r : Result (List (Part Bytes)) PackageError) (parts : List (Part Bytes)) → verdict_of r ≡ Ok parts
+        → ((ps : List (Part Bytes)) → r ≡ Ok ps → are_parts ps ≡ true) → (0 < length parts) × IsTrue (all_differ (map cluster_of parts))
+    of (Ok ps) parts e are = let a = are ps refl in let same : ps ≡ parts = cc e in subst (λ qs. (0 < length qs) × (all_differ (map cluster_of qs) ≡ true)) same (parts-of ps a)
+      where
+        parts-of : (ps : List (Part Bytes)) → are_parts ps ≡ true → (0 < length ps) × (all_differ (map cluster_of ps) ≡ true)
+        parts-of ps a =
+            let both = and_parts _ _ a in
+            (let some = leb-true 1 (length ps) (and_parts _ _ both.0).0 in omega (arith, some), both.1)
+    of (Err f) parts e are = absurd (cc)
 
 -- rising numbers differ
 pub rising-differ : (ns : List ℕ) → numbers_rise ns ≡ true → slots_differ ns ≡ true

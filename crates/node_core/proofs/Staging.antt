@@ -1,18 +1,20 @@
 -- What a put behind a transfer's bytes leaves of a node.
-use Rattle.node_core.proofs.Names.{Action, AllByRecursion, Areas, AreasFit, Bytes, ExitVerdict, Found, Holding, IsBehind, IsCopiedIn}
-use Rattle.node_core.proofs.Names.{IsKept, IsPartCopied, IsReady, IsSound, IsVerdict, LeavesOutside, List, Manifest, None, Prepared}
+use Rattle.node_core.proofs.Names.{AllByRecursion, Areas, AreasFit, Bytes, ExitVerdict, Found, Holding, IsBehind, IsCopiedIn}
+use Rattle.node_core.proofs.Names.{IsKept, IsReady, IsSound, IsVerdict, LeavesOutside, List, None, Prepared}
 use Rattle.node_core.proofs.Names.{Some, StoredTransfer, Transfer as NodeTransfer, TransferData, TransferExit, and_parts, ap, arith}
-use Rattle.node_core.proofs.Names.{block_limit, content-here, content_of, each-both, each-imp, each-unmap, eq-eqb, eqb-false}
-use Rattle.node_core.proofs.Names.{exit_refusals, find, first_refusal, found-has, found_of, front_slice, goes_to, header-means, is_of}
+use Rattle.node_core.proofs.Names.{content-here, content_of, each-both, each-imp, each-unmap, eq-eqb, eqb-false}
+use Rattle.node_core.proofs.Names.{exit_refusals, find, first_refusal, found-has, found_of, front_slice, header-means, is_of}
 use Rattle.node_core.proofs.Names.{length, length-take, map, node_of, not, not-true, option_map, option_map_or, overwritten}
 use Rattle.node_core.proofs.Names.{package_limit, package_reading, put-leaves, refl, slice-overwritten, slice_range, slots_differ}
 use Rattle.node_core.proofs.Names.{slots_of, stored_of, subst, sym, take, transfer-stands, transfer_limit, transfer_meaning, true}
-use Rattle.node_core.proofs.Names.{units_done, with_content, zero-add, [], ℕ, ◌*◌, ◌+◌, ◌<◌, ◌==◌, ◌∙◌, ◌∷◌, ◌≡◌, ◌≢◌, ◌≤◌, ◌⊎◌}
+use Rattle.node_core.proofs.Names.{units_done, with_content, zero-add, [], ℕ, ◌+◌, ◌<◌, ◌==◌, ◌∙◌, ◌∷◌, ◌≡◌, ◌≢◌, ◌≤◌, ◌⊎◌}
 use Rattle.pm_types.specs.Validity.{IsSound as IsSoundTransfer}
 use Rattle.transfer_blocks.specs.declared.area.Area.TheVariants.{Transfer}
 use Rattle.node_core.specs.declared.prepared.Prepared.TheVariants.{Verdict as Judged}
 use Rattle.node_core.proofs.Stored.{found-fact, read-order, copied-when, found-means, only-has, rise}
-use Rattle.node_core.proofs.Lists.{all-each, map-same}
+use Rattle.node_core.proofs.Lists.{all-each, every, map-same}
+use Rattle.node_core.proofs.Pieces.{same-copied}
+use Rattle.node_core.proofs.Names.{AreCopied, extents_in}
 use Rattle.node_core.proofs.Judged.{block_refusal, exit_refusal, data-same}
 use Rattle.node_core.proofs.Sound.{table-is}
 
@@ -26,11 +28,6 @@ apart client id (t ∷ ts) u d e =
     let differ = each-imp _ (λ n. n ≢ t.slot) (λ n k. eqb-false n t.slot (not-true _ k)) (slots_of ts) free in
     let rest = each-unmap (λ n. n ≢ t.slot) (λ (v : StoredTransfer). v.slot) ts differ in
     grind (arith, apart client id ts u parts.1, rest, found-has (λ v. is_of client id v.header) (λ v. v.slot ≢ t.slot) ts u rest, each-imp)
-
--- areas with other slots hold the same on every side
-side-stands : (v : Holding) (slots : List Bytes) (m : Manifest) (a : Action)
-    → content_of (goes_to v.state m a) (record v.areas { slots = slots }) ≡ content_of (goes_to v.state m a) v.areas
-side-stands v slots m a = grind arith
 
 -- where they hold the same of each transfer the node is kept
 same-kept : (v : Holding) (slots : List Bytes) (faults : ℕ) (p : Prepared) → IsSound v → v.faults ≤ faults
@@ -51,8 +48,8 @@ same-kept v slots faults p sound more each = record {
     copied : (t : StoredTransfer) → transfer_meaning package_reading areas t ≡ transfer_meaning package_reading v.areas t
         → IsCopiedIn package_reading v.areas v.state t t.header.phase → IsCopiedIn package_reading areas v.state t t.header.phase
     copied t same c = copied-when areas v.state t t.header.phase (λ e.
-        subst (λ (m : NodeTransfer). AllByRecursion (IsPartCopied areas v.state) m.parts) (sym same)
-        (each-imp _ _ (λ part k. ap (take (units_done v.state * block_limit)) (side-stands v slots part.manifest part.manifest.action) ∙ k) _
+        subst (λ (m : NodeTransfer). AreCopied areas (units_done v.state) m.parts (extents_in v.state t)) (sym same)
+        (same-copied v.areas areas (units_done v.state) _ (extents_in v.state t) (every (λ extent. refl) (extents_in v.state t))
         (subst (IsCopiedIn package_reading v.areas v.state t) e c)))
 
 module _ (v : Holding) (sound : IsSound v) (client id : ℕ) (u : StoredTransfer) (e : stored_of v.state.transfers client id ≡ Some u) where

@@ -1,5 +1,5 @@
 -- What stored transfers mean, and what a change of one of them changes of that.
-use Rattle.node_core.proofs.Names.{AllByRecursion, Areas, BeingProcessed, Found, Holding, IsCopiedIn, IsInOrder, IsPartCopied, IsSound}
+use Rattle.node_core.proofs.Names.{AllByRecursion, Areas, BeingProcessed, Found, Holding, AreCopied, IsCopiedIn, IsInOrder, IsSound, extents_in, units_done}
 use Rattle.node_core.proofs.Names.{List, Option, Phase, Reading, Some, State, StoredTransfer, Transfer, ap, arith, each-both, each-imp}
 use Rattle.node_core.proofs.Names.{each-unmap, false, find, found-has, found_of, if◌then◌else◌, is_none, is_of, map, map-map}
 use Rattle.node_core.proofs.Names.{numbers_rise, option_map, package_reading, rise-above, rise-tail, slice_range, stored_header}
@@ -71,7 +71,7 @@ found-fact P areas client id ts u each e =
 
 -- only of a transfer in processing need anything be copied
 pub copied-when : (areas : Areas) (s : State) (t : StoredTransfer) (phase : Phase)
-    → (phase ≡ BeingProcessed → AllByRecursion (IsPartCopied areas s) (transfer_meaning package_reading areas t).parts)
+    → (phase ≡ BeingProcessed → AreCopied areas (units_done s) (transfer_meaning package_reading areas t).parts (extents_in s t))
     → IsCopiedIn package_reading areas s t phase
 copied-when areas s t phase each = grind arith
 

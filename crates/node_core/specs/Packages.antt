@@ -1,12 +1,13 @@
 -- How a node reads the bytes of a transfer.
-use Rattle.std.specs.Prelude.{[], ◌∷◌, Result, Ok, Err}
+use Rattle.std.specs.Prelude.{List, Result, Ok, Err}
+use Rattle.ucm_base.specs.Parts.{Bytes}
+use Rattle.ucm_base.specs.declared.parts.Part.{Part}
 use Rattle.pm_types.specs.declared.replies.Refusal.{Refusal}
 use Rattle.pm_types.specs.declared.replies.Refusal.TheVariants.{PackageInconsistent, InvalidManifest}
 use Rattle.pm_types.specs.Histories.{Reading}
 use Rattle.pm_types.specs.Transfers.{Verdict}
 use Rattle.package_reader.specs.declared.fault.PackageError.{PackageError}
 use Rattle.package_reader.specs.declared.fault.PackageError.TheVariants.{PackageInconsistent as Inconsistent, InvalidManifest as NoManifest, OutOfMemory}
-use Rattle.package_reader.specs.declared.package.Package.{Package}
 use Rattle.package_reader.specs.Reading.{reading}
 
 -- what the node answers where the bytes are no package
@@ -15,9 +16,8 @@ refusal_of (Inconsistent place) = PackageInconsistent place
 refusal_of NoManifest = InvalidManifest
 refusal_of OutOfMemory = InvalidManifest
 
--- a package has one part
-abbrev pub verdict_of : Result Package PackageError → Verdict
-verdict_of (Ok p) = Ok (record { manifest = p.manifest; payload = p.payload } ∷ [])
+abbrev pub verdict_of : Result (List (Part Bytes)) PackageError → Verdict
+verdict_of (Ok parts) = Ok parts
 verdict_of (Err fault) = Err (refusal_of fault)
 
 -- bytes are read by the grammar of software packages

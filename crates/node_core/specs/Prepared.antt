@@ -1,8 +1,9 @@
 -- What is made ready before a call or a unit.
-use Rattle.std.specs.Prelude.{◌≡◌, ℕ, [], ◌∷◌, length, map, unwrap_or, Option, Some, None, IsSomeAnd, Ok, Err}
+use Rattle.std.specs.Prelude.{◌≡◌, ℕ, length, map, unwrap_or, Option, Some, None, IsSomeAnd, Ok, Err}
+use Rattle.package_reader.specs.declared.span.Span.{Span}
 use Rattle.ucm_base.specs.Parts.{Bytes}
 use Rattle.pm_types.specs.declared.clusters.Extent.{Extent}
-use Rattle.pm_types.specs.declared.clusters.Part.{Part}
+use Rattle.ucm_base.specs.declared.parts.Part.{Part}
 use Rattle.pm_types.specs.declared.replies.Refusal.{Refusal}
 use Rattle.pm_types.specs.declared.replies.Refusal.TheVariants.{InvalidManifest}
 use Rattle.pm_types.specs.declared.transfers.ExitVerdict.{ExitVerdict}
@@ -35,9 +36,13 @@ unmet_kept _ = None
 abbrev pub with_length : Part Bytes → Part ℕ
 with_length part = record { manifest = part.manifest; payload = length part.payload }
 
+-- a part that was read, with its payload's length alone
+abbrev pub stored_part : Part Span → Part ℕ
+stored_part part = record { manifest = part.manifest; payload = part.payload.len }
+
 -- a verdict that leaves the payload out is that of the bytes
 abbrev pub IsVerdict : ExitVerdict → Verdict → Type 0
-IsVerdict (Good contents) (Ok parts) = map with_length parts ≡ contents ∷ []
+IsVerdict (Good contents) (Ok parts) = contents ≡ map with_length parts
 IsVerdict (Bad refusal) (Err why) = refusal ≡ why
 IsVerdict _ _ = ⊥
 

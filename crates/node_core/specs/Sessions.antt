@@ -1,5 +1,6 @@
 -- A stored node's session, and what a call makes of it.
-use Rattle.std.specs.Prelude.{⊤, ℕ, Bool, ◌==◌, ◌||◌, not, if◌then◌else◌, [], ◌∷◌, ◌++◌, List, length, map, is_none, option_map, Option, Some, None}
+use Rattle.pm_types.specs.Sessions.{names_among}
+use Rattle.std.specs.Prelude.{⊤, ℕ, Bool, ◌==◌, ◌||◌, not, if◌then◌else◌, [], ◌∷◌, List, length, map, is_none, option_map, Option, Some, None}
 use Rattle.std.specs.Option.{option_map_or}
 use Rattle.pm_types.specs.declared.calls.Call.{Call}
 use Rattle.pm_types.specs.declared.calls.Call.TheVariants.{Finish, Rollback, RevertProcessedSwPackages}
@@ -12,7 +13,7 @@ use Rattle.pm_types.specs.declared.status.Phase.{Phase}
 use Rattle.pm_types.specs.declared.status.Phase.TheVariants.{Transferred, Processing}
 use Rattle.pm_types.specs.declared.status.Status.TheVariants.{Ready, CleaningUp}
 use Rattle.pm_types.specs.declared.clusters.Cluster.{Cluster}
-use Rattle.pm_types.specs.declared.clusters.Part.{Part}
+use Rattle.ucm_base.specs.declared.parts.Part.{Part}
 use Rattle.pm_types.specs.declared.replies.Refusal.{Refusal}
 use Rattle.pm_types.specs.declared.replies.Refusal.TheVariants.{InvalidTransferId, MissingDependencies, OperationNotPermitted}
 use Rattle.pm_types.specs.declared.transfers.Header.{Header}
@@ -20,7 +21,6 @@ use Rattle.pm_types.specs.Clusters.{cluster_of, has_cluster}
 use Rattle.std.specs.List.{list_any}
 use Rattle.std.specs.Str.{bytes_eq}
 use Rattle.pm_types.specs.NodeState.{SessionOf, is_in, some_passes}
-use Rattle.ucm_base.specs.Names.{different_names}
 use Rattle.ucm_base.specs.Needs.{Needing, Unmet}
 use Rattle.pm_types.specs.Sessions.{Goal, To, CleanUp, Resume}
 use Rattle.pm_types.specs.Stored.{State}
@@ -85,20 +85,22 @@ package_refusals session client tag found =
 abbrev pub contents_of : Option StoredTransfer → List (Part ℕ)
 contents_of found = option_map_or (λ t. t.contents) found []
 
--- the names that changes bring, and how many different ones there are with those of clusters
-abbrev pub changed_names : List (Change Extent) → List (List ℕ)
-changed_names changes = map (λ change. cluster_of change.part) changes
-
-abbrev pub count_of : List (Cluster Extent) → List (Change Extent) → ℕ
-count_of clusters changes = length (different_names (map (λ c. c.name) clusters ++ changed_names changes))
+-- how many different names clusters, changes and parts have
+abbrev pub count_of : List (Cluster Extent) → List (Change Extent) → List (Part ℕ) → ℕ
+count_of clusters changes parts = length (names_among clusters changes parts)
 
 -- whether a change of the cluster is planned
 abbrev pub is_planned : List (Change Extent) → List ℕ → Bool
 is_planned changes name = list_any (λ change. bytes_eq (cluster_of change.part) name) changes
 
--- one name more, where no cluster and no change has it
-abbrev pub added : List (Cluster Extent) → List (Change Extent) → List ℕ → ℕ
-added clusters changes name = if has_cluster clusters name || is_planned changes name then 0 else 1
+-- whether one of the parts changes the cluster
+abbrev pub is_brought : List (Part ℕ) → List ℕ → Bool
+is_brought parts name = list_any (λ part. bytes_eq (cluster_of part) name) parts
+
+-- one name more, where no cluster, no change and no part has it
+abbrev pub added : List (Cluster Extent) → List (Change Extent) → List (Part ℕ) → List ℕ → ℕ
+added clusters changes parts name =
+    if has_cluster clusters name || is_planned changes name || is_brought parts name then 0 else 1
 
 -- a session that begins on the running clusters
 abbrev pub opened : List (Cluster Extent) → ℕ → ℕ → SessionOf Extent

@@ -1,107 +1,129 @@
-//! Where a package's payload goes.
-ghost use Rattle.std.specs.Prelude.{◌≡◌, ◌==◌};
-ghost use Rattle.std.specs.List.{list_any};
-ghost use Rattle.node_core.specs.Places.{goes_to, lowest_free, running_at};
-ghost use Rattle.node_core.specs.Units.{extent_in, is_taken, session_takes, takes};
+//! Where the payloads of a package's parts go.
+ghost use Rattle.std.specs.Prelude.{◌≡◌, map, IfOk};
+ghost use Rattle.ucm_base.specs.Limits.{cluster_limit};
+ghost use Rattle.transfer_blocks.specs.Table.{is_free, lowest_free};
+ghost use Rattle.node_core.specs.Places.{extent_of, extents_of, running_at, taken_in};
 
 use crate::held::Held;
 use crate::session_rules::cluster_at;
-use pm_types::{Change, Cluster, Extent, Session};
+use pm_types::{Change, Cluster, Extent};
+use std::alloc::{AllocError, Global};
 use transfer_blocks::Staging;
 use ucm_base::limits::CLUSTER_LIMIT;
-use ucm_base::{Action, ClusterName, Manifest};
+use ucm_base::{Action, ClusterName, Part};
 
 impl<S: Staging> Held<S> {
-    /// Where a payload of this size goes.
-    pub(crate) fn goes_to(&self, manifest: &Manifest, size: u32) -> Extent
-        ensures { result
-            ≡ extent_in (goes_to self.now.state manifest.now manifest.now.action) size }
+    /// Where the payloads of parts go, in order: for the parts behind it a part counts as planned.
+    pub(crate) fn extents(
+        &self,
+        alloc: Global,
+        parts: &[Part<u32>],
+    ) -> Result<Vec<Extent>, AllocError>
+        ensures { IfOk result (λ extents. extents.items
+            ≡ extents_of self.now.state.running (taken_in self.now.state) parts.now) }
     {
-        let at = self.running_at(manifest.name);
-        match manifest.action {
-            Action::Install => Extent {
-                place: self.lowest_free(),
-                side: 0,
-                length: size,
-            },
-            Action::Update => Extent {
-                place: at.place,
-                side: 1u8.saturating_sub(at.side),
-                length: size,
-            },
-            Action::Remove => Extent {
-                place: at.place,
-                side: at.side,
-                length: size,
-            },
+        let mut taken = self.taken(alloc)?;
+        let mut extents = Vec::new(alloc);
+        for part in parts {
+            let extent = extent_of(self.running.as_slice(), taken.as_slice(), part);
+            taken.push(extent.place)?;
+            extents.push(extent)?;
         }
+        Ok(extents)
     }
 
-    /// Where the running cluster of a name lies.
-    fn running_at(&self, name: ClusterName) -> Extent
-        ensures { result ≡ running_at self.now.state name }
+    /// The places that running clusters, saved clusters and planned changes have.
+    #[tactic(auto, using(crate::proofs::Free::taken_none, crate::proofs::Free::taken_some))]
+    fn taken(&self, alloc: Global) -> Result<Vec<u8>, AllocError>
+        ensures { IfOk result (λ taken. taken.items ≡ taken_in self.now.state) }
     {
-        match cluster_at(self.running.as_slice(), name) {
-            Some(cluster) => cluster.content,
-            None => Extent {
-                place: 0,
-                side: 0,
-                length: 0,
-            },
+        let mut taken = places(alloc, self.running.as_slice())?;
+        if let Some(session) = &self.session {
+            taken.append(&mut places(alloc, session.saved.as_slice())?)?;
+            taken.append(&mut planned_places(alloc, session.changes.as_slice())?)?;
         }
-    }
-
-    /// The lowest place that no running cluster, saved cluster or planned change has.
-    fn lowest_free(&self) -> u8
-        ensures { result ≡ lowest_free self.now.state }
-    {
-        for place in 0..CLUSTER_LIMIT as u8 {
-            if !self.is_taken(place) {
-                return place;
-            }
-        }
-        0
-    }
-
-    /// Whether one of them has the place.
-    fn is_taken(&self, place: u8) -> bool
-        ensures { result ≡ is_taken self.now.state place }
-    {
-        has_place(self.running.as_slice(), place) || self.session_takes(place)
-    }
-
-    /// Whether a saved cluster or a planned change has the place.
-    fn session_takes(&self, place: u8) -> bool
-        ensures { result ≡ session_takes self.now.state.session place }
-    {
-        match &self.session {
-            Some(session) => takes(session, place),
-            None => false,
-        }
+        Ok(taken)
     }
 }
 
-/// Whether a saved cluster or a planned change of the session has the place.
-fn takes(session: &Session, place: u8) -> bool
-    ensures { result ≡ takes session.now place }
+/// The places of clusters.
+fn places(alloc: Global, clusters: &[Cluster<Extent>]) -> Result<Vec<u8>, AllocError>
+    ensures { IfOk result (λ places. places.items
+        ≡ map (λ c. c.content.place) clusters.now) }
 {
-    has_place(session.saved.as_slice(), place) || plans_place(session.changes.as_slice(), place)
+    let mut places = Vec::new(alloc);
+    for cluster in clusters {
+        places.push(cluster.content.place)?;
+    }
+    Ok(places)
 }
 
-/// Whether a cluster lies at the place.
-fn has_place(clusters: &[Cluster<Extent>], place: u8) -> bool
-    ensures { result ≡ list_any (λ c. c.content.place == place) clusters.now }
+/// The places of planned changes.
+fn planned_places(alloc: Global, changes: &[Change<Extent>]) -> Result<Vec<u8>, AllocError>
+    ensures { IfOk result (λ places. places.items
+        ≡ map (λ c. c.part.payload.place) changes.now) }
 {
-    clusters
-        .iter()
-        .any(|cluster| cluster.content.place == place)
+    let mut places = Vec::new(alloc);
+    for change in changes {
+        places.push(change.part.payload.place)?;
+    }
+    Ok(places)
 }
 
-/// Whether a change is planned at the place.
-fn plans_place(changes: &[Change<Extent>], place: u8) -> bool
-    ensures { result ≡ list_any (λ c. c.part.payload.place == place) changes.now }
+/// Where the payload of a part goes, where these places are taken.
+fn extent_of(running: &[Cluster<Extent>], taken: &[u8], part: &Part<u32>) -> Extent
+    ensures { result ≡ extent_of running.now taken.now part.now }
 {
-    changes
-        .iter()
-        .any(|change| change.part.payload.place == place)
+    let length = part.payload;
+    let at = running_at(running, part.manifest.name);
+    match part.manifest.action {
+        Action::Install => Extent {
+            place: lowest_free(taken),
+            side: 0,
+            length,
+        },
+        Action::Update => Extent {
+            place: at.place,
+            side: 1u8.saturating_sub(at.side),
+            length,
+        },
+        Action::Remove => Extent {
+            place: at.place,
+            side: at.side,
+            length,
+        },
+    }
+}
+
+/// Where the running cluster of a name lies.
+fn running_at(running: &[Cluster<Extent>], name: ClusterName) -> Extent
+    ensures { result ≡ running_at running.now name }
+{
+    match cluster_at(running, name) {
+        Some(cluster) => cluster.content,
+        None => Extent {
+            place: 0,
+            side: 0,
+            length: 0,
+        },
+    }
+}
+
+/// The lowest place that isn't taken.
+fn lowest_free(taken: &[u8]) -> u8
+    ensures { result ≡ lowest_free cluster_limit taken.now }
+{
+    for place in 0..CLUSTER_LIMIT as u8 {
+        if is_free(taken, place) {
+            return place;
+        }
+    }
+    0
+}
+
+/// Whether the place isn't taken.
+fn is_free(taken: &[u8], place: u8) -> bool
+    ensures { result ≡ is_free taken.now place }
+{
+    taken.iter().all(|other| *other != place)
 }

@@ -7,7 +7,7 @@ ghost use Rattle.pm_types.specs.Histories.{formatted};
 ghost use Rattle.pm_types.specs.Stored.{meaning};
 ghost use Rattle.transfer_blocks.specs.declared.area.Area.TheVariants.{Side};
 ghost use Rattle.transfer_blocks.specs.Areas.{content_of, no_contents, with_content};
-ghost use Rattle.transfer_blocks.specs.Faults.{HasRisen};
+ghost use Rattle.fault_count.specs.Faults.{HasRisen};
 ghost use Rattle.node_core.specs.Core.{IsSound, holding};
 ghost use Rattle.node_core.specs.Format.{AreInstalled, in_order, named_before, placed};
 ghost use Rattle.node_core.specs.Packages.{package_reading};

@@ -5,6 +5,9 @@
 //! one `exec` is one step of the definition, and takes no memory; a query is answered as the definition says.
 #![tactic(auto)]
 
+ghost use Rattle.node_laws.specs.Fit.{IsReading};
+ghost use Rattle.node_core.specs.Packages.{package_reading};
+
 mod copying;
 mod destination;
 mod format;
@@ -23,3 +26,8 @@ mod units;
 pub use format::{Installed, format_areas};
 pub use node::{Core, ReserveError};
 pub use prepared::Prepared;
+
+/// What the laws of nodes and campaigns ask of a reading holds of that of software packages.
+pub fn packages_have_parts()
+    ensures law { IsReading package_reading }
+{}

@@ -1,7 +1,8 @@
 //! A node in memory.
-ghost use Rattle.std.specs.Prelude.{◌≡◌, ◌<◌, ◌≤◌, ◌+◌, OnOk, IsErrOf};
+ghost use Rattle.std.specs.Prelude.{◌≡◌, ◌<◌, ◌≤◌, ◌+◌, ◌↔◌, false, OnOk, IsErrOf};
+ghost use Rattle.pm_types.specs.NodeState.{is_working};
 ghost use Rattle.ucm_base.specs.Limits.{entry_limit};
-ghost use Rattle.transfer_blocks.specs.Faults.{HasRisen};
+ghost use Rattle.fault_count.specs.Faults.{HasRisen};
 ghost use Rattle.node_laws.specs.Fit.{IsFit};
 ghost use Rattle.node_core.specs.Packages.{package_reading};
 ghost use Rattle.node_core.specs.Core.{IsReserved, IsSound, holding, node_of, step_by};
@@ -161,6 +162,8 @@ impl<S: Staging> Core<S> {
         requires reserved { IsReservedWork self.old }
         requires entries { self.old.state.entries < entry_limit }
         ensures answer { result ≡ answer_to fails.now (node_of self.old) }
+        ensures nothing { (result ≡ Worked.Nothing self.old.state.status)
+            ↔ (is_working self.old.state.status ≡ false) }
         ensures node { node_of self.new ≡ after_work fails.now (node_of self.old) }
         ensures valid { IsFit package_reading (node_of self.new) }
         ensures faults { self.new.faults ≡ self.old.faults }

@@ -4,7 +4,7 @@ ghost use Rattle.pm_types.specs.declared.calls.Call.TheVariants.{Activate, Proce
 ghost use Rattle.pm_types.specs.Clusters.{unmet_among};
 ghost use Rattle.pm_types.specs.Sessions.{activate_refusal};
 ghost use Rattle.dependency_check.specs.Clusters.{needing};
-ghost use Rattle.transfer_blocks.specs.Faults.{HasRisen};
+ghost use Rattle.fault_count.specs.Faults.{HasRisen};
 ghost use Rattle.node_core.specs.Core.{IsKept, IsReady, IsSound, node_of};
 ghost use Rattle.node_core.specs.Sessions.{missing_dependencies, needing_of, opened};
 

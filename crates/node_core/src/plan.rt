@@ -3,9 +3,9 @@ ghost use Rattle.std.specs.Prelude.{◌≡◌, filter, IfOk};
 ghost use Rattle.pm_types.specs.Clusters.{brought, changed_by, planned, with_cluster};
 ghost use Rattle.node_core.specs.Units.{picks};
 
-use pm_types::{Change, Cluster, Clusters, Extent, Part, Session};
+use pm_types::{Change, Cluster, Clusters, Extent, Session};
 use std::alloc::{AllocError, Global};
-use ucm_base::{Action, ClusterName};
+use ucm_base::{Action, ClusterName, Part};
 
 /// The clusters after a session's changes, in order.
 pub(crate) fn planned(alloc: Global, session: &Session) -> Result<Clusters, AllocError>

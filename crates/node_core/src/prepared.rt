@@ -1,7 +1,7 @@
 //! What is made ready before a call or a unit, so that making it takes no memory.
-ghost use Rattle.std.specs.Prelude.{◌≡◌, None, unwrap_or};
+ghost use Rattle.std.specs.Prelude.{◌≡◌, None, option_map, unwrap_or};
 ghost use Rattle.node_core.specs.Prepared.{session_kept, unmet_kept, verdict_in, verdict_kept};
-ghost use Rattle.node_core.specs.Units.{change_kept, clusters_kept};
+ghost use Rattle.node_core.specs.Units.{clusters_kept, plan_kept};
 
 use pm_types::{Change, Clusters, ExitVerdict, Extent, Refusal, Session};
 use std::mem;
@@ -18,17 +18,17 @@ pub enum Prepared {
     Unmet(Option<Refusal>),
     /// The clusters that run after the unit.
     Clusters(Clusters),
-    /// The change that the last unit of a package plans.
-    Change(Change<Extent>),
+    /// The changes that the last unit of a package plans.
+    Changes(Vec<Change<Extent>>),
 }
 
 impl Prepared {
-    /// The change that a unit plans, if it does.
-    pub(crate) fn planning(change: Option<Change<Extent>>) -> Prepared
-        ensures { change_kept result ≡ change }
+    /// The changes that a unit plans, if it does.
+    pub(crate) fn planning(changes: Option<Vec<Change<Extent>>>) -> Prepared
+        ensures { plan_kept result ≡ option_map (λ v. v.items) changes }
     {
-        match change {
-            Some(change) => Prepared::Change(change),
+        match changes {
+            Some(changes) => Prepared::Changes(changes),
             None => Prepared::Nothing,
         }
     }
@@ -73,12 +73,12 @@ impl Prepared {
         }
     }
 
-    /// Takes the change that is ready.
-    pub(crate) fn take_change(&mut self) -> Option<Change<Extent>>
-        ensures { result ≡ change_kept self.old }
+    /// Takes the changes that are ready.
+    pub(crate) fn take_changes(&mut self) -> Option<Vec<Change<Extent>>>
+        ensures { option_map (λ v. v.items) result ≡ plan_kept self.old }
     {
         match mem::replace(self, Prepared::Nothing) {
-            Prepared::Change(change) => Some(change),
+            Prepared::Changes(changes) => Some(changes),
             _ => None,
         }
     }

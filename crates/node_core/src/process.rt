@@ -31,10 +31,10 @@ impl<S: Staging> Held<S> {
         if u64::from(session.units_done) < units {
             return;
         }
-        let Some(change) = self.prepared.take_change() else {
+        let Some(changes) = self.prepared.take_changes() else {
             return;
         };
-        session.changes.push(change);
+        session.changes.append(changes);
         session.processing = None;
         self.status = Status::Ready;
         self.transfers.set_phase(id, Phase::Processed);

@@ -1,20 +1,18 @@
 //! The status table, and what refuses the calls on a session, row by row.
 ghost use Rattle.std.specs.Prelude.{◌≡◌, ◌≤◌, ◌==◌, ◌&&◌, [], length, nat_le, not, option_map};
-ghost use Rattle.ucm_base.specs.Limits.{cluster_limit};
+ghost use Rattle.ucm_base.specs.Limits.{cluster_limit, part_limit};
 ghost use Rattle.ucm_base.specs.Versions.{is_newer};
 ghost use Rattle.pm_types.specs.Clusters.{cluster_at, has_cluster};
 ghost use Rattle.pm_types.specs.NodeState.{some_passes};
 ghost use Rattle.pm_types.specs.Refusals.{first_refusal};
-ghost use Rattle.pm_types.specs.Sessions.{cancel_refusals, is_update, part_refusals, status_table, suits};
-ghost use Rattle.node_core.specs.Sessions.{added, count_of, goal_of, has_wrong_tag, is_planned, package_refusals};
+ghost use Rattle.pm_types.specs.Sessions.{cancel_refusals, is_update, part_refusals, parts_refusal, status_table, suits};
+ghost use Rattle.node_core.specs.Sessions.{added, count_of, goal_of, has_wrong_tag, is_brought, is_planned, package_refusals};
 
-use pm_types::{
-    Call, Change, Cluster, Contents, Extent, Header, Outcome, Phase, Refusal, Session, Status,
-};
+use pm_types::{Call, Change, Cluster, Extent, Header, Outcome, Phase, Refusal, Session, Status};
 use std::cmp::Ordering;
 use transfer_blocks::Found;
 use ucm_base::limits::CLUSTER_LIMIT;
-use ucm_base::{Action, ClientId, ClusterName, Manifest};
+use ucm_base::{Action, ClientId, ClusterName, Manifest, Part};
 
 /// Where a call leads: to a status, to cleaning up with an outcome, or back to what was before processing.
 #[derive(Clone, Copy, Debug, PartialEq, Eq)]
@@ -102,14 +100,35 @@ pub(crate) fn package_refusal(
     }
 }
 
-/// Why a part of a package isn't processed.
-pub(crate) fn part_refusal(
+/// Why the parts of a package aren't processed: the refusal of the first part that has one.
+pub(crate) fn parts_refusal(
     running: &[Cluster<Extent>],
     changes: &[Change<Extent>],
-    part: &Contents,
+    parts: &[Part<u32>],
 ) -> Option<Refusal>
-    requires few { length changes.now ≤ cluster_limit }
-    ensures { result ≡ first_refusal (part_refusals running.now changes.now [] part.now) }
+    requires changes { length changes.now ≤ cluster_limit }
+    requires parts { length parts.now ≤ part_limit }
+    ensures { result ≡ parts_refusal running.now changes.now [] parts.now }
+{
+    for place in 0..parts.len() {
+        let refusal = part_refusal(running, changes, &parts[..place], &parts[place]);
+        if refusal.is_some() {
+            return refusal;
+        }
+    }
+    None
+}
+
+/// Why a part isn't processed, where these stand before it in its package.
+fn part_refusal(
+    running: &[Cluster<Extent>],
+    changes: &[Change<Extent>],
+    before: &[Part<u32>],
+    part: &Part<u32>,
+) -> Option<Refusal>
+    requires changes { length changes.now ≤ cluster_limit }
+    requires before { length before.now ≤ part_limit }
+    ensures { result ≡ first_refusal (part_refusals running.now changes.now before.now part.now) }
 {
     let manifest = &part.manifest;
     if is_changed(changes, manifest.name) {
@@ -121,7 +140,7 @@ pub(crate) fn part_refusal(
     if is_old(running, manifest) {
         return Some(Refusal::OldVersion);
     }
-    if manifest.action == Action::Install && is_full(running, changes) {
+    if manifest.action == Action::Install && is_full(running, changes, before) {
         return Some(Refusal::TooManyClusters);
     }
     None
@@ -177,41 +196,70 @@ pub(crate) fn cluster_at(
     clusters.iter().find(|cluster| cluster.name == name)
 }
 
-/// Whether clusters and changes have as many different names as a node may have.
-fn is_full(clusters: &[Cluster<Extent>], changes: &[Change<Extent>]) -> bool
-    requires few { length changes.now ≤ cluster_limit }
-    ensures { result ≡ nat_le cluster_limit (count_of clusters.now changes.now) }
+/// Whether clusters, changes and parts have as many different names as a node may have.
+fn is_full(clusters: &[Cluster<Extent>], changes: &[Change<Extent>], parts: &[Part<u32>]) -> bool
+    requires changes { length changes.now ≤ cluster_limit }
+    requires parts { length parts.now ≤ part_limit }
+    ensures { result ≡ nat_le cluster_limit (count_of clusters.now changes.now parts.now) }
 {
     let mut count = 0;
     let mut rest = clusters;
     while let [cluster, others @ ..] = rest {
-        count += added(others, changes, cluster.name);
+        count += added(others, changes, parts, cluster.name);
         rest = others;
     }
-    count >= CLUSTER_LIMIT - count_changed(changes)
+    count >= CLUSTER_LIMIT.saturating_sub(count_changed(changes, parts))
 }
 
-/// How many different clusters changes are of.
-fn count_changed(changes: &[Change<Extent>]) -> u64
-    ensures count { result ≡ count_of [] changes.now }
-    ensures few { result ≤ length changes.now }
+/// How many different clusters changes and parts are of.
+fn count_changed(changes: &[Change<Extent>], parts: &[Part<u32>]) -> u64
+    requires changes { length changes.now ≤ cluster_limit }
+    requires parts { length parts.now ≤ part_limit }
+    ensures { result ≡ count_of [] changes.now parts.now }
 {
     let mut count = 0;
     let mut rest = changes;
     while let [change, others @ ..] = rest {
-        count += added(&[], others, change.part.manifest.name);
+        count += added(&[], others, parts, change.part.manifest.name);
+        rest = others;
+    }
+    count + count_brought(parts)
+}
+
+/// How many different clusters parts are of.
+fn count_brought(parts: &[Part<u32>]) -> u64
+    requires { length parts.now ≤ part_limit }
+    ensures count { result ≡ count_of [] [] parts.now }
+    ensures few { result ≤ part_limit }
+{
+    let mut count = 0;
+    let mut rest = parts;
+    while let [part, others @ ..] = rest {
+        count += added(&[], &[], others, part.manifest.name);
         rest = others;
     }
     count
 }
 
-/// 1 where no cluster and no change has the name, else 0.
-fn added(clusters: &[Cluster<Extent>], changes: &[Change<Extent>], name: ClusterName) -> u64
-    ensures { result ≡ added clusters.now changes.now name }
+/// 1 where no cluster, no change and no part has the name, else 0.
+fn added(
+    clusters: &[Cluster<Extent>],
+    changes: &[Change<Extent>],
+    parts: &[Part<u32>],
+    name: ClusterName,
+) -> u64
+    ensures { result ≡ added clusters.now changes.now parts.now name }
 {
-    if has_cluster(clusters, name) || is_changed(changes, name) {
+    if has_cluster(clusters, name) || is_changed(changes, name) || is_brought(parts, name) {
         0
     } else {
         1
     }
+}
+
+/// Whether one of the parts changes the cluster.
+fn is_brought(parts: &[Part<u32>], name: ClusterName) -> bool
+    ensures { result ≡ is_brought parts.now name }
+{
+    parts.iter().any(|part| part.manifest.name == name)
 }

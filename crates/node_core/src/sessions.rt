@@ -12,7 +12,7 @@ ghost use Rattle.transfer_blocks.specs.Table.{stored_of};
 
 use crate::held::Held;
 use crate::session_rules::{
-    Goal, cancel_refusal, goal_from, is_anothers, package_refusal, part_refusal,
+    Goal, cancel_refusal, goal_from, is_anothers, package_refusal, parts_refusal,
 };
 use pm_types::{Call, Change, Extent, Outcome, Phase, Refusal, Reply, Status};
 use transfer_blocks::Staging;
@@ -62,8 +62,11 @@ impl<S: Staging> Held<S> {
             (contents_of (stored_of self.now.state.transfers client id)) }
     {
         let transfer = self.transfers.stored(client, id)?;
-        let part = transfer.contents.first()?;
-        part_refusal(self.running.as_slice(), self.changes(), part)
+        parts_refusal(
+            self.running.as_slice(),
+            self.changes(),
+            transfer.contents.as_slice(),
+        )
     }
 
     /// The planned changes.

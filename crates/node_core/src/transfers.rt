@@ -1,19 +1,20 @@
 //! The calls that bring a package in blocks.
-ghost use Rattle.std.specs.Prelude.{◌≡◌, IfOk, OnOk, IsErrOf};
+ghost use Rattle.std.specs.Prelude.{◌≡◌, ◌≢◌, ◌≤◌, length, map, IfOk, OnOk, IsErrOf};
 ghost use Rattle.pm_types.specs.declared.calls.Call.TheVariants.{DeleteTransfer, TransferData, TransferExit, TransferStart};
-ghost use Rattle.transfer_blocks.specs.Faults.{HasRisen};
+ghost use Rattle.fault_count.specs.Faults.{HasRisen};
 ghost use Rattle.node_core.specs.Core.{IsJudged, IsKept, IsReady, IsSound};
-ghost use Rattle.node_core.specs.Packages.{package_reading};
-ghost use Rattle.node_core.specs.Prepared.{IsVerdict};
+ghost use Rattle.node_core.specs.Packages.{package_reading, refusal_of};
+ghost use Rattle.node_core.specs.Prepared.{IsVerdict, stored_part};
+ghost use Rattle.ucm_base.specs.Limits.{part_limit};
 
 use crate::held::Held;
 use crate::node::ReserveError;
 use crate::prepared::Prepared;
-use package_reader::{PackageError, read_contents};
-use pm_types::{ExitVerdict, Part, Refusal, Reply};
+use package_reader::{PackageError, Span, read_package};
+use pm_types::{Contents, ExitVerdict, Refusal, Reply};
 use std::alloc::{AllocError, Global};
 use transfer_blocks::{Area, Staging};
-use ucm_base::ClientId;
+use ucm_base::{ClientId, Part};
 
 impl<S: Staging> Held<S> {
     /// TransferStart.
@@ -108,15 +109,38 @@ impl<S: Staging> Held<S> {
 fn verdict(alloc: Global, bytes: &[u8]) -> Result<ExitVerdict, AllocError>
     ensures { IfOk result (λ v. IsVerdict v (package_reading bytes.now)) }
 {
-    match read_contents(alloc, bytes) {
-        Ok(package) => Ok(ExitVerdict::Good(Part {
-            manifest: package.manifest,
-            payload: package.payload.len() as u32,
-        })),
-        Err(PackageError::PackageInconsistent { place }) => {
-            Ok(ExitVerdict::Bad(Refusal::PackageInconsistent { place }))
+    match read_package(alloc, bytes) {
+        Ok(contents) => {
+            let contents = stored(alloc, contents.as_slice())?;
+            Ok(ExitVerdict::Good(contents))
         }
-        Err(PackageError::InvalidManifest) => Ok(ExitVerdict::Bad(Refusal::InvalidManifest)),
-        Err(PackageError::OutOfMemory) => Err(AllocError),
+        Err(fault) => Ok(ExitVerdict::Bad(refusal_of(fault)?)),
     }
+}
+
+/// What the node answers where bytes are no package; want of memory is no answer.
+fn refusal_of(fault: PackageError) -> Result<Refusal, AllocError>
+    ensures { IfOk result
+        (λ refusal. (refusal_of fault ≡ refusal) × (fault ≢ PackageError.OutOfMemory)) }
+{
+    match fault {
+        PackageError::PackageInconsistent { place } => Ok(Refusal::PackageInconsistent { place }),
+        PackageError::InvalidManifest => Ok(Refusal::InvalidManifest),
+        PackageError::OutOfMemory => Err(AllocError),
+    }
+}
+
+/// The parts of a package with the lengths of their payloads.
+fn stored(alloc: Global, parts: &[Part<Span>]) -> Result<Contents, AllocError>
+    requires { length parts.now ≤ part_limit }
+    ensures { IfOk result (λ contents. contents ≡ map stored_part parts.now) }
+{
+    let mut stored = Vec::new(alloc);
+    for part in parts {
+        stored.push(Part {
+            manifest: part.manifest.copied(alloc)?,
+            payload: part.payload.len,
+        })?;
+    }
+    Ok(Contents::of(stored))
 }

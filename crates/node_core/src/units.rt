@@ -1,6 +1,6 @@
 //! Units of work.
 ghost use Rattle.std.specs.Prelude.{◌≡◌, ◌≢◌, ◌<◌, ◌≤◌, ◌+◌, true, false, None, OnOk, IsErrOf, option_map};
-ghost use Rattle.transfer_blocks.specs.Faults.{HasRisen};
+ghost use Rattle.fault_count.specs.Faults.{HasRisen};
 ghost use Rattle.ucm_base.specs.Limits.{entry_limit};
 ghost use Rattle.ucm_base.specs.Names.{has_name};
 ghost use Rattle.pm_types.specs.declared.status.Status.TheVariants.{Activating, CleaningUp, Processing, RollingBack, Verifying};

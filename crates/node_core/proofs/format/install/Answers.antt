@@ -1,6 +1,19 @@
 use Rattle.node_core.proofs.Names.{ap, append_assoc, arith, into_iter_items, length, sym, [], ◌++◌, ◌∙◌, ◌∷◌, ◌≡◌}
-use Rattle.node_core.proofs.Formatted.{next-installed}
+use Rattle.node_core.proofs.Formatted.{next-installed, next-short, none-installed}
+use Rattle.node_core.proofs.Names.{AreInstalled, refl, subst}
+use Rattle.std.proofs.Common.{rules}
 use Rattle.node_core.proofs.format.install.Goals as goal
+
+pub loop-cluster-init : goal.loop-cluster-init
+loop-cluster-init g c =
+    (refl, subst (λ l. AreInstalled (g.S.Staging.areas c.args.staging.now) l []) (sym c.in_ok-running.ensures.items) (none-installed _ c.requires.empty), omega arith, search rules)
+
+pub add-requires : goal.add-requires
+add-requires g c =
+    let at = c.loop-cluster in
+    let steps : into_iter_items at.cluster-iterator ≡ c.in-Some.cluster ∷ into_iter_items c.next.new.self = c.in-Some.ensures.steps.0 in
+    let whole = ap (λ l. at.yielded ++ l) (sym steps) ∙ at.invariant.0 ∙ c.into_iter-cluster-iterator.ensures.into_iter_gives.0 in
+    record { short = next-short at.yielded (into_iter_items c.next.new.self) c.args.clusters.items c.in-Some.cluster whole c.requires.short }
 
 pub loop-cluster-preserved : goal.loop-cluster-preserved
 loop-cluster-preserved g c =

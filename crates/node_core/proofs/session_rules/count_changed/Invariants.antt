@@ -3,7 +3,7 @@ use Rattle.node_core.proofs.session_rules.count_changed.Given as goal
 
 abbrev pub invariant-loop-rest : goal.invariant-loop-rest
 invariant-loop-rest l = record {
-  counted : l.count + count_of [] l.rest ≡ count_of [] l.fn.changes;
+  counted : l.count + count_of [] l.rest l.parts ≡ count_of [] l.fn.changes l.parts;
   few : l.count + length l.rest ≤ length l.fn.changes;
 }
 

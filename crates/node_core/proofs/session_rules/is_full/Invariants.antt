@@ -3,7 +3,7 @@ use Rattle.node_core.proofs.session_rules.is_full.Given as goal
 
 abbrev pub invariant-loop-rest : goal.invariant-loop-rest
 invariant-loop-rest l = record {
-  counted : l.count + count_of l.rest l.changes ≡ count_of l.fn.clusters l.changes;
+  counted : l.count + count_of l.rest l.changes l.parts ≡ count_of l.fn.clusters l.changes l.parts;
   few : l.count + length l.rest ≤ length l.fn.clusters;
 }
 

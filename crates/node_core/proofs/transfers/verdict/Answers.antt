@@ -1,12 +1,12 @@
-use Rattle.node_core.proofs.Names.{Bad, Err, Good, InvalidManifest, IsVerdict, PackageInconsistent, ap, length, refl, subst, sym}
-use Rattle.node_core.proofs.Names.{verdict_of, ⊎_elim, ◌∙◌}
+use Rattle.node_core.proofs.Names.{ap, map, ⊎_elim, ◌∙◌}
+use Rattle.node_core.specs.Prepared.{stored_part}
+use Rattle.node_core.proofs.Packages.{bad-verdict, good-verdict}
 use Rattle.node_core.proofs.transfers.verdict.Goals as goal
 
-pub returns-in-Ok : goal.returns-in-Ok
-returns-in-Ok c = subst (IsVerdict (Good (record { manifest = c.in-Ok.package.manifest; payload = length c.in-Ok.package.payload.now }))) (sym (ap verdict_of c.in-Ok.ensures.ok)) refl
+pub returns-in_ok-contents-in-Ok : goal.returns-in_ok-contents-in-Ok
+returns-in_ok-contents-in-Ok c =
+    good-verdict c.args.bytes.now _ c.in-Ok.ensures.ok c.in-Ok.ensures.within _ (c.in_ok-contents-in-Ok.ensures ∙ ap (map stored_part) c.as_slice.ensures)
 
-pub returns-in-Err-PackageInconsistent : goal.returns-in-Err-PackageInconsistent
-returns-in-Err-PackageInconsistent c = ⊎_elim (λ q. absurd (cc)) (λ r. subst (IsVerdict (Bad (PackageInconsistent c.in-Err-PackageInconsistent.place))) (sym (ap verdict_of r ∙ ap (λ e. verdict_of (Err e)) c.in-Err-PackageInconsistent.field-0-is)) refl) c.in-Err-PackageInconsistent.ensures.err
-
-pub returns-in-Err-InvalidManifest : goal.returns-in-Err-InvalidManifest
-returns-in-Err-InvalidManifest c = ⊎_elim (λ q. absurd (cc)) (λ r. subst (IsVerdict (Bad InvalidManifest)) (sym (ap verdict_of r ∙ ap (λ e. verdict_of (Err e)) c.in-Err-InvalidManifest.field-0-is)) refl) c.in-Err-InvalidManifest.ensures.err
+pub returns-in_ok-refusal_of-in-Err : goal.returns-in_ok-refusal_of-in-Err
+returns-in_ok-refusal_of-in-Err c = ⊎_elim (λ none. absurd (c.in_ok-refusal_of-in-Err.ensures.1 none))
+    (λ r. bad-verdict c.args.bytes.now _ _ r c.in_ok-refusal_of-in-Err.ensures.0) c.in-Err.ensures.err

@@ -1,14 +1,8 @@
-use Rattle.node_core.proofs.Names.{Some, ap, option_map, refl, sym, ◌∙◌}
-use Rattle.node_core.proofs.Lastly.{not-lost, some-part}
+use Rattle.node_core.proofs.Names.{Some, ap, option_map, sym, ◌∙◌}
+use Rattle.node_core.proofs.Lastly.{not-lost}
 use Rattle.node_core.proofs.held.Held.next_unit.Goals as goal
 
 pub returns-in_default-stored : goal.returns-in_default-stored
 returns-in_default-stored g c =
     not-lost c.self.view_is _ c.in-Some-processing.id c.in-Some-processing.is (c.in-Some.is ∙ ap Some (sym c.session.view_is))
     c.requires.sound c.requires.status (sym c.stored.ensures ∙ ap (option_map _) c.in_default-stored.is)
-
-pub returns-in_default-first : goal.returns-in_default-first
-returns-in_default-first g c =
-    some-part c.self.view_is _ c.in-Some-processing.id c.in-Some-processing.is (c.in-Some.is ∙ ap Some (sym c.session.view_is))
-    c.requires.sound c.requires.status c.in-Some-stored.transfer.now (sym c.stored.ensures ∙ ap (option_map _) c.in-Some-stored.is)
-    (c.in_default-first.ensures.none refl)
