@@ -1,2 +1,4 @@
 pub mod Flagged
+pub mod Appended
+pub mod Codes
 pub mod Worked

@@ -46,7 +46,8 @@ one_and_two = record { flags = true ∷ true ∷ replicate 6 false }
 
 -- the phases of a campaign of some nodes
 abbrev opened : NodeSet → List MasterEvent
-opened nodes = Start 1 ∷ Begin 7 nodes ∷ PhaseTo Phase.Transferring ∷ PhaseTo Phase.Processing ∷ PhaseTo Phase.Activating ∷ []
+opened nodes =
+    Start 1 ∷ Begin 7 nodes ∷ PhaseTo Phase.Transferring ∷ PhaseTo Phase.Processing ∷ PhaseTo Phase.Activating ∷ []
 
 abbrev voted : List MasterEvent
 voted = opened one ++ VoteOf 1 Vote.Yes ∷ []
@@ -60,7 +61,8 @@ successful = committed ++ EndedAt 1 New ∷ Enter Successful ∷ []
 abbrev failed_by_a_vote : List MasterEvent
 failed_by_a_vote =
     opened one_and_two
-    ++ VoteOf 1 Vote.Yes ∷ VoteOf 2 Vote.RolledBack ∷ Decide (Abort (Cause.Vote 2)) ∷ EndedAt 1 Old ∷ EndedAt 2 Old ∷ Enter Failed ∷ []
+    ++ VoteOf 1 Vote.Yes ∷ VoteOf 2 Vote.RolledBack ∷ Decide (Abort (Cause.Vote 2)) ∷ EndedAt 1 Old ∷ EndedAt 2 Old
+    ∷ Enter Failed ∷ []
 
 abbrev failed_by_a_refusal : List MasterEvent
 failed_by_a_refusal =
@@ -83,43 +85,63 @@ abbrev cancelled_before : List MasterEvent
 cancelled_before = voted ++ CancelAsked ∷ Decide (Abort Cause.Cancel) ∷ EndedAt 1 Old ∷ Enter Cancelled ∷ []
 
 -- each of them is a list that the table allows
-all_are_allowed : map all_allowed (successful ∷ failed_by_a_vote ∷ failed_by_a_refusal ∷ failed_unreached ∷ restarted_before ∷ restarted_after ∷ cancelled_before ∷ []) ≡ replicate 7 true
+all_are_allowed : map all_allowed
+    (successful ∷ failed_by_a_vote ∷ failed_by_a_refusal ∷ failed_unreached ∷ restarted_before ∷ restarted_after
+    ∷ cancelled_before ∷ []) ≡ replicate 7 true
 all_are_allowed = refl
 
 -- and comes to its result
-all_end : map (λ es. (campaign es).earlier) (successful ∷ failed_by_a_vote ∷ restarted_before ∷ restarted_after ∷ cancelled_before ∷ [])
-    ≡ ((7, Successful) ∷ []) ∷ ((7, Failed) ∷ []) ∷ ((7, Failed) ∷ []) ∷ ((7, Successful) ∷ []) ∷ ((7, Cancelled) ∷ []) ∷ []
+all_end : map (λ es. (campaign es).earlier)
+    (successful ∷ failed_by_a_vote ∷ restarted_before ∷ restarted_after ∷ cancelled_before ∷ [])
+    ≡ ((7, Successful) ∷ []) ∷ ((7, Failed) ∷ []) ∷ ((7, Failed) ∷ []) ∷ ((7, Successful) ∷ []) ∷ ((7, Cancelled) ∷ [])
+    ∷ []
 all_end = refl
 
 -- one is open after its decision, and no cancel is taken there any more
-open_after_the_decision : answers committed (CancelAsked ∷ EndedAt 1 Old ∷ EndedAt 1 New ∷ Enter Successful ∷ []) ≡ no ∷ no ∷ None ∷ no ∷ []
+open_after_the_decision : answers committed (CancelAsked ∷ EndedAt 1 Old ∷ EndedAt 1 New ∷ Enter Successful ∷ [])
+    ≡ no ∷ no ∷ None ∷ no ∷ []
 open_after_the_decision = refl
 
 -- the table's refusals along the way
-before_a_start : answers [] (Start 0 ∷ Start 1 ∷ Start 2 ∷ Begin 7 one ∷ CancelAsked ∷ []) ≡ no ∷ None ∷ no ∷ no ∷ Some NoCampaign ∷ []
+before_a_start : answers [] (Start 0 ∷ Start 1 ∷ Start 2 ∷ Begin 7 one ∷ CancelAsked ∷ [])
+    ≡ no ∷ None ∷ no ∷ no ∷ Some NoCampaign ∷ []
 before_a_start = refl
 
-before_a_campaign : answers (Start 1 ∷ []) (Begin 0 one ∷ Begin 1 one ∷ Begin 1 (record { flags = replicate 8 false }) ∷ Enter Failed ∷ []) ≡ no ∷ None ∷ no ∷ Some NoCampaign ∷ []
+before_a_campaign : answers (Start 1 ∷ [])
+    (Begin 0 one ∷ Begin 1 one ∷ Begin 1 (record { flags = replicate 8 false }) ∷ Enter Failed ∷ [])
+    ≡ no ∷ None ∷ no ∷ Some NoCampaign ∷ []
 before_a_campaign = refl
 
-after_a_campaign : answers successful (Begin 7 one ∷ Begin 6 one ∷ Begin 8 one ∷ EndedAt 1 New ∷ []) ≡ no ∷ no ∷ None ∷ Some NoCampaign ∷ []
+after_a_campaign : answers successful (Begin 7 one ∷ Begin 6 one ∷ Begin 8 one ∷ EndedAt 1 New ∷ [])
+    ≡ no ∷ no ∷ None ∷ Some NoCampaign ∷ []
 after_a_campaign = refl
 
-at_the_limit : map (λ n. refusal_of (record { epoch = 1; earlier = replicate n (1, Failed); current = None }) (Begin 2 one)) (4095 ∷ 4096 ∷ []) ≡ None ∷ no ∷ []
+at_the_limit : map
+    (λ n. refusal_of (record { epoch = 1; earlier = replicate n (1, Failed); current = None }) (Begin 2 one))
+    (4095 ∷ 4096 ∷ []) ≡ None ∷ no ∷ []
 at_the_limit = refl
 
-of_two_nodes : answers (Start 1 ∷ Begin 7 one_and_two ∷ []) (Decide Commit ∷ VoteOf 1 Vote.Yes ∷ VoteOf 3 Vote.RolledBack ∷ PhaseTo Phase.Processing ∷ []) ≡ no ∷ no ∷ no ∷ no ∷ []
+of_two_nodes : answers (Start 1 ∷ Begin 7 one_and_two ∷ [])
+    (Decide Commit ∷ VoteOf 1 Vote.Yes ∷ VoteOf 3 Vote.RolledBack ∷ PhaseTo Phase.Processing ∷ [])
+    ≡ no ∷ no ∷ no ∷ no ∷ []
 of_two_nodes = refl
 
-with_a_no : answers (Start 1 ∷ Begin 7 one_and_two ∷ VoteOf 2 Vote.RolledBack ∷ []) (Decide (Abort Cause.Restart) ∷ Decide (Abort (Cause.Vote 2)) ∷ PhaseTo Phase.Transferring ∷ VoteOf 2 Vote.RolledBack ∷ []) ≡ no ∷ None ∷ no ∷ no ∷ []
+with_a_no : answers (Start 1 ∷ Begin 7 one_and_two ∷ VoteOf 2 Vote.RolledBack ∷ [])
+    (Decide (Abort Cause.Restart) ∷ Decide (Abort (Cause.Vote 2)) ∷ PhaseTo Phase.Transferring
+    ∷ VoteOf 2 Vote.RolledBack ∷ []) ≡ no ∷ None ∷ no ∷ no ∷ []
 with_a_no = refl
 
-after_a_restart : answers (voted ++ Start 2 ∷ []) (Decide Commit ∷ VoteOf 1 Vote.RolledBack ∷ Decide (Abort Cause.Restart) ∷ []) ≡ no ∷ no ∷ None ∷ []
+after_a_restart : answers (voted ++ Start 2 ∷ [])
+    (Decide Commit ∷ VoteOf 1 Vote.RolledBack ∷ Decide (Abort Cause.Restart) ∷ []) ≡ no ∷ no ∷ None ∷ []
 after_a_restart = refl
 
 -- the states that are shown
-of_the_successful : states_from nothing_yet successful ≡ State.Idle ∷ State.Syncing ∷ State.SoftwarePackageTransferring ∷ State.Processing ∷ State.Activating ∷ State.VehicleChecking ∷ State.VehicleChecking ∷ State.VehicleChecking ∷ State.Idle ∷ []
+of_the_successful : states_from nothing_yet successful
+    ≡ State.Idle ∷ State.Syncing ∷ State.SoftwarePackageTransferring ∷ State.Processing ∷ State.Activating
+    ∷ State.VehicleChecking ∷ State.VehicleChecking ∷ State.VehicleChecking ∷ State.Idle ∷ []
 of_the_successful = refl
 
-of_the_cancelled : states_from (campaign voted) (CancelAsked ∷ Decide (Abort Cause.Cancel) ∷ EndedAt 1 Old ∷ Enter Cancelled ∷ []) ≡ State.Cancelling ∷ State.Cancelling ∷ State.Cancelling ∷ State.Idle ∷ []
+of_the_cancelled : states_from (campaign voted)
+    (CancelAsked ∷ Decide (Abort Cause.Cancel) ∷ EndedAt 1 Old ∷ Enter Cancelled ∷ [])
+    ≡ State.Cancelling ∷ State.Cancelling ∷ State.Cancelling ∷ State.Idle ∷ []
 of_the_cancelled = refl

@@ -16,6 +16,7 @@ use Rattle.campaign_core.specs.declared.events.CampaignRefusal.TheVariants.{Oper
 use Rattle.campaign_core.specs.declared.events.MasterEvent.{MasterEvent}
 use Rattle.campaign_core.specs.declared.events.MasterEvent.TheVariants.{Start, Begin, PhaseTo, VoteOf, CancelAsked, Decide, EndedAt, Enter}
 use Rattle.campaign_core.specs.declared.fold.Current.{Current}
+use Rattle.campaign_core.specs.declared.table.TheConstants.{CAMPAIGN_LIMIT}
 use Rattle.campaign_core.specs.declared.fold.Fold.{Fold}
 use Rattle.campaign_core.specs.Nodes.{part_of, with_part, flag_of, any_flag, all_flagged}
 
@@ -128,7 +129,9 @@ abbrev pub meets : Current → MasterEvent → Bool
 meets c (Start _) = true
 meets c (Begin _ _) = false
 meets c (PhaseTo phase) = is_undecided c && (not (is_marked c) && (not (has_no c) && is_next c.phase phase))
-meets c (VoteOf n v) = is_undecided c && (not c.restart && (flag_of c.named n && (is_none (vote_of c n) && (not (is_yes v) || is_activating c.phase))))
+meets c (VoteOf n v) =
+    is_undecided c
+    && (not c.restart && (flag_of c.named n && (is_none (vote_of c n) && (not (is_yes v) || is_activating c.phase))))
 meets c CancelAsked = is_undecided c && not c.cancel
 meets c (Decide d) = may_decide c d
 meets c (EndedAt n o) = flag_of c.named n && (is_none (end_of c n) && is_new_of c.decision o)
@@ -138,8 +141,15 @@ meets c (Enter r) = all_ended c && is_result_of c.decision r
 abbrev pub all_below : ℕ → List (ℕ × CampaignResult) → Bool
 all_below k earlier = list_all (λ e. nat_lt e.0 k) earlier
 
+-- earlier campaigns and a current one, together at most
+abbrev pub campaign_limit : ℕ
+campaign_limit = CAMPAIGN_LIMIT
+
 abbrev pub may_begin : Fold → ℕ → NodeSet → Bool
-may_begin f k named = nat_le 1 f.epoch && (is_none f.current && (nat_le 1 k && (all_below k f.earlier && (any_flag named && nat_lt (length f.earlier) 4096))))
+may_begin f k named =
+    nat_le 1 f.epoch
+    && (is_none f.current
+    && (nat_le 1 k && (all_below k f.earlier && (any_flag named && nat_lt (length f.earlier) campaign_limit))))
 
 abbrev pub unless : Bool → Option CampaignRefusal
 unless true = None
@@ -175,7 +185,17 @@ abbrev pub changed_in : Option Current → MasterEvent → Option Current
 changed_in current e = option_map (λ c. changed c e) current
 
 abbrev pub begun : ℕ → NodeSet → Current
-begun k named = record { campaign = k; named = named; phase = None; votes = replicate 8 None; cancel = false; restart = false; decision = None; ended = replicate 8 None }
+begun k named =
+    record {
+      campaign = k;
+      named = named;
+      phase = None;
+      votes = replicate 8 None;
+      cancel = false;
+      restart = false;
+      decision = None;
+      ended = replicate 8 None;
+    }
 
 abbrev pub entered : List (ℕ × CampaignResult) → Option Current → CampaignResult → List (ℕ × CampaignResult)
 entered earlier None r = earlier
@@ -183,7 +203,8 @@ entered earlier (Some c) r = earlier ++ (c.campaign, r) ∷ []
 
 -- the fold after an allowed event
 abbrev pub after_event : Fold → MasterEvent → Fold
-after_event f (Start epoch) = record { epoch = epoch; earlier = f.earlier; current = changed_in f.current (Start epoch) }
+after_event f (Start epoch) =
+    record { epoch = epoch; earlier = f.earlier; current = changed_in f.current (Start epoch) }
 after_event f (Begin k named) = record f { current = Some (begun k named) }
 after_event f (PhaseTo p) = record f { current = changed_in f.current (PhaseTo p) }
 after_event f (VoteOf n v) = record f { current = changed_in f.current (VoteOf n v) }

@@ -1,5 +1,5 @@
 -- What a campaign shows of its fold.
-use Rattle.std.specs.Prelude.{ℕ, ◌-◌, Bool, true, false, ◌||◌, if◌then◌else◌, length, map, option_map, slice_get, Option, Some, None}
+use Rattle.std.specs.Prelude.{ℕ, ◌-◌, Bool, true, false, ◌||◌, if◌then◌else◌, length, map, option_map, slice_get, slice_index_or, List, [], ◌∷◌, Option, Some, None}
 use Rattle.campaign_core.specs.declared.events.Phase.{Phase}
 use Rattle.campaign_core.specs.declared.events.Decision.{Decision}
 use Rattle.campaign_core.specs.declared.events.Decision.TheVariants.{Commit, Abort}
@@ -44,6 +44,22 @@ state_code CampaignState.Processing = 3
 state_code CampaignState.Activating = 4
 state_code CampaignState.VehicleChecking = 5
 state_code CampaignState.Cancelling = 6
+
+-- the states in the order of their codes
+abbrev pub states_by_code : List CampaignState
+states_by_code =
+    CampaignState.Idle
+    ∷ CampaignState.Syncing
+    ∷ CampaignState.SoftwarePackageTransferring
+    ∷ CampaignState.Processing
+    ∷ CampaignState.Activating
+    ∷ CampaignState.VehicleChecking
+    ∷ CampaignState.Cancelling
+    ∷ []
+
+-- the state of a code; Idle where no state has it
+abbrev pub state_at : ℕ → CampaignState
+state_at code = slice_index_or states_by_code code CampaignState.Idle
 
 abbrev pub current_view : Current → CurrentView
 current_view c = record {

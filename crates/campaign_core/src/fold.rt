@@ -40,7 +40,7 @@ impl CampaignList {
     }
 
     /// A copy.
-    pub(crate) fn copied(&self) -> Result<Vec<(u32, CampaignResult)>, AllocError>
+    pub(crate) fn copy(&self) -> Result<Vec<(u32, CampaignResult)>, AllocError>
         ensures { IfOk result (λ v. v.items ≡ self.now) }
     {
         Vec::from_slice(*self.items.allocator(), self.items.as_slice())
@@ -51,7 +51,7 @@ impl CampaignList {
         ensures items { IfOk result (λ v. v.items ≡ self.now) }
         ensures room { IfOk result (λ v. vec_len v < vec_capacity v) }
     {
-        let mut items = self.copied()?;
+        let mut items = self.copy()?;
         items.reserve(1)?;
         Ok(items)
     }
@@ -139,7 +139,7 @@ fn is_no(vote: &Option<Vote>) -> bool
 
 impl Current {
     /// A campaign that begins.
-    pub(crate) fn begun(campaign: u32, named: NodeSet) -> Current
+    pub(crate) fn begin(campaign: u32, named: NodeSet) -> Current
         ensures { result ≡ begun campaign named }
     {
         Current {

@@ -12,7 +12,7 @@ use pm_types::Outcome;
 use ucm_base::{NodeId, NodeSet};
 
 /// Earlier campaigns and a current one, together at most.
-const CAMPAIGN_LIMIT: usize = 4096;
+pub const CAMPAIGN_LIMIT: usize = 4096;
 
 fn is_next(phase: Option<Phase>, next: Phase) -> bool
     ensures { result ≡ is_next phase next }
@@ -184,7 +184,7 @@ impl Fold {
         match event {
             MasterEvent::Start { epoch } => self.epoch = *epoch,
             MasterEvent::Begin { campaign, named } => {
-                self.current = Some(Current::begun(*campaign, *named));
+                self.current = Some(Current::begin(*campaign, *named));
                 return;
             }
             _ => {}

@@ -1,7 +1,7 @@
 //! What a campaign shows.
 ghost use Rattle.std.specs.Prelude.{◌≡◌, map};
 ghost use Rattle.campaign_core.specs.Campaign.{has_ended};
-ghost use Rattle.campaign_core.specs.Views.{current_view, is_abort, is_cancelling, phase_state, state_code, state_of, view_of};
+ghost use Rattle.campaign_core.specs.Views.{current_view, is_abort, is_cancelling, phase_state, state_at, state_code, state_of, view_of};
 
 use crate::{CampaignResult, Current, Decision, Fold, Phase};
 use pm_types::Outcome;
@@ -48,6 +48,21 @@ impl CampaignState {
         ensures { result ≡ state_code self }
     {
         self as u8
+    }
+
+    /// The state of a code; Idle where no state has it.
+    pub fn of_code(code: u8) -> CampaignState
+        ensures { result ≡ state_at code }
+    {
+        match code {
+            1 => CampaignState::Syncing,
+            2 => CampaignState::SoftwarePackageTransferring,
+            3 => CampaignState::Processing,
+            4 => CampaignState::Activating,
+            5 => CampaignState::VehicleChecking,
+            6 => CampaignState::Cancelling,
+            _ => CampaignState::Idle,
+        }
     }
 }
 

@@ -16,4 +16,6 @@ loop-node-preserved c =
     )
 
 pub returns : goal.returns
-returns c = mapped has_ended c.args.ended.now c.loop-node.flags None false (omega arith) (λ k lt. c.loop-node.invariant.1 k (omega (arith, lt)))
+returns c =
+    mapped has_ended c.args.ended.now c.loop-node.flags None false (omega arith)
+    (λ k lt. c.loop-node.invariant.1 k (omega (arith, lt)))

@@ -10,5 +10,8 @@ use Rattle.campaign_core.proofs.fold.Current.all_ended.Goals as goal
 pub returns : goal.returns
 returns c =
     let self = c.args.self.now in
-    all_from_yields_List (λ (p : Bool × Option Outcome). not p.0 || has_ended p.1) c.all.new.self _ c.all.result c.all.ensures.ran (YieldsList-from_zip (YieldsList-from_slice self.named.flags cc) (YieldsList-from_slice self.ended cc)) (λ x b q k. search (rules, tests))
+    all_from_yields_List (λ (p : Bool × Option Outcome). not p.0 || has_ended p.1)
+    c.all.new.self _ c.all.result c.all.ensures.ran
+    (YieldsList-from_zip (YieldsList-from_slice self.named.flags cc) (YieldsList-from_slice self.ended cc))
+    (λ x b q k. search (rules, tests))
     ∙ all-flagged has_ended self.named.flags self.ended (omega arith)
