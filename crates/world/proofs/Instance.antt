@@ -130,5 +130,7 @@ module _ (read : Reading) (clusters : List (Cluster Bytes)) (s : NodeState) (at 
   kept = kept_after (judged_in read s c).0 at c (judged_in read s c).1
 
   -- a call whose epoch is at least 1, as every call number's is
-  pub delivered-is : 0 < at.epoch → (delivered (real read clusters) s at c ≡ (step s 0 at (c) (verdict_for read s 0 (c))).0) × (world_reached (real read clusters) s at c ≡ (step s 0 at (c) (verdict_for read s 0 (c))).1)
+  pub delivered-is : 0 < at.epoch
+      → (delivered (real read clusters) s at c ≡ (step s 0 at (c) (verdict_for read s 0 (c))).0)
+      × (world_reached (real read clusters) s at c ≡ (step s 0 at (c) (verdict_for read s 0 (c))).1)
   delivered-is epoch = grind arith

@@ -1,8 +1,12 @@
+pub mod Orders
 pub mod Names
 pub mod Sends
 pub mod EarlyNode
 pub mod EarlyEvents
 pub mod RoundList
+pub mod RoundEnds
+pub mod BySize
+pub mod Attempts
 pub mod WordLaws
 pub mod Basics
 pub mod Sessions

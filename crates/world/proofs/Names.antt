@@ -37,7 +37,7 @@ pub use Rattle.pm_types.specs.declared.calls.Call.TheVariants.{RevertProcessedSw
 pub use Rattle.pm_types.specs.declared.calls.Call.TheVariants.{TransferData, TransferExit, TransferStart}
 pub use Rattle.pm_types.specs.declared.clusters.Change.{Change}
 pub use Rattle.pm_types.specs.declared.clusters.Cluster.{Cluster}
-pub use Rattle.pm_types.specs.declared.clusters.Part.{Part}
+pub use Rattle.ucm_base.specs.declared.parts.Part.{Part}
 pub use Rattle.pm_types.specs.declared.history.Entry.{Entry}
 pub use Rattle.pm_types.specs.declared.history.Happened.TheVariants.{Numbered, Unit as UnitAfter}
 pub use Rattle.pm_types.specs.declared.replies.EndMark.{EndMark}
@@ -76,7 +76,7 @@ pub use Rattle.std.specs.List.{AllByRecursion, Contains, flat_map}
 pub use Rattle.std.specs.Option.{option_map_or, option_or}
 pub use Rattle.std.specs.Ordering.{is_eq, is_lt, nat_cmp, ordering_reverse}
 pub use Rattle.std.specs.Prelude.{IfSome, Ok, filter, find, if◌then◌else◌, map, not, option_and_then, option_map}
-pub use Rattle.std.specs.Prelude.{replicate, slice_index_or, slice_set, unwrap_or, ◌==◌}
+pub use Rattle.std.specs.Prelude.{replicate, slice_get, slice_index_or, slice_set, unwrap_or, ◌==◌}
 pub use Rattle.std.specs.Str.{bytes_eq}
 pub use Rattle.std.specs.declared.cmp.Ordering.{Ordering}
 pub use Rattle.std.specs.declared.cmp.Ordering.TheVariants.{Equal, Greater, Less}
@@ -89,18 +89,19 @@ pub use Rattle.ucm_base.specs.declared.ids.NodeSet.{NodeSet}
 pub use Rattle.ucm_base.specs.declared.parts.Action.TheVariants.{Install}
 pub use Rattle.world.specs.Evidence.{EndEvidence, InCurrent, NamesOf, VoteEvidence}
 pub use Rattle.world.specs.Law.{CampaignLaw, IsEntered, IsLeft, parts_in}
-pub use Rattle.world.specs.Messages.{Answered, InSent, InTold, IsBelow, Message, Showed, Told, answer_of, is_activate}
-pub use Rattle.world.specs.Messages.{is_done, is_status, is_sync, is_told, no_eq, no_lt, nth_sent, told_reply}
-pub use Rattle.world.specs.RoundCalls.{AllFit, Fits, all_processed, all_transfers, blocks_from, head_or, nth_call}
-pub use Rattle.world.specs.RoundCalls.{round_calls, tail_of}
-pub use Rattle.world.specs.Rounds.{At_activate, At_data, At_process, At_start, At_sync, Over, Refused_once, Stage}
+pub use Rattle.world.specs.Messages.{Answered, Message, Showed, Told, answer_of, is_activate}
+pub use Rattle.world.specs.Messages.{is_done, is_status, is_sync, is_told, told_reply}
+pub use Rattle.world.specs.RoundCalls.{AllFit, Fits, all_processed, all_transfers, blocks_from}
+pub use Rattle.world.specs.RoundCalls.{round_calls}
+pub use Rattle.world.specs.Rounds.{AtActivate, AtData, AtProcess, AtStart, AtSync, Over, RefusedOnce, Stage}
 pub use Rattle.world.specs.Rounds.{call_at, next_package, next_processed, onward, stage_of}
 pub use Rattle.world.specs.Sends.{MaySend, MaySendBy, MaySendEarly, MaySendLate, Packages, activate_done, campaign_of}
 pub use Rattle.world.specs.Sends.{decided_of, delete_at, empties, end_call_at, is_end_sync, is_masters, last_shown}
-pub use Rattle.world.specs.Sends.{last_status, may_follow, next_number, one_if, or_else, replies_of, session_status}
+pub use Rattle.world.specs.Sends.{last_status, may_follow, next_number, one_if, replies_of, session_status}
 pub use Rattle.world.specs.Sends.{showed_after_activate, shown_if, status_if, status_of_shown}
 pub use Rattle.world.specs.Spans.{IsNew, IsOld, Span, Spans, has_tag, span_of, span_step, spans, spans_from}
-pub use Rattle.world.specs.Words.{InParts, RunsNew, left_by}
+pub use Rattle.world.specs.Words.{RunsNew, left_by}
 pub use Rattle.world.specs.World.{Deliver, Event, Foreign, HasEvidence, IsAllowed, Makes, NodeWorld, Record, Restart}
 pub use Rattle.world.specs.World.{Send, Work, World, called, delivered, fold_of, happens, message, opened, reached}
 pub use Rattle.world.specs.World.{recorded, shown_by, state_of, with_node, worked_on}
+pub use Rattle.world.proofs.Orders.{IsBelow, IsIn, in-contained, no_eq, no_lt}

@@ -17,7 +17,9 @@ module _ (read : Reading) (o : NodeState) (es : List Entry) where
   now = state_after read o es
 
   -- the state after a call
-  pub entered-state : (client : ℕ) (at : CallNo) (c : Call) → state_after read o (entered es client at c (reached read now client at c)) ≡ (step now client at c (verdict_for read now client c)).0
+  pub entered-state : (client : ℕ) (at : CallNo) (c : Call)
+      → state_after read o (entered es client at c (reached read now client at c))
+      ≡ (step now client at c (verdict_for read now client c)).0
   entered-state client at c = grind (arith, after-append)
 
   or-false : (b : Bool) → (b || false) ≡ b
@@ -31,11 +33,14 @@ module _ (read : Reading) (o : NodeState) (es : List Entry) where
   unchanged x = ap (λ b. let y : Spans = record { is_open = b; ended = x.ended } in y) (or-false x.is_open)
 
   -- the spans after a call of client 0
-  pub entered-spans : (k : ℕ) (at : CallNo) (c : Call) (r : Reached) → spans read k o (entered es 0 at c r) ≡ same (spans read k o es) (has_tag k c && (is_status now.status Idle && is_fresh_done r))
+  pub entered-spans : (k : ℕ) (at : CallNo) (c : Call) (r : Reached)
+      → spans read k o (entered es 0 at c r)
+      ≡ same (spans read k o es) (has_tag k c && (is_status now.status Idle && is_fresh_done r))
   entered-spans k at c x = grind (arith, spans-append, unchanged)
 
   -- another client's calls begin and end none
-  pub foreign-spans : (k other : ℕ) (at : CallNo) (c : Call) (r : Reached) → spans read k o (entered es (suc other) at c r) ≡ spans read k o es
+  pub foreign-spans : (k other : ℕ) (at : CallNo) (c : Call) (r : Reached)
+      → spans read k o (entered es (suc other) at c r) ≡ spans read k o es
   foreign-spans k other at c x = grind (arith, spans-append, unchanged)
 
   abbrev entry : NodeState → NodeState
@@ -53,7 +58,13 @@ module _ (read : Reading) (o : NodeState) (es : List Entry) where
 
   -- the spans after a unit
   pub worked-spans : (k : ℕ) (passed : Bool) → IsConsistent now
-      → spans read k o (worked_on es passed (unit now passed)) ≡ (if (spans read k o es).is_open && is_status now.status CleaningUp then record { is_open = false; ended = span_of now (unit_in now passed) ∷ (spans read k o es).ended } else spans read k o es)
+      → spans read k o (worked_on es passed (unit now passed))
+      ≡ (if (spans read k o es).is_open
+      && is_status now.status CleaningUp then record {
+        is_open = false;
+        ended = span_of now (unit_in now passed) ∷
+            (spans read k o es).ended;
+      } else spans read k o es)
   worked-spans k passed v = grind (arith, spans-append, unchanged)
 
 -- A world of the tables is one of the rules: what its events make, the rules' events make too.
@@ -82,27 +93,44 @@ module _ (read : Reading) (keeps : KeepsNode read []) where
     pub started : (c : Current) → v.fold.current ≡ Some c → 0 < v.fold.epoch
 
   -- the rules' delivery is the node's step
-  delivered-state : (x : FitState read) (at : CallNo) (c : Call) → 0 < at.epoch → (rules.delivered (fit read [] keeps) x at c).state ≡ (step x.state 0 at c (verdict_for read x.state 0 c)).0
-  delivered-state x at c low = go (no_lt at (rules.NodeRules.last N x)) (no_eq at (rules.NodeRules.last N x)) ∙ (delivered-is read [] x.state at c low).0
+  delivered-state : (x : FitState read) (at : CallNo) (c : Call) → 0 < at.epoch
+      → (rules.delivered (fit read [] keeps) x at c).state ≡ (step x.state 0 at c (verdict_for read x.state 0 c)).0
+  delivered-state x at c low =
+      go (no_lt at (rules.NodeRules.last N x)) (no_eq at (rules.NodeRules.last N x))
+      ∙ (delivered-is read [] x.state at c low).0
     where
       after : NodeState
       after = kept_after (judged_in read x.state c).0 at c (judged_in read x.state c).1
 
-      go : (a b : Bool) → (if a then x else (if b then x else rules.NodeRules.keep N (rules.NodeRules.judge N x c).0 at c (rules.NodeRules.judge N x c).1)).state ≡ (if a then x.state else (if b then x.state else after))
+      go : (a b : Bool)
+          → (if a then x else
+          (if b then x else rules.NodeRules.keep N (rules.NodeRules.judge N x c).0 at c
+          (rules.NodeRules.judge N x c).1)).state ≡ (if a then x.state else (if b then x.state else after))
       go false false = ap (λ s. kept_after s at c (judged_in read x.state c).1) (state-is read [] keeps x c)
       go _ _ = refl
 
-  delivered-reached : (x : FitState read) (at : CallNo) (c : Call) → 0 < at.epoch → rules.reached (fit read [] keeps) x at c ≡ reached read x.state 0 at c
+  delivered-reached : (x : FitState read) (at : CallNo) (c : Call) → 0 < at.epoch
+      → rules.reached (fit read [] keeps) x at c ≡ reached read x.state 0 at c
   delivered-reached x at c low = (delivered-is read [] x.state at c low).1
 
   -- a message of the master arrives
-  pub same-deliver : (x : NodeWorld) (y : rules.NodeWorld (fit read [] keeps)) (m : Message) (told : Bool) → 0 < m.at.epoch → SameNode x y → SameNode (delivered read x (Some m) told) (rules.deliver_to (fit read [] keeps) y (Some m) told)
+  pub same-deliver : (x : NodeWorld) (y : rules.NodeWorld (fit read [] keeps)) (m : Message) (told : Bool)
+      → 0 < m.at.epoch → SameNode x y
+      → SameNode (delivered read x (Some m) told) (rules.deliver_to (fit read [] keeps) y (Some m) told)
   same-deliver x y m told low h = grind (arith, delivered-state, entered-state, entered-spans, fit, delivered-reached)
 
   pub same-foreign : (x : NodeWorld) (y : rules.NodeWorld (fit read [] keeps)) (f : ForeignCall) → SameNode x y
-      → SameNode (called read x (suc f.other) f.at f.call) (record { moves = rules.Foreign (Calls f) ∷ y.moves; sent = y.sent; told = y.told })
+      → SameNode (called read x (suc f.other) f.at f.call)
+      (record { moves = rules.Foreign (Calls f) ∷ y.moves; sent = y.sent; told = y.told })
   same-foreign x y f h = grind (arith, entered-state, foreign-spans)
 
   pub same-work : (x : NodeWorld) (y : rules.NodeWorld (fit read [] keeps)) (passed told : Bool) → SameNode x y
-      → SameNode (worked read x passed told) (record { moves = rules.Unit_done passed ∷ y.moves; sent = y.sent; told = if told then Showed (rules.NodeRules.status N (rules.NodeRules.unit N (rules.state_of (fit read [] keeps) y) passed)) ∷ y.told else y.told })
+      → SameNode (worked read x passed told)
+      (record {
+        moves = rules.Unit_done passed ∷ y.moves;
+        sent = y.sent;
+        told = if told then Showed
+            (rules.NodeRules.status N (rules.NodeRules.unit N (rules.state_of (fit read [] keeps) y) passed))
+            ∷ y.told else y.told;
+      })
   same-work x y passed told h = grind (arith, worked-state, worked-status, unit-is, unit_in, worked-spans, fit)

@@ -1,8 +1,9 @@
--- Two closed lists of events: one node installs a cluster and the campaign ends successful, or its check fails and it ends failed.
+-- Two closed lists of events: one node installs a cluster and the campaign ends successful,
+-- or its check fails and it ends failed.
 use Rattle.world.specs.World.{HasEvidence}
 use Rattle.std.specs.Prelude.{Contains, ℕ, suc, ◌<◌}
 use Rattle.world.proofs.Names.{◌≡◌, List, [], ◌∷◌, ◌++◌, Some, None, true, false, Ok, if◌then◌else◌, nat_eq, replicate}
-use Rattle.world.proofs.Names.{refl, inl, arith, Bytes, NodeSet, Install, Call, Sync, TransferStart, TransferData}
+use Rattle.world.proofs.Names.{refl, arith, Bytes, NodeSet, Install, Call, Sync, TransferStart, TransferData}
 use Rattle.world.proofs.Names.{TransferExit, ProcessSwPackage, Activate, Finish, Cluster, Part, Outcome, New, Old}
 use Rattle.world.proofs.Names.{Reading, Commit, Abort, Successful, Failed, MasterEvent, Start, Begin, PhaseTo, VoteOf}
 use Rattle.world.proofs.Names.{Decide, EndedAt, Enter, Shown, NamesOf, Packages, IsReading, IsEntered, spans, World}
@@ -14,7 +15,15 @@ use Rattle.campaign_core.specs.declared.events.Cause.TheVariants as Cause
 -- every package installs this cluster
 abbrev part : Part Bytes
 part = record {
-  manifest = record { action = Install; name = 97 ∷ []; version = 49 ∷ 46 ∷ 48 ∷ 46 ∷ 48 ∷ []; needs = []; sha256 = replicate 32 0 };
+  manifest =
+      record {
+        action = Install;
+        name = 97 ∷ [];
+        version = 49 ∷ 46 ∷ 48 ∷ 46 ∷ 48
+            ∷ [];
+        needs = [];
+        sha256 = replicate 32 0;
+      };
   payload = 9 ∷ [];
 }
 
@@ -84,28 +93,44 @@ some n = omega arith
 
 -- the last Sync is the evidence of the node's end
 shown-new : HasEvidence packages (7 ∷ []) (world_after start (commits [])) (EndedAt 1 New)
-shown-new = (refl, shown New, inl refl, refl, refl)
+shown-new = (refl, shown New, (0, some _, refl), refl, refl)
 
 shown-old : HasEvidence packages (7 ∷ []) (world_after start (aborts [])) (EndedAt 1 Old)
-shown-old = (refl, shown Old, inl refl, refl, refl)
+shown-old = (refl, shown Old, (0, some _, refl), refl, refl)
 
 -- each event may happen
 made-successful : Makes read packages (7 ∷ []) start successful (world_after start successful)
-made-successful = assumption (names, there, shown-new, some 0, some 1, some 2, some 3, some 4, some 5, some 6, some 7, some 8)
+made-successful =
+    assumption (names, there, shown-new, some 0, some 1, some 2, some 3, some 4, some 5, some 6, some 7, some 8)
 
 made-failed : Makes read packages (7 ∷ []) start failed (world_after start failed)
-made-failed = assumption (names, there, shown-old, some 0, some 1, some 2, some 3, some 4, some 5, some 6, some 7, some 8)
+made-failed =
+    assumption (names, there, shown-old, some 0, some 1, some 2, some 3, some 4, some 5, some 6, some 7, some 8)
 
 -- before each Enter
 abbrev until_activated : List MasterEvent
-until_activated = Start 1 ∷ Begin 7 one ∷ PhaseTo Phase.Transferring ∷ PhaseTo Phase.Processing ∷ PhaseTo Phase.Activating ∷ []
+until_activated =
+    Start 1 ∷ Begin 7 one ∷ PhaseTo Phase.Transferring ∷ PhaseTo Phase.Processing ∷ PhaseTo Phase.Activating ∷ []
 
 entered-successful : IsEntered 7 Successful (world_after start successful).list
-entered-successful = record { before = until_activated ++ VoteOf 1 Vote.Yes ∷ Decide Commit ∷ EndedAt 1 New ∷ []; after = []; there = refl; of = refl }
+entered-successful =
+    record {
+      before = until_activated ++ VoteOf 1 Vote.Yes ∷ Decide Commit ∷ EndedAt 1 New
+          ∷ [];
+      after = [];
+      there = refl;
+      of = refl;
+    }
 
 entered-failed : IsEntered 7 Failed (world_after start failed).list
 entered-failed =
-    record { before = until_activated ++ VoteOf 1 Vote.RolledBack ∷ Decide (Abort (Cause.Vote 1)) ∷ EndedAt 1 Old ∷ []; after = []; there = refl; of = refl }
+    record {
+      before = until_activated ++ VoteOf 1 Vote.RolledBack ∷ Decide (Abort (Cause.Vote 1)) ∷ EndedAt 1 Old
+          ∷ [];
+      after = [];
+      there = refl;
+      of = refl;
+    }
 
 -- one span, which ended New and left the cluster, or Old and left none
 abbrev installed : Cluster Bytes
@@ -114,10 +139,12 @@ installed = record { name = 97 ∷ []; version = 49 ∷ 46 ∷ 48 ∷ 46 ∷ 48 
 abbrev at_one : List Event → NodeWorld
 at_one events = (world_after start events).node 1
 
-left-new : spans read 7 (at_one successful).opening (at_one successful).history ≡ record { is_open = false; ended = record { outcome = Some New; saved = []; left = installed ∷ [] } ∷ [] }
+left-new : spans read 7 (at_one successful).opening (at_one successful).history
+    ≡ record { is_open = false; ended = record { outcome = Some New; saved = []; left = installed ∷ [] } ∷ [] }
 left-new = refl
 
-left-old : spans read 7 (at_one failed).opening (at_one failed).history ≡ record { is_open = false; ended = record { outcome = Some Old; saved = []; left = [] } ∷ [] }
+left-old : spans read 7 (at_one failed).opening (at_one failed).history
+    ≡ record { is_open = false; ended = record { outcome = Some Old; saved = []; left = [] } ∷ [] }
 left-old = refl
 
 running-new : (state_of read (at_one successful)).running ≡ installed ∷ []

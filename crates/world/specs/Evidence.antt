@@ -5,11 +5,9 @@ use Rattle.campaign_core.specs.declared.fold.Current.{Current}
 use Rattle.pm_types.specs.declared.replies.Reply.TheVariants.{Synced, Refused}
 use Rattle.pm_types.specs.declared.replies.Synced.{Synced as Shown}
 use Rattle.pm_types.specs.declared.status.Status.TheVariants.{Activated, RolledBack}
-use Rattle.pm_types.specs.declared.status.Status.TheVariants.{Activated, RolledBack}
-use Rattle.std.specs.Prelude.{◌≡◌, ◌≢◌, ℕ, ◌≤◌, List, [], ◌∷◌, length, Option, Some, None, true, false, Contains}
-use Rattle.std.specs.Prelude.{◌≡◌, ◌≢◌, ℕ, List, [], ◌∷◌, Contains, Option, Some, None, true, false}
+use Rattle.std.specs.Prelude.{◌≡◌, ◌≢◌, ◌↔◌, ℕ, ◌≤◌, List, [], ◌∷◌, length, Option, Some, None, true, false, Contains}
 use Rattle.ucm_base.specs.declared.ids.NodeSet.{NodeSet}
-use Rattle.world.specs.Messages.{Message, Told, InTold, Answered}
+use Rattle.world.specs.Messages.{Message, Told, Answered}
 use Rattle.world.specs.Sends.{Packages, showed_after_activate, is_end_sync, is_masters}
 
 -- the evidence of a vote
@@ -19,15 +17,19 @@ VoteEvidence (Vote.Refused at r) ts = (m : Message) × (m.at ≡ at) × Contains
 VoteEvidence Vote.RolledBack ts = showed_after_activate RolledBack ts ≡ true
 VoteEvidence (Vote.Unreached _ _) ts = Unit {0}
 
--- the node's last message is a Sync after the decision and in this epoch, and its answer shows no session of client 0 and no transfers
+-- the node's last message is a Sync after the decision and in this epoch,
+-- and its answer shows no session of client 0 and no transfers
 abbrev pub EndEvidence : ℕ → Current → List Told → List Message → Type 0
 EndEvidence epoch c ts [] = ⊥
 EndEvidence epoch c ts (m ∷ ms) =
-    (is_end_sync c.campaign epoch m ≡ true) × (x : Shown) × InTold (Answered m (Synced x)) ts × (is_masters x.session ≡ false) × (x.transfers ≡ [])
+    (is_end_sync c.campaign epoch m ≡ true) × (x : Shown) × Contains ts (Answered m (Synced x))
+    × (is_masters x.session ≡ false) × (x.transfers ≡ [])
 
 -- the named nodes are those of the steps
 abbrev pub NamesOf : Packages → ℕ → NodeSet → Type 0
-NamesOf packages k named = (length named.flags ≡ 8) × ((n : ℕ) → 1 ≤ n → n ≤ 8 → (flag_of named n ≡ true → packages k n ≢ []) × (packages k n ≢ [] → flag_of named n ≡ true))
+NamesOf packages k named =
+    (length named.flags ≡ 8)
+    × ((n : ℕ) → 1 ≤ n → n ≤ 8 → (flag_of named n ≡ true) ↔ (packages k n ≢ []))
 
 abbrev pub InCurrent : Option Current → (Current → Type 0) → Type 0
 InCurrent None P = ⊥

@@ -2,7 +2,7 @@
 use Rattle.std.specs.Prelude.{◌≡◌, ◌≢◌, ℕ, ◌≤◌, List, [], ◌∷◌, ◌++◌, flat_map, option_map, Some}
 use Rattle.ucm_base.specs.Parts.{Bytes}
 use Rattle.pm_types.specs.declared.clusters.Cluster.{Cluster}
-use Rattle.pm_types.specs.declared.clusters.Part.{Part}
+use Rattle.ucm_base.specs.declared.parts.Part.{Part}
 use Rattle.pm_types.specs.Transfers.{parts_read}
 use Rattle.pm_types.specs.Histories.{Reading}
 use Rattle.campaign_core.specs.declared.events.CampaignResult.{CampaignResult}
@@ -36,7 +36,8 @@ IsLeft read Cancelled k packages x = IsOld read k x.opening x.history
 abbrev pub CampaignLaw : Type 0
 CampaignLaw =
     (read : Reading) → IsReading read
-    → (packages : Packages) (numbers : List ℕ) (clusters : ℕ → List (Cluster Bytes)) → ((n : ℕ) → IsInstalled (clusters n))
+    → (packages : Packages) (numbers : List ℕ) (clusters : ℕ → List (Cluster Bytes))
+    → ((n : ℕ) → IsInstalled (clusters n))
     → (events : List Event) (w : World) → Makes read packages numbers (opened clusters) events w
     → (k : ℕ) (result : CampaignResult) → IsEntered k result w.list
     → (n : ℕ) → 1 ≤ n → n ≤ 8 → packages k n ≢ []

@@ -1,8 +1,10 @@
 pub mod Messages
 pub mod Rounds
 pub mod RoundCalls
+pub mod RoundsBySize
 pub mod Sends
 pub mod Evidence
+pub mod Attempts
 pub mod Words
 pub mod Spans
 pub mod World

@@ -1,4 +1,6 @@
 -- Messages to a node, what the master was told of it, and which call and reply is which.
+use Rattle.std.specs.Ordering.{is_eq}
+use Rattle.pm_types.specs.Steps.{call_no_cmp}
 use Rattle.pm_types.specs.NodeState.{status_code}
 use Rattle.pm_types.specs.declared.calls.Call.TheVariants.{Sync, ProcessSwPackage, Activate}
 use Rattle.pm_types.specs.declared.calls.Call.{Call}
@@ -7,19 +9,8 @@ use Rattle.pm_types.specs.declared.replies.Reached.{Reached}
 use Rattle.pm_types.specs.declared.replies.Reply.TheVariants.{Done, Refused}
 use Rattle.pm_types.specs.declared.replies.Reply.{Reply}
 use Rattle.pm_types.specs.declared.status.Status.{Status}
-use Rattle.std.specs.Prelude.{◌≡◌, ◌⊎◌, ℕ, zero, suc, ◌<◌, List, [], ◌∷◌, Option, Some, None, Bool, true, false, ◌&&◌, ◌||◌, if◌then◌else◌, nat_eq, is_some}
-use Rattle.std.specs.Prelude.{◌≡◌, ◌⊎◌, ℕ, ◌<◌, List, [], ◌∷◌, Option, Some, None, Bool, true, false, ◌&&◌, ◌||◌, if◌then◌else◌, nat_eq, nat_lt}
+use Rattle.std.specs.Prelude.{ℕ, List, [], ◌∷◌, Option, Some, None, Bool, true, false, if◌then◌else◌, nat_eq, is_some}
 use Rattle.ucm_base.specs.declared.ids.CallNo.{CallNo}
-
-abbrev pub no_lt : CallNo → CallNo → Bool
-no_lt a b = nat_lt a.epoch b.epoch || (nat_eq a.epoch b.epoch && nat_lt a.number b.number)
-
-abbrev pub no_eq : CallNo → CallNo → Bool
-no_eq a b = nat_eq a.epoch b.epoch && nat_eq a.number b.number
-
--- a is below b
-abbrev pub IsBelow : CallNo → CallNo → Type 0
-IsBelow a b = (a.epoch < b.epoch) ⊎ ((a.epoch ≡ b.epoch) × (a.number < b.number))
 
 abbrev pub is_status : Status → Status → Bool
 is_status a b = nat_eq (status_code a) (status_code b)
@@ -40,23 +31,10 @@ pub data Told : Type 0 where
   Answered : (message : Message) (reply : Reply) → Told
   Showed : (status : Status) → Told
 
-abbrev pub InSent : Message → List Message → Type 0
-InSent m [] = ⊥
-InSent m (y ∷ ys) = (m ≡ y) ⊎ InSent m ys
-
-abbrev pub nth_sent : List Message → ℕ → Option Message
-nth_sent [] i = None
-nth_sent (m ∷ ms) zero = Some m
-nth_sent (m ∷ ms) (suc i) = nth_sent ms i
-
-abbrev pub InTold : Told → List Told → Type 0
-InTold t [] = ⊥
-InTold t (y ∷ ys) = (t ≡ y) ⊎ InTold t ys
-
 -- the reply that was told to this message
 abbrev pub told_reply : List Told → CallNo → Option Reply
 told_reply [] at = None
-told_reply (Answered m r ∷ ts) at = if no_eq m.at at then Some r else told_reply ts at
+told_reply (Answered m r ∷ ts) at = if is_eq (call_no_cmp m.at at) then Some r else told_reply ts at
 told_reply (Showed _ ∷ ts) at = told_reply ts at
 
 abbrev pub is_told : List Told → CallNo → Bool

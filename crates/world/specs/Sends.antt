@@ -1,4 +1,6 @@
 -- What may be sent, by what the master was told.
+use Rattle.std.specs.List.{list_any}
+use Rattle.std.specs.Option.{option_or}
 use Rattle.pm_types.specs.NodeState.{is_working}
 use Rattle.campaign_core.specs.Campaign.{vote_of, end_of, is_marked}
 use Rattle.campaign_core.specs.Nodes.{flag_of}
@@ -15,13 +17,11 @@ use Rattle.pm_types.specs.declared.replies.Reply.{Reply}
 use Rattle.pm_types.specs.declared.replies.SessionMark.{SessionMark}
 use Rattle.pm_types.specs.declared.replies.Synced.{Synced as Shown}
 use Rattle.pm_types.specs.declared.status.Status.TheVariants.{Idle, Ready, Activated, RolledBack}
-use Rattle.pm_types.specs.declared.status.Status.TheVariants.{Idle, Ready, Activated, RolledBack}
 use Rattle.pm_types.specs.declared.status.Status.{Status}
 use Rattle.std.specs.Prelude.{◌≡◌, ℕ, ◌+◌, List, [], ◌∷◌, ◌++◌, Option, Some, None, Bool, true, false, not, ◌&&◌, ◌||◌, if◌then◌else◌, nat_eq, is_some}
-use Rattle.std.specs.Prelude.{◌≡◌, ℕ, List, [], ◌∷◌, ◌++◌, Option, Some, None, Bool, true, false, ◌&&◌, ◌||◌, if◌then◌else◌, nat_eq}
 use Rattle.ucm_base.specs.declared.ids.CallNo.{CallNo}
 use Rattle.world.specs.Messages.{is_status, is_refusal, Message, Told, told_reply, is_told, is_process, is_activate, is_sync, is_done, Answered, Showed}
-use Rattle.world.specs.Rounds.{At_sync, call_at, stage_of}
+use Rattle.world.specs.Rounds.{AtSync, call_at, stage_of}
 
 -- at which number, and with which packages, the campaigns go
 abbrev pub Packages : Type 0
@@ -81,15 +81,11 @@ abbrev pub shown_if : Bool → Reply → Option Shown
 shown_if true (Synced x) = Some x
 shown_if _ _ = None
 
-abbrev pub or_else : {A : Type 0} → Option A → Option A → Option A
-or_else None b = b
-or_else (Some a) b = Some a
-
 -- what the last such Sync showed
 abbrev pub last_shown : ℕ → ℕ → List Told → Option Shown
 last_shown k epoch [] = None
 last_shown k epoch (Showed s ∷ ts) = last_shown k epoch ts
-last_shown k epoch (Answered m r ∷ ts) = or_else (shown_if (is_end_sync k epoch m) r) (last_shown k epoch ts)
+last_shown k epoch (Answered m r ∷ ts) = option_or (shown_if (is_end_sync k epoch m) r) (last_shown k epoch ts)
 
 abbrev pub session_status : Option SessionMark → Status
 session_status None = Idle
@@ -106,20 +102,17 @@ status_of_shown (Some x) = Some (session_status x.session)
 -- the last status that the answer of such a Sync or a later unit's answer gave
 abbrev pub last_status : ℕ → ℕ → List Told → Option Status
 last_status k epoch [] = None
-last_status k epoch (Showed s ∷ ts) = or_else (status_if (is_some (last_shown k epoch ts)) s) (last_status k epoch ts)
-last_status k epoch (Answered m r ∷ ts) = or_else (status_of_shown (shown_if (is_end_sync k epoch m) r)) (last_status k epoch ts)
+last_status k epoch (Showed s ∷ ts) = option_or (status_if (is_some (last_shown k epoch ts)) s) (last_status k epoch ts)
+last_status k epoch (Answered m r ∷ ts) =
+    option_or (status_of_shown (shown_if (is_end_sync k epoch m) r)) (last_status k epoch ts)
 
 abbrev pub is_masters : Option SessionMark → Bool
 is_masters None = false
 is_masters (Some x) = nat_eq x.owner 0
 
-abbrev pub contains_id : ℕ → List ℕ → Bool
-contains_id id [] = false
-contains_id id (x ∷ xs) = nat_eq id x || contains_id id xs
-
 abbrev pub lists_free : ℕ → Option Shown → Bool
 lists_free id None = false
-lists_free id (Some x) = not (is_masters x.session) && contains_id id x.transfers
+lists_free id (Some x) = not (is_masters x.session) && list_any (λ there. nat_eq id there) x.transfers
 
 -- the calls that the status and the decision allow
 abbrev pub end_call : Decision → Status → Call → Bool
@@ -142,7 +135,8 @@ abbrev pub next_number : ℕ → List Message → CallNo
 next_number epoch [] = record { epoch = epoch; number = 1 }
 next_number epoch (m ∷ ms) = record { epoch = epoch; number = if nat_eq m.at.epoch epoch then m.at.number + 1 else 1 }
 
--- the message before it in this epoch is answered, or was sent before this campaign's Begin, or before the decision and this one comes after it
+-- the message before it in this epoch is answered, or was sent before this campaign's Begin,
+-- or before the decision and this one comes after it
 abbrev pub may_follow : ℕ → Current → List Told → List Message → Bool
 may_follow epoch c ts [] = true
 may_follow epoch c ts (m ∷ ms) =
@@ -150,29 +144,34 @@ may_follow epoch c ts (m ∷ ms) =
     || (is_told ts m.at || (not (nat_eq m.campaign c.campaign) || (not m.decided && is_some c.decision)))
 
 -- the call that the rounds ask for next: where the stages are after the told replies, in the order of the messages
-abbrev pub is_next_call : Packages → ℕ → Current → List Told → List Message → Call → Type 0
-is_next_call packages n c ts sent call =
-    call_at c.campaign (stage_of (packages c.campaign n) At_sync (replies_of c.campaign ts sent)) ≡ Some call
+abbrev pub IsNextCall : Packages → ℕ → Current → List Told → List Message → Call → Type 0
+IsNextCall packages n c ts sent call =
+    call_at c.campaign (stage_of (packages c.campaign n) AtSync (replies_of c.campaign ts sent)) ≡ Some call
 
 -- before the decision
-pub record MaySendEarly (packages : Packages) (n : ℕ) (c : Current) (ts : List Told) (sent : List Message) (call : Call) : Type 0 where
+pub record MaySendEarly (packages : Packages) (n : ℕ) (c : Current) (ts : List Told) (sent : List Message) (call : Call)
+    : Type 0 where
   pub no_mark : is_marked c ≡ false
   pub no_vote : vote_of c n ≡ None
   pub no_refusal : has_refusal ts ≡ false
-  pub next : is_next_call packages n c ts sent call
+  pub next : IsNextCall packages n c ts sent call
   pub due : is_due c.phase call ≡ true
   pub settled : is_settled ts ≡ true
 
 -- after it
 pub record MaySendLate (epoch n : ℕ) (c : Current) (d : Decision) (ts : List Told) (call : Call) : Type 0 where
   pub not_ended : end_of c n ≡ None
-  pub allowed : (is_sync call || (end_call_at d (last_status c.campaign epoch ts) call || delete_at (last_shown c.campaign epoch ts) call)) ≡ true
+  pub allowed :
+      (is_sync call
+      || (end_call_at d (last_status c.campaign epoch ts) call || delete_at (last_shown c.campaign epoch ts) call))
+      ≡ true
 
 abbrev pub MaySendBy : Packages → ℕ → ℕ → Current → Option Decision → List Told → List Message → Call → Type 0
 MaySendBy packages epoch n c None ts sent call = MaySendEarly packages n c ts sent call
 MaySendBy packages epoch n c (Some d) ts sent call = MaySendLate epoch n c d ts call
 
-pub record MaySend (packages : Packages) (epoch n : ℕ) (c : Current) (ts : List Told) (sent : List Message) (call : Call) : Type 0 where
+pub record MaySend (packages : Packages) (epoch n : ℕ) (c : Current) (ts : List Told) (sent : List Message)
+    (call : Call) : Type 0 where
   pub named : flag_of c.named n ≡ true
   pub follows : may_follow epoch c ts sent ≡ true
   pub by : MaySendBy packages epoch n c c.decision ts sent call

@@ -6,7 +6,7 @@ use Rattle.ucm_base.specs.Parts.{Bytes}
 use Rattle.pm_types.specs.declared.calls.Call.{Call}
 use Rattle.pm_types.specs.declared.calls.Call.TheVariants.{ProcessSwPackage}
 use Rattle.pm_types.specs.declared.clusters.Cluster.{Cluster}
-use Rattle.pm_types.specs.declared.clusters.Part.{Part}
+use Rattle.ucm_base.specs.declared.parts.Part.{Part}
 use Rattle.pm_types.specs.declared.history.Entry.{Entry}
 use Rattle.pm_types.specs.declared.history.Entry.TheVariants.{Numbered, Unit as UnitDone}
 use Rattle.pm_types.specs.declared.status.Outcome.{Outcome}
@@ -34,7 +34,8 @@ has_tag k _ = false
 
 -- a span begins with an accepted ProcessSwPackage of client 0 with this tag in Idle
 abbrev pub begins : ℕ → NodeState → Entry → Bool
-begins k s (Numbered client at call reply) = nat_eq client 0 && (has_tag k call && (is_status s.status Idle && is_done reply))
+begins k s (Numbered client at call reply) =
+    nat_eq client 0 && (has_tag k call && (is_status s.status Idle && is_done reply))
 begins k s (UnitDone passed after) = false
 
 -- and ends with the unit in CleaningUp
@@ -64,7 +65,8 @@ spans_from read k s (e ∷ es) x = spans_from read k (after_entry read s e) es (
 abbrev pub spans : Reading → ℕ → NodeState → List Entry → Spans
 spans read k s es = spans_from read k s es (record { is_open = false; ended = [] })
 
--- exactly one span, which ended as New; after it each cluster of the parts is as they leave it, and every other as it was saved
+-- exactly one span, which ended as New; after it each cluster of the parts is as they leave it,
+-- and every other as it was saved
 pub record IsNew (read : Reading) (k : ℕ) (parts : List (Part Bytes)) (s : NodeState) (es : List Entry) : Type 0 where
   pub span : Span
   pub only : spans read k s es ≡ record { is_open = false; ended = span ∷ [] }

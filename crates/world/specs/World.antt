@@ -1,5 +1,6 @@
--- Nodes with their histories, the master's list, and the messages between them: which event may happen, and what it makes.
-use Rattle.std.specs.Prelude.{◌≡◌, ℕ, ◌+◌, ◌<◌, ◌≤◌, ⊤, IsTrue, Bool, ◌||◌, if◌then◌else◌, nat_eq, List, [], ◌∷◌, ◌++◌, length, Contains, Option, Some, None}
+-- Nodes with their histories, the master's list, and the messages between them: which event may happen,
+-- and what it makes.
+use Rattle.std.specs.Prelude.{◌≡◌, ℕ, ◌+◌, ◌<◌, ◌≤◌, ⊤, IsTrue, Bool, ◌||◌, if◌then◌else◌, nat_eq, List, [], ◌∷◌, ◌++◌, length, Contains, Option, Some, None, slice_get}
 use Rattle.ucm_base.specs.Limits.{client_limit}
 use Rattle.ucm_base.specs.Parts.{Bytes}
 use Rattle.ucm_base.specs.declared.ids.CallNo.{CallNo}
@@ -19,11 +20,12 @@ use Rattle.campaign_core.specs.declared.events.MasterEvent.{MasterEvent}
 use Rattle.campaign_core.specs.declared.events.MasterEvent.TheVariants.{Start, Begin, PhaseTo, VoteOf, CancelAsked, Decide, EndedAt, Enter}
 use Rattle.campaign_core.specs.declared.fold.Fold.{Fold}
 use Rattle.campaign_core.specs.Campaign.{campaign, refusal_of}
-use Rattle.world.specs.Messages.{Message, Told, Showed, nth_sent, answer_of}
+use Rattle.world.specs.Messages.{Message, Told, Showed, answer_of}
 use Rattle.world.specs.Sends.{Packages, MaySend, next_number, campaign_of, decided_of, empties}
 use Rattle.world.specs.Evidence.{InCurrent, VoteEvidence, EndEvidence, NamesOf}
 
--- one node: its history since its opening, the oldest entry first, what was sent to it and what the master was told of it, the newest first
+-- one node: its history since its opening, the oldest entry first,
+-- what was sent to it and what the master was told of it, the newest first
 pub record NodeWorld : Type 0 where
   pub opening : NodeState
   pub history : List Entry
@@ -41,7 +43,8 @@ fold_of w = campaign w.list
 abbrev pub state_of : Reading → NodeWorld → NodeState
 state_of read x = state_after read x.opening x.history
 
--- what can happen: a message arrives, another client calls, a unit of work is asked for, a message is sent, the master records
+-- what can happen: a message arrives, another client calls, a unit of work is asked for, a message is sent,
+-- the master records
 pub data Event : Type 0 where
   Deliver : (node which : ℕ) (told : Bool) → Event
   Foreign : (node client : ℕ) (at : CallNo) (call : Call) → Event
@@ -58,14 +61,16 @@ HasEvidence packages numbers w (PhaseTo _) = ⊤
 HasEvidence packages numbers w (VoteOf n v) = VoteEvidence v (w.node n).told
 HasEvidence packages numbers w CancelAsked = ⊤
 HasEvidence packages numbers w (Decide _) = ⊤
-HasEvidence packages numbers w (EndedAt n o) = InCurrent (fold_of w).current (λ c. EndEvidence (fold_of w).epoch c (w.node n).told (w.node n).sent)
+HasEvidence packages numbers w (EndedAt n o) =
+    InCurrent (fold_of w).current (λ c. EndEvidence (fold_of w).epoch c (w.node n).told (w.node n).sent)
 HasEvidence packages numbers w (Enter _) = ⊤
 
 -- an event may happen
 abbrev pub IsAllowed : Reading → Packages → List ℕ → World → Event → Type 0
 IsAllowed read packages numbers w (Deliver n which told) = which < length (w.node n).sent
 IsAllowed read packages numbers w (Foreign n client at call) = (1 ≤ client) × (client < client_limit)
-IsAllowed read packages numbers w (Work n passed told) = IsTrue (passed || has_status Verifying (state_of read (w.node n)))
+IsAllowed read packages numbers w (Work n passed told) =
+    IsTrue (passed || has_status Verifying (state_of read (w.node n)))
 IsAllowed read packages numbers w (Send n call) =
     InCurrent (fold_of w).current (λ c. MaySend packages (fold_of w).epoch n c (w.node n).told (w.node n).sent call)
 IsAllowed read packages numbers w (Record e) = (refusal_of (fold_of w) e ≡ None) × HasEvidence packages numbers w e
@@ -82,7 +87,8 @@ entered es client at call (Again _) = es
 entered es client at call (Stale _) = es
 
 abbrev pub called : Reading → NodeWorld → ℕ → CallNo → Call → NodeWorld
-called read x client at call = record x { history = entered x.history client at call (reached read (state_of read x) client at call) }
+called read x client at call =
+    record x { history = entered x.history client at call (reached read (state_of read x) client at call) }
 
 -- a message arrives, and its reply is told or lost
 abbrev pub delivered : Reading → NodeWorld → Option Message → Bool → NodeWorld
@@ -129,7 +135,7 @@ recorded w e = record {
 
 -- the world after an event
 abbrev pub happens : Reading → World → Event → World
-happens read w (Deliver n which told) = with_node w n (delivered read (w.node n) (nth_sent (w.node n).sent which) told)
+happens read w (Deliver n which told) = with_node w n (delivered read (w.node n) (slice_get (w.node n).sent which) told)
 happens read w (Foreign n client at call) = with_node w n (called read (w.node n) client at call)
 happens read w (Work n passed told) = with_node w n (worked read (w.node n) passed told)
 happens read w (Send n call) = with_node w n (record (w.node n) { sent = message w n call ∷ (w.node n).sent })
@@ -138,9 +144,11 @@ happens read w Restart = recorded w (Start ((fold_of w).epoch + 1))
 
 -- a world in which nothing has happened yet, with the clusters of each node
 abbrev pub opened : (ℕ → List (Cluster Bytes)) → World
-opened clusters = record { list = []; node = λ n. record { opening = formatted (clusters n); history = []; sent = []; told = [] } }
+opened clusters =
+    record { list = []; node = λ n. record { opening = formatted (clusters n); history = []; sent = []; told = [] } }
 
 -- a list of events that may happen one after another makes a world of another
 abbrev pub Makes : Reading → Packages → List ℕ → World → List Event → World → Type 0
 Makes read packages numbers w [] v = v ≡ w
-Makes read packages numbers w (e ∷ es) v = IsAllowed read packages numbers w e × Makes read packages numbers (happens read w e) es v
+Makes read packages numbers w (e ∷ es) v =
+    IsAllowed read packages numbers w e × Makes read packages numbers (happens read w e) es v

@@ -6,12 +6,17 @@
 //! as successful left each named node new, and one entered as failed or cancelled left each old.
 #![tactic(auto)]
 
+ghost use Rattle.world.specs.Attempts.{RepliesAreGot};
 ghost use Rattle.world.specs.Law.{CampaignLaw};
-ghost use Rattle.world.specs.RoundCalls.{RoundsInOrder};
+ghost use Rattle.world.specs.RoundCalls.{RoundsEnd, RoundsInOrder};
+ghost use Rattle.world.specs.RoundsBySize.{GoesBySize};
 
 /// The law of campaigns. What a world is, what may be sent, and what a record needs to have been told
 /// are the definitions in `specs/`; docs/CAMPAIGN-LAW.md reads them aloud.
 pub fn campaign_law()
     ensures law { CampaignLaw }
     ensures rounds { RoundsInOrder }
+    ensures ends { RoundsEnd }
+    ensures by_size { GoesBySize }
+    ensures attempts { RepliesAreGot }
 {}
