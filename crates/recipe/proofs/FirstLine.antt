@@ -6,7 +6,8 @@ use Rattle.scenario.specs.Scripts.{pieces, pieces_left, size_left, text_left}
 use Rattle.recipe.specs.Lines.{without_end, lines_in}
 
 -- a line before another stays
-before : (line : List ℕ) (lines : List (List ℕ)) → 0 < length lines → without_end (line ∷ lines) ≡ line ∷ without_end lines
+before : (line : List ℕ) (lines : List (List ℕ)) → 0 < length lines
+    → without_end (line ∷ lines) ≡ line ∷ without_end lines
 before [] [] h = absurd (omega arith)
 before [] (l ∷ ls) h = refl
 before (b ∷ bs) ls h = refl
@@ -17,7 +18,10 @@ alone [] h = absurd (omega arith)
 alone (b ∷ bs) h = refl
 
 -- a text that isn't empty begins with a line: its first piece
-pub first-line : (text line : List ℕ) (left : Option (Bor (List ℕ))) (none : Bor (List ℕ)) → none.now ≡ [] → 0 < length text → pieces 10 text ≡ line ∷ pieces_left 10 (text_left left) → length line + size_left (text_left left) ≡ length text → (lines_in text ≡ line ∷ lines_in (unwrap_or left none).now) × (length (unwrap_or left none).now < length text)
+pub first-line : (text line : List ℕ) (left : Option (Bor (List ℕ))) (none : Bor (List ℕ)) → none.now ≡ []
+    → 0 < length text → pieces 10 text ≡ line ∷ pieces_left 10 (text_left left)
+    → length line + size_left (text_left left) ≡ length text
+    → (lines_in text ≡ line ∷ lines_in (unwrap_or left none).now) × (length (unwrap_or left none).now < length text)
 first-line text line (Some rest) none e some split size =
     let more : 0 < length (pieces 10 rest.now) = rw length-slice_split (omega arith) in
     (ap without_end split ∙ before line (pieces 10 rest.now) more, omega (arith, size))

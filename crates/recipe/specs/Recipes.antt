@@ -1,55 +1,89 @@
 -- Recipes: the packages that their lines make, or the first line that is refused.
-use Rattle.std.specs.Prelude.{ℕ, ◌+◌, ◌&&◌, not, nat_lt, Bool, if◌then◌else◌, List, [], ◌∷◌, ◌++◌, length, Option, Some, None, Result, Ok, Err}
+use Rattle.std.specs.Prelude.{ℕ, ◌+◌, ◌&&◌, not, nat_le, nat_lt, Bool, if◌then◌else◌, List, [], ◌∷◌, ◌++◌, length, map, position, slice_get, slice_set, codes, Option, Some, None, Result, Ok, Err, ok_or}
 use Rattle.std.specs.List.{list_any}
 use Rattle.std.specs.Str.{bytes_eq}
-use Rattle.package_reader.specs.Printing.{is_too_large, package_text}
+use Rattle.ucm_base.specs.Limits.{carried_limit, need_limit, part_limit}
+use Rattle.ucm_base.specs.Parts.{Bytes, cluster_of}
+use Rattle.ucm_base.specs.declared.parts.Part.{Part}
+use Rattle.package_reader.specs.Printing.{is_too_large}
 use Rattle.scenario.specs.declared.why.Why.{Why}
-use Rattle.scenario.specs.declared.why.Why.TheVariants.{Twice, Limit}
+use Rattle.scenario.specs.declared.why.Why.TheVariants.{Form, Value, Unknown, Twice, Limit}
 use Rattle.scenario.specs.Readings.{◌>>=◌, given}
-use Rattle.scenario.specs.Scripts.{Refused, followed}
-use Rattle.recipe.specs.declared.packages.NamedPackage.{NamedPackage}
-use Rattle.recipe.specs.declared.made.TheConstants.{MADE_LIMIT}
-use Rattle.recipe.specs.Packages.{package_in}
+use Rattle.scenario.specs.Words.{name_in}
+use Rattle.scenario.specs.Scripts.{Refused, followed, words_of}
+use Rattle.recipe.specs.declared.parts.NamedPackage.{NamedPackage}
+use Rattle.recipe.specs.declared.words.Making.{Making}
+use Rattle.recipe.specs.declared.words.Making.TheVariants.{Package, With}
+use Rattle.recipe.specs.Packages.{making_of, part_in}
 use Rattle.recipe.specs.Lines.{lines_in}
 
--- the packages that one recipe may make
-abbrev pub made_limit : ℕ
-made_limit = MADE_LIMIT
+-- the place of the package of a name
+abbrev pub place_of : List NamedPackage → List ℕ → Option ℕ
+place_of made name = position (λ p. bytes_eq p.name name) made
 
--- a package's bytes, under its name
-pub record NamedBytes : Type 0 where
-  pub name : List ℕ
-  pub bytes : List ℕ
+abbrev pub has_named : List NamedPackage → List ℕ → Bool
+has_named made name = list_any (λ p. bytes_eq p.name name) made
 
-abbrev pub printed : NamedPackage → NamedBytes
-printed p = record { name = p.name; bytes = package_text p.contents }
+-- the name of the package that a line makes or adds to; `vehicle` is kept for the vehicle
+abbrev pub owner_in : List NamedPackage → Making → List ℕ → Result (List ℕ) Why
+owner_in made Package word = name_in word >>= λ n. given (not (bytes_eq n (codes "vehicle"))) n Value
+owner_in made With word = name_in word >>= λ n. given (has_named made n) n Unknown
 
-abbrev pub has_named : List NamedBytes → List ℕ → Bool
-has_named made name = list_any (λ a. bytes_eq a.name name) made
+-- the parts with one more, which is of another cluster, within the limits of a package
+abbrev pub with_part : List (Part Bytes) → Part Bytes → Result (List (Part Bytes)) Why
+with_part parts part =
+    if list_any (λ other. bytes_eq (cluster_of other) (cluster_of part)) parts then Err Twice
+    else given (nat_lt (length parts) part_limit && not (is_too_large (parts ++ part ∷ []))) (parts ++ part ∷ []) Limit
 
--- at most 128 packages, each within the limits of a package
-abbrev pub has_room : List NamedBytes → NamedPackage → Bool
-has_room made p = nat_lt (length made) made_limit && not (is_too_large p.contents)
+-- one package more, at most 128 of different names
+abbrev pub added : List NamedPackage → List ℕ → Part Bytes → Result (List NamedPackage) Why
+added made name part =
+    if has_named made name then Err Twice
+    else given (nat_lt (length made) carried_limit) [] Limit >>= λ none. with_part none part
+    >>= λ parts. Ok (made ++ record { name = name; parts = parts } ∷ [])
 
--- one package more, unless its name stands above or a limit is passed
-abbrev pub added : List NamedBytes → NamedPackage → Result (List NamedBytes) Why
-added made p =
-    if has_named made p.name then Err Twice
-    else given (has_room made p) (made ++ printed p ∷ []) Limit
+-- one part more in the package of a name
+abbrev pub joined : List NamedPackage → List ℕ → Part Bytes → Result (List NamedPackage) Why
+joined made name part = do
+  place ← ok_or (place_of made name) Unknown
+  owner ← ok_or (slice_get made place) Unknown
+  parts ← with_part owner.parts part
+  Ok (slice_set made place (record owner { parts = parts }))
 
-abbrev pub with_package : List NamedBytes → Option NamedPackage → Result (List NamedBytes) Why
-with_package made None = Ok made
-with_package made (Some p) = added made p
+abbrev pub put : List NamedPackage → Making → List ℕ → Part Bytes → Result (List NamedPackage) Why
+put made Package name part = added made name part
+put made With name part = joined made name part
+
+abbrev pub made_of : List NamedPackage → Making → List ℕ → List ℕ → List ℕ → List ℕ → List ℕ → List (List ℕ)
+    → Result (List NamedPackage) Why
+made_of made making name action cluster version block needs = do
+  n ← owner_in made making name
+  part ← part_in action cluster version block needs
+  put made making n part
+
+-- `<name> <action> <cluster> <version> <block> <need>*`, with at most 16 needs
+abbrev pub made_by : List NamedPackage → Making → List (List ℕ) → Result (List NamedPackage) Why
+made_by made making (name ∷ action ∷ cluster ∷ version ∷ block ∷ needs) =
+    if nat_le (length needs) need_limit then made_of made making name action cluster version block needs else Err Form
+made_by made making _ = Err Form
+
+abbrev pub made_if : List NamedPackage → List (List ℕ) → Option Making → Result (List NamedPackage) Why
+made_if made words (Some making) = made_by made making words
+made_if made words None = Ok made
 
 -- what is made below a line, where this is made above it
-abbrev pub below : List NamedBytes → List ℕ → Result (List NamedBytes) Why
-below made line = package_in line >>= with_package made
+abbrev pub below_words : List NamedPackage → List (List ℕ) → Result (List NamedPackage) Why
+below_words made [] = Ok made
+below_words made (first ∷ words) = making_of first >>= made_if made words
+
+abbrev pub below : List NamedPackage → List ℕ → Result (List NamedPackage) Why
+below made line = below_words made (words_of line)
 
 -- what lines make below others, where the first of them is the n-th
-abbrev pub made_from : ℕ → List NamedBytes → List (List ℕ) → Result (List NamedBytes) Refused
+abbrev pub made_from : ℕ → List NamedPackage → List (List ℕ) → Result (List NamedPackage) Refused
 made_from n made [] = Ok made
 made_from n made (line ∷ lines) = followed n (λ m. made_from (n + 1) m lines) (below made line)
 
 -- the packages that a recipe makes, in order of its lines
-abbrev pub recipe_of : List ℕ → Result (List NamedBytes) Refused
+abbrev pub recipe_of : List ℕ → Result (List NamedPackage) Refused
 recipe_of input = made_from 1 [] (lines_in input)

@@ -7,13 +7,10 @@
 #![tactic(auto)]
 
 mod fault;
-mod made;
-mod packages;
 mod packing;
+mod parts;
 mod recipe;
-#[cfg(test)]
-mod tests;
+mod words;
 
 pub use fault::PackError;
-pub use made::MADE_LIMIT;
 pub use packing::{Kind, pack};

@@ -1,78 +1,101 @@
 //! Recipes, read line by line.
-ghost use Rattle.std.specs.Prelude.{◌≡◌, ◌++◌, ◌<◌, ◌∷◌, [], IfOk, IfErr, OnOk, Ok, Err, length, ℕ};
+ghost use Rattle.std.specs.Prelude.{◌≡◌, ◌<◌, ◌≤◌, ◌∷◌, [], IfOk, IfErr, IsTrue, Ok, Err, None, length, map, ℕ};
+ghost use Rattle.ucm_base.specs.Limits.{need_limit};
 ghost use Rattle.scenario.specs.declared.why.Why.{Why};
 ghost use Rattle.scenario.specs.Readings.{Becomes};
 ghost use Rattle.recipe.specs.Lines.{lines_in};
-ghost use Rattle.recipe.specs.Packing.{attach_text, line_text, text_of};
-ghost use Rattle.recipe.specs.Recipes.{added, below, printed, recipe_of};
+ghost use Rattle.recipe.specs.Packing.{first_word};
+ghost use Rattle.recipe.specs.Recipes.{below, below_words, made_by, made_of, recipe_of};
 
 use crate::fault::{PackError, fault_at};
-use crate::made::{Attachment, attachment_of};
-use crate::packages::{NamedPackage, read_line};
-use scenario::{WordError, first_piece};
-use std::alloc::{AllocError, Global};
+use crate::parts::{NamedPackage, owner, put};
+use crate::words::{Making, PartWords, making_of, read_part};
+use scenario::{Why, WordError, first_piece};
+use std::alloc::Global;
+use ucm_base::limits::NEED_LIMIT;
+use ucm_text::words_of;
 
-/// What the lines so far make.
-#[derive(Drop)]
-pub struct Recipe {
-    /// The lines of the script, each ended by a line feed.
-    pub text: Vec<u8>,
-    /// The packages.
-    pub made: Vec<Attachment>,
-}
-
-/// Adds a line and a line feed.
-fn add_text(text: &mut Vec<u8>, line: &[u8]) -> Result<(), AllocError>
-    ensures { OnOk result (text.new.items ≡ text.old.items ++ line.now ++ 10 ∷ []) }
+/// Adds the part that these words make, with these needs, to the package of a name.
+fn make_part(
+    alloc: Global,
+    made: &mut Vec<NamedPackage>,
+    making: Making,
+    named: &[u8],
+    words: &PartWords<'_>,
+    needed: &[&[u8]],
+) -> Result<(), WordError>
+    requires { length needed.now ≤ need_limit }
+    ensures { Becomes result made.new.items (made_of made.old.items making named.now
+        words.now.action.now words.now.cluster.now words.now.version.now words.now.block.now
+        (map (λ w. w.now) needed.now)) }
 {
-    text.extend_from_slice(line)?;
-    text.push(b'\n')?;
-    Ok(())
+    let name = owner(made.as_slice(), making, named)?;
+    let part = read_part(alloc, words, needed)?;
+    put(alloc, made, making, name, part)
 }
 
-impl Recipe {
-    /// What no lines make.
-    fn new(alloc: Global) -> Recipe
-        ensures text { result.text.items ≡ [] }
-        ensures made { result.made.items ≡ [] }
-    {
-        Recipe {
-            text: Vec::new(alloc),
-            made: Vec::new(alloc),
-        }
-    }
-
-    /// Adds what a package line makes, and the line that attaches it.
-    fn attach(&mut self, alloc: Global, named: &NamedPackage) -> Result<(), WordError>
-        ensures made { Becomes result self.new.made.items (added self.old.made.items named.now) }
-        ensures text { OnOk result (self.new.text.items
-            ≡ self.old.text.items ++ attach_text (printed named.now) ++ 10 ∷ []) }
-    {
-        let attachment = attachment_of(alloc, self.made.as_slice(), named)?;
-        let line = attachment.line(alloc)?;
-        add_text(&mut self.text, line.as_bytes())?;
-        self.made.push(attachment)?;
-        Ok(())
-    }
-
-    /// Adds a line.
-    fn add(&mut self, alloc: Global, line: &[u8]) -> Result<(), WordError>
-        ensures made { Becomes result self.new.made.items (below self.old.made.items line.now) }
-        ensures text { OnOk result (self.new.text.items
-            ≡ self.old.text.items ++ line_text line.now ++ 10 ∷ []) }
-    {
-        match read_line(alloc, line)? {
-            Some(named) => self.attach(alloc, &named),
-            None => {
-                add_text(&mut self.text, line)?;
-                Ok(())
+/// Adds what a line makes, by its words behind the first.
+fn make(
+    alloc: Global,
+    made: &mut Vec<NamedPackage>,
+    making: Making,
+    words: &[&[u8]],
+) -> Result<(), WordError>
+    ensures { Becomes result made.new.items
+        (made_by made.old.items making (map (λ w. w.now) words.now)) }
+{
+    match words {
+        [named, action, cluster, version, block, needed @ ..] => {
+            if needed.len() as u64 > NEED_LIMIT {
+                return Err(WordError::Refused(Why::Form));
             }
+            let words = PartWords {
+                action,
+                cluster,
+                version,
+                block,
+            };
+            make_part(alloc, made, making, named, &words, needed)
         }
+        _ => Err(WordError::Refused(Why::Form)),
     }
+}
+
+/// Adds what these words of a line make.
+fn add_words(alloc: Global, made: &mut Vec<NamedPackage>, words: &[&[u8]]) -> Result<(), WordError>
+    ensures { Becomes result made.new.items
+        (below_words made.old.items (map (λ w. w.now) words.now)) }
+{
+    match words {
+        [first, words @ ..] => match making_of(first)? {
+            Some(making) => make(alloc, made, making, words),
+            None => Ok(()),
+        },
+        [] => Ok(()),
+    }
+}
+
+/// The first word of a line.
+pub(crate) fn first_word(line: &[u8]) -> &[u8]
+    ensures { result.now ≡ first_word line.now }
+{
+    let (word, _) = first_piece(line, b' ');
+    word
+}
+
+/// Adds what a line makes. A line that isn't a recipe's own takes no memory.
+fn add_line(alloc: Global, made: &mut Vec<NamedPackage>, line: &[u8]) -> Result<(), WordError>
+    ensures { Becomes result made.new.items (below made.old.items line.now) }
+{
+    if let Ok(None) = making_of(first_word(line)) {
+        return Ok(());
+    }
+    let words = words_of(alloc, line)?;
+    add_words(alloc, made, words.as_slice())
 }
 
 /// The first line of a text, and the text behind it.
-fn first_line(text: &[u8]) -> (&[u8], &[u8])
+pub(crate) fn first_line(text: &[u8]) -> (&[u8], &[u8])
     requires { 0 < length text.now }
     ensures lines { lines_in text.now ≡ result.0.now ∷ lines_in result.1.now }
     ensures rest { length result.1.now < length text.now }
@@ -81,23 +104,22 @@ fn first_line(text: &[u8]) -> (&[u8], &[u8])
     (line, rest.unwrap_or(&[]))
 }
 
-/// What all lines of a recipe make.
-pub fn read_recipe(alloc: Global, input: &[u8]) -> Result<Recipe, PackError>
-    ensures made { IfOk result (λ r. recipe_of input.now ≡ Ok r.made.items) }
-    ensures text { IfOk result (λ r. r.text.items ≡ text_of (lines_in input.now)) }
+/// The packages that all lines of a recipe make.
+pub(crate) fn read_recipe(alloc: Global, input: &[u8]) -> Result<Vec<NamedPackage>, PackError>
+    ensures made { IfOk result (λ made. recipe_of input.now ≡ Ok made.items) }
     ensures refused { IfErr result (λ e. (line : ℕ) (why : Why) → e ≡ PackError.Refused line why
         → recipe_of input.now ≡ Err (record { line = line; why = why })) }
 {
-    let mut recipe = Recipe::new(alloc);
+    let mut made = Vec::new(alloc);
     let mut number = 1u64;
     let mut rest = input;
     'lines: while !rest.is_empty() {
         let (line, behind) = first_line(rest);
-        if let Err(fault) = recipe.add(alloc, line) {
+        if let Err(fault) = add_line(alloc, &mut made, line) {
             return Err(fault_at(number, fault));
         }
         number += 1;
         rest = behind;
     }
-    Ok(recipe)
+    Ok(made)
 }

@@ -65,7 +65,7 @@ odd_digits : block_in [] (codes "hex:abc") ≡ Err Value
 unfolding cut
 odd_digits = refl
 
-filled : block_in [] (codes "fill:1000000:0a") ≡ Ok (Fill 1000000 10)
+filled : block_in [] (codes "fill:16000000:0a") ≡ Ok (Fill 16000000 10)
 unfolding cut
 filled = refl
 

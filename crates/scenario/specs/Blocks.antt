@@ -1,7 +1,7 @@
 -- Blocks and sizes, as words name them, and what they mean among the attached bytes.
 use Rattle.std.specs.Prelude.{ℕ, ◌+◌, ◌-◌, ◌*◌, min, nat_lt, nat_le, if◌then◌else◌, List, take, drop, length, replicate, codes, Option, Some, None, option_map, ok_or, Result, Ok, Err}
 use Rattle.std.specs.Str.{bytes_eq}
-use Rattle.ucm_base.specs.Limits.{block_limit}
+use Rattle.ucm_base.specs.Limits.{block_limit, fill_limit, hex_limit}
 use Rattle.ucm_text.specs.Hexadecimal.{bytes_of_word}
 use Rattle.scenario.specs.declared.why.Why.{Why}
 use Rattle.scenario.specs.declared.why.Why.TheVariants.{Value, Unknown}
@@ -24,17 +24,17 @@ length_meant (Fill size byte) = size
 length_meant (Bytes bytes) = length bytes
 length_meant (Piece at len) = len
 
--- `<length>:<byte>`, with a length of at most 1,000,000
+-- `<length>:<byte>`, with a length of at most 16,000,000
 abbrev pub fill_in : List ℕ → Result BlockSource Why
 fill_in rest = do
   parts ← parts_in 58 rest
   size ← number_in parts.0
   byte ← byte_in parts.1
-  given (nat_le size 1_000_000) (Fill size byte) Value
+  given (nat_le size fill_limit) (Fill size byte) Value
 
 -- an even number of digits, at most 8,192
 abbrev pub hex_in : List ℕ → Result BlockSource Why
-hex_in digits = if nat_le (length digits) 8192 then ok_or (option_map Bytes (bytes_of_word digits)) Value else Err Value
+hex_in digits = if nat_le (length digits) hex_limit then ok_or (option_map Bytes (bytes_of_word digits)) Value else Err Value
 
 -- a block that needs no attachment, by what stands before its first colon and behind it
 abbrev pub plain_block : List ℕ → List ℕ → Result BlockSource Why

@@ -1,7 +1,7 @@
 -- Lines, by their words: later and form first, then each word from left to right.
 use Rattle.std.specs.Prelude.{ℕ, ◌^◌, ◌&&◌, ◌||◌, nat_le, if◌then◌else◌, Bool, List, [], ◌∷◌, length, codes, Result, Ok, Err}
 use Rattle.std.specs.Str.{bytes_eq}
-use Rattle.ucm_base.specs.Limits.{need_limit}
+use Rattle.ucm_base.specs.Limits.{need_limit, time_limit}
 use Rattle.scenario.specs.declared.why.Why.{Why}
 use Rattle.scenario.specs.declared.why.Why.TheVariants.{Form, Value, Later}
 use Rattle.scenario.specs.declared.events.Event.TheVariants.{Call, Work, Ask}
@@ -15,7 +15,7 @@ use Rattle.scenario.specs.Events.{call_in, query_in}
 
 -- `<n>`, at most 2^62
 abbrev pub time_line : List (List ℕ) → Result ScriptLine Why
-time_line (word ∷ []) = number_in word >>= λ n. given (nat_le n (2 ^ 62)) (Time n) Value
+time_line (word ∷ []) = number_in word >>= λ n. given (nat_le n time_limit) (Time n) Value
 time_line _ = Err Form
 
 abbrev pub cluster_line : Places → List ℕ → List ℕ → List ℕ → List (List ℕ) → Result ScriptLine Why

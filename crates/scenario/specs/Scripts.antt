@@ -54,7 +54,7 @@ time_added above n = given (is_none above.time) (record above { time = Some n })
 abbrev pub has_installed : List Cluster → List ℕ → Bool
 has_installed clusters name = list_any (λ c. bytes_eq c.name name) clusters
 
--- at most 16 clusters, each of at most 1,048,576 bytes
+-- at most 64 clusters, each of at most 16,777,216 bytes
 abbrev pub has_room : Above → Cluster → Bool
 has_room above c = nat_lt (length above.installed) cluster_limit && nat_le (length_meant c.block) package_limit
 

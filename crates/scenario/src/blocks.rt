@@ -7,15 +7,9 @@ use crate::attachments::{Attached, Attachments};
 use crate::why::{Why, WordError};
 use crate::words::{byte, cut, from_one, name, number};
 use std::alloc::{AllocError, Global};
-use ucm_base::limits::BLOCK_LIMIT;
+use ucm_base::limits::{BLOCK_LIMIT, FILL_LIMIT, HEX_LIMIT};
 use ucm_base::{Block, ClusterName};
 use ucm_text::bytes_of_hex;
-
-/// The most bytes of a block that is given as one byte many times.
-const FILL_LIMIT: u64 = 1_000_000;
-
-/// The most digits of a block in hexadecimal text.
-const HEX_LIMIT: usize = 8192;
 
 /// Where a block's bytes come from. A long one isn't spelled out before it is made.
 #[derive(Drop)]

@@ -11,8 +11,6 @@ mod blocks;
 mod events;
 mod lines;
 mod script;
-#[cfg(test)]
-mod tests;
 mod why;
 mod words;
 

@@ -11,11 +11,8 @@ use crate::events::{Event, call, query};
 use crate::why::{Why, WordError};
 use crate::words::{call_no, client, name, needs, node, number, version};
 use std::alloc::Global;
-use ucm_base::limits::NEED_LIMIT;
+use ucm_base::limits::{NEED_LIMIT, TIME_LIMIT};
 use ucm_base::{ClusterName, Needs, VersionText};
-
-/// The latest start time.
-const TIME_LIMIT: u64 = 4_611_686_018_427_387_904;
 
 /// A cluster that is installed when the node is formatted.
 #[derive(Drop)]

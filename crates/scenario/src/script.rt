@@ -11,11 +11,11 @@ use crate::lines::{Installed, ScriptLine, read_line};
 use crate::why::{ScriptError, Why, WordError};
 use crate::words::first_piece;
 use std::alloc::{AllocError, Global};
-use ucm_base::limits::{CLUSTER_LIMIT, INPUT_LIMIT, PACKAGE_LIMIT};
+use ucm_base::limits::{CLUSTER_LIMIT, INPUT_LIMIT, NEED_LIMIT, PACKAGE_LIMIT};
 use ucm_base::{ClusterName, Rows};
 
-/// One more than the words of the longest line, which installs a cluster with 16 needs.
-const WORD_LIMIT: usize = 22;
+/// One more than the words of the longest line, which installs a cluster with all its needs.
+const WORD_LIMIT: usize = NEED_LIMIT as usize + 6;
 
 /// The command that a script is for.
 #[derive(Clone, Copy, Debug, PartialEq, Eq)]

@@ -1,13 +1,11 @@
-use Rattle.std.proofs.Common.{◌≡◌, ◌+◌, ◌++◌, ◌≤◌, length}
+use Rattle.std.proofs.Common.{◌≡◌, ◌+◌, ◌≤◌, length}
 use Rattle.recipe.specs.Lines.{lines_in}
-use Rattle.recipe.specs.Packing.{text_of}
 use Rattle.recipe.specs.Recipes.{made_from, recipe_of}
 use Rattle.recipe.proofs.recipe.read_recipe.Given as goal
 
 abbrev pub invariant-lines : goal.invariant-lines
 invariant-lines l = record {
-  made : recipe_of l.input ≡ made_from l.number l.recipe.made.items (lines_in l.rest);
-  text : text_of (lines_in l.input) ≡ l.recipe.text.items ++ text_of (lines_in l.rest);
+  made : recipe_of l.input ≡ made_from l.number l.made.items (lines_in l.rest);
   number : l.number + length l.rest ≤ length l.input + 1;
 }
 
