@@ -11,11 +11,17 @@ use Rattle.ucm_prog.specs.Replay.{after_event, given_by, line_text, texts_of}
 abbrev line_of : Script → EventLine → Given → List ℕ
 line_of script e given = line_text e.line (given_text script.time given)
 
-pub next-text : (script : Script) (attached all text text' : List ℕ) (s s' : NodeState) (events : List EventLine) (i : ℕ) (e : EventLine) (given : Given) → e ≡ get_or events i e → all ≡ text ++ texts_of script attached s (drop i events) → i < length events → given ≡ given_by script attached s e.event → s' ≡ after_event script attached s e.event → text' ≡ text ++ line_text e.line (given_text script.time given) → all ≡ text' ++ texts_of script attached s' (drop (i + 1) events)
+pub next-text : (script : Script) (attached all text text' : List ℕ) (s s' : NodeState) (events : List EventLine)
+    (i : ℕ) (e : EventLine) (given : Given) → e ≡ get_or events i e
+    → all ≡ text ++ texts_of script attached s (drop i events) → i < length events
+    → given ≡ given_by script attached s e.event → s' ≡ after_event script attached s e.event
+    → text' ≡ text ++ line_text e.line (given_text script.time given)
+    → all ≡ text' ++ texts_of script attached s' (drop (i + 1) events)
 next-text script attached all text text' s s' events i e given is so_far lt is_given is_node is_text =
     let split : drop i events ≡ e ∷ drop (i + 1) events = drop-cons events i e lt ∙ rw (← is, add-one) refl in
     so_far ∙ ap (λ es. text ++ texts_of script attached s es) split
-    ∙ ap (λ g. text ++ (line_of script e g ++ texts_of script attached (after_event script attached s e.event) (drop (i + 1) events))) (sym is_given)
+    ∙ ap (λ g. text ++ (line_of script e g ++ texts_of script attached (after_event script attached s e.event)
+    (drop (i + 1) events))) (sym is_given)
     ∙ ap (λ n. text ++ (line_of script e given ++ texts_of script attached n (drop (i + 1) events))) (sym is_node)
     ∙ sym (append_assoc text (line_of script e given) (texts_of script attached s' (drop (i + 1) events)))
     ∙ ap (λ t. t ++ texts_of script attached s' (drop (i + 1) events)) (sym is_text)

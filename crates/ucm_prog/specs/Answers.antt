@@ -54,7 +54,8 @@ abbrev pub change_shown : ChangeInfo → List ℕ
 change_shown c = codes " " ++ c.name ++ codes ":" ++ action_word c.action ++ codes ":" ++ c.version
 
 abbrev pub package_shown : PackageInfo → List ℕ
-package_shown p = codes " " ++ decimal p.id ++ codes ":" ++ phase_word p.phase ++ codes ":" ++ decimal p.received ++ codes "/" ++ decimal p.size
+package_shown p = codes " " ++ decimal p.id ++ codes ":" ++ phase_word p.phase ++ codes ":" ++ decimal p.received
+    ++ codes "/" ++ decimal p.size
 
 -- a call with its refusal's number, or the status after a unit
 abbrev pub happened_text : Happened → List ℕ

@@ -1,8 +1,8 @@
 -- What a run of the program left of its source and its sink.
 use Rattle.std.specs.Prelude.{◌≡◌, ◌≤◌, ◌++◌, ◌⊎◌, ℕ, ⊤, List, length, take, Option, option_map}
-use Rattle.ucm_ports.specs.Faults.{HasRisen}
+use Rattle.fault_count.specs.Faults.{HasRisen}
 use Rattle.ucm_prog.specs.declared.status.ExitStatus.{ExitStatus}
-use Rattle.ucm_prog.specs.declared.status.ExitStatus.TheVariants.{Successful, CampaignNotSuccessful, InputRefused, LeftUnfinished}
+use Rattle.ucm_prog.specs.declared.status.ExitStatus.TheVariants.{Successful, CampaignNotSuccessful, Usage, InputRefused, LeftUnfinished, ReadFault, WriteFault, OutOfMemory}
 
 -- a text was put, where the sink tells what it holds
 abbrev pub Puts : Option (List ℕ) → Option (List ℕ) → List ℕ → Type 0
@@ -14,13 +14,30 @@ PutsPrefix earlier later text = (n : ℕ) × (n ≤ length text) × Puts earlier
 
 -- a text was put, or a prefix of it and the sink's faults rose
 abbrev pub IsWritten : Option (List ℕ) → Option (List ℕ) → List ℕ → ℕ → ℕ → Type 0
-IsWritten earlier later text faults faults_now = Puts earlier later text ⊎ (PutsPrefix earlier later text × HasRisen faults faults_now)
+IsWritten earlier later text faults faults_now =
+    Puts earlier later text ⊎ (PutsPrefix earlier later text × HasRisen faults faults_now)
 
--- the run ended: its whole output was written
-abbrev pub IsEnded : ExitStatus → Type 0
-IsEnded Successful = ⊤
-IsEnded InputRefused = ⊤
-IsEnded _ = ⊥
+-- the number that the process ends with
+abbrev pub code_of : ExitStatus → ℕ
+code_of Successful = 0
+code_of CampaignNotSuccessful = 1
+code_of Usage = 2
+code_of InputRefused = 3
+code_of LeftUnfinished = 4
+code_of ReadFault = 5
+code_of WriteFault = 6
+code_of OutOfMemory = 7
+
+-- the input was accepted or refused
+abbrev pub IsVerdict : ExitStatus → Type 0
+IsVerdict Successful = ⊤
+IsVerdict InputRefused = ⊤
+IsVerdict _ = ⊥
+
+-- the run came to an output, written or not
+abbrev pub IsJudged : ExitStatus → Type 0
+IsJudged WriteFault = ⊤
+IsJudged status = IsVerdict status
 
 -- a status of a command that runs no campaign
 abbrev pub IsPlain : ExitStatus → Type 0

@@ -1,7 +1,8 @@
 -- What the commands that never wait write.
-use Rattle.std.specs.Prelude.{◌≡◌, ℕ, nat_lt, if◌then◌else◌, List, length, Result, Ok, Err, Option, IfSome}
+use Rattle.std.specs.Prelude.{◌≡◌, ℕ, List, Result, Ok, Err, Option, Some, None, IfSome}
 use Rattle.ucm_base.specs.Limits.{input_limit}
-use Rattle.package_reader.specs.Reading.{reading}
+use Rattle.ucm_ports.specs.Reading.{whole}
+use Rattle.package_reader.specs.Reading.{contents_of}
 use Rattle.recipe.specs.Packing.{packed}
 use Rattle.scenario.specs.declared.script.Command.TheVariants.{Replay as ScriptOfReplay}
 use Rattle.scenario.specs.Scripts.{Refused, script_of}
@@ -10,7 +11,6 @@ use Rattle.ucm_prog.specs.declared.commands.Command.TheVariants.{Replay, Inspect
 use Rattle.ucm_prog.specs.declared.status.ExitStatus.{ExitStatus}
 use Rattle.ucm_prog.specs.declared.status.ExitStatus.TheVariants.{Successful}
 use Rattle.ucm_prog.specs.Inspect.{inspected}
-use Rattle.ucm_prog.specs.Outcome.{Puts, PutsPrefix}
 use Rattle.ucm_prog.specs.Refusals.{Output, line_refusal, refused_output, too_long_output}
 use Rattle.ucm_prog.specs.Replay.{replayed}
 
@@ -21,24 +21,24 @@ packed_output (Err r) = refused_output (line_refusal r.line r.why)
 -- what a command writes of an input that isn't too long
 abbrev pub command_output : Command → List ℕ → Output
 command_output Replay input = replayed (script_of ScriptOfReplay input) input
-command_output Inspect input = inspected (reading input)
+command_output Inspect input = inspected (contents_of input)
 command_output (Pack kind) input = packed_output (packed kind input)
+
+-- the same of an input that was read whole; there is none where it is too long
+abbrev pub output_at : Command → Option (List ℕ) → Output
+output_at command (Some input) = command_output command input
+output_at command None = too_long_output
 
 -- what a command writes of an input
 abbrev pub output_of : Command → List ℕ → Output
-output_of command input = if nat_lt input_limit (length input) then too_long_output else command_output command input
+output_of command input = output_at command (whole input_limit input)
 
 -- the output has this status and this text
 pub record IsOutput (output : Output) (ended : ExitStatus) (written : List ℕ) : Type 0 where
   pub status : ended ≡ output.status
   pub text : written ≡ output.text
 
--- the status and what was put are the command's output, where the source tells its input
-abbrev pub IsOutputOf : Option Command → Option (List ℕ) → ExitStatus → Option (List ℕ) → Option (List ℕ) → Type 0
-IsOutputOf command left ended earlier later = IfSome command (λ c. IfSome left (λ input.
-    (ended ≡ (output_of c input).status) × Puts earlier later (output_of c input).text))
-
--- a prefix of the output was put
-abbrev pub LeavesPrefixOf : Option Command → Option (List ℕ) → Option (List ℕ) → Option (List ℕ) → Type 0
-LeavesPrefixOf command left earlier later =
-    IfSome command (λ c. IfSome left (λ input. PutsPrefix earlier later (output_of c input).text))
+-- what is said of the command's status and text, where the source tells its input
+abbrev pub OfOutput : Option Command → Option (List ℕ) → (ExitStatus → List ℕ → Type 0) → Type 0
+OfOutput command left says =
+    IfSome command (λ c. IfSome left (λ input. says (output_of c input).status (output_of c input).text))

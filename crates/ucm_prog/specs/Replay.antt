@@ -31,7 +31,8 @@ use Rattle.ucm_prog.specs.Refusals.{Output, line_refusal, refused_output}
 
 -- an installed cluster, with its bytes
 abbrev pub cluster_meant : List ℕ → Installed → Cluster Bytes
-cluster_meant attached c = record { name = c.name; version = c.version; needs = c.needs; content = bytes_meant attached c.block }
+cluster_meant attached c =
+    record { name = c.name; version = c.version; needs = c.needs; content = bytes_meant attached c.block }
 
 -- the node at the beginning: the installed clusters run, in order of name
 abbrev pub begun : List ℕ → List Installed → NodeState

@@ -1,24 +1,25 @@
-//! The command `inspect`: what a software package is.
+//! The command `inspect`: what a software package has, part by part.
 ghost use Rattle.std.specs.Prelude.{◌≡◌, ◌++◌, length, codes, IfOk, OnOk, string_bytes};
 ghost use Rattle.std.specs.List.{flat_map};
-ghost use Rattle.package_reader.specs.Reading.{reading};
+ghost use Rattle.package_reader.specs.Reading.{contents_of};
 ghost use Rattle.ucm_prog.specs.Inspect.{action_word, inspected, need_line, package_line, shown};
 ghost use Rattle.ucm_prog.specs.Outputs.{IsOutput};
 ghost use Rattle.ucm_prog.specs.Refusals.{package_refusal, refused_output};
 
 use crate::output::{Output, refused};
 use crate::status::ExitStatus;
-use package_reader::{PackageError, read_contents};
+use package_reader::{PackageError, Span, read_package};
 use std::alloc::{AllocError, Global};
-use ucm_base::{Action, Manifest, Need};
+use ucm_base::{Action, Manifest, Need, Part};
 
-/// What `inspect` of a whole input writes. The payload isn't copied.
+/// What `inspect` of a whole input writes. No payload is copied.
 pub fn inspect(alloc: Global, input: &[u8]) -> Result<Output, AllocError>
-    ensures { IfOk result (λ o. IsOutput (inspected (reading input.now)) o.status o.bytes.items) }
+    ensures { IfOk result
+        (λ o. IsOutput (inspected (contents_of input.now)) o.status o.bytes.items) }
 {
-    match read_contents(alloc, input) {
-        Ok(package) => {
-            let text = shown_package(alloc, &package.manifest, package.payload.len())?;
+    match read_package(alloc, input) {
+        Ok(parts) => {
+            let text = shown_parts(alloc, parts.as_slice())?;
             Ok(Output {
                 status: ExitStatus::Successful,
                 bytes: text.into_bytes(),
@@ -44,16 +45,24 @@ fn refused_package(alloc: Global, fault: PackageError) -> Result<Output, AllocEr
     Ok(refused(text))
 }
 
-fn shown_package(alloc: Global, manifest: &Manifest, size: usize) -> Result<String, AllocError>
-    ensures { IfOk result (λ text. string_bytes text ≡ shown manifest.now size) }
+fn shown_parts(alloc: Global, parts: &[Part<Span>]) -> Result<String, AllocError>
+    ensures { IfOk result (λ text. string_bytes text ≡ flat_map shown parts.now) }
 {
     let mut text = String::new(alloc);
-    add_package(&mut text, manifest, size)?;
-    add_needs(&mut text, manifest.needs.as_slice())?;
+    'parts: for part in parts {
+        add_part(&mut text, part)?;
+    }
     Ok(text)
 }
 
-fn add_package(text: &mut String, manifest: &Manifest, size: usize) -> Result<(), AllocError>
+fn add_part(text: &mut String, part: &Part<Span>) -> Result<(), AllocError>
+    ensures { OnOk result (string_bytes text.new ≡ string_bytes text.old ++ shown part.now) }
+{
+    add_package(text, &part.manifest, part.payload.len)?;
+    add_needs(text, part.manifest.needs.as_slice())
+}
+
+fn add_package(text: &mut String, manifest: &Manifest, size: u32) -> Result<(), AllocError>
     ensures { OnOk result (string_bytes text.new
         ≡ string_bytes text.old ++ package_line manifest.now size) }
 {

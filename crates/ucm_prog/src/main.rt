@@ -58,12 +58,12 @@ fn main(rt: HostRuntime) -> ExitCode {
     let mut source = StdSource::new(rt.stdin());
     let mut sink = StdSink::new(rt.stdout());
     let Ok(disks) = disks(alloc) else {
-        return ExitCode::from(ExitStatus::OutOfMemory as u8);
+        return ExitCode::from(ExitStatus::OutOfMemory.code());
     };
     let (status, _) = match words(&rt) {
         Ok(words) => plain::ucm_plain(alloc, words.as_slice(), &mut source, &mut sink, disks),
         Err(e) if e.kind() == ErrorKind::OutOfMemory => (ExitStatus::OutOfMemory, disks),
         Err(_) => plain::ucm_plain(alloc, &[], &mut source, &mut sink, disks),
     };
-    ExitCode::from(status as u8)
+    ExitCode::from(status.code())
 }

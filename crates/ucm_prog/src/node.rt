@@ -28,12 +28,12 @@ pub fn begin(
     ensures node { IfOk result (λ core. node_of core ≡ begun attached.now installed.now) }
     ensures entries { IfOk result (λ core. core.state.entries ≡ 0) }
 {
-    let clusters = made_clusters(alloc, installed, attached)?;
-    formatted(alloc, clusters)
+    let clusters = clusters_of(alloc, installed, attached)?;
+    format_node(alloc, clusters)
 }
 
 /// The clusters with their bytes.
-fn made_clusters(
+fn clusters_of(
     alloc: Global,
     installed: &[Installed],
     attached: &[u8],
@@ -42,12 +42,17 @@ fn made_clusters(
 {
     let mut clusters = Vec::new(alloc);
     'installed: for one in installed {
-        clusters.push(made(alloc, one, attached)?)?;
+        clusters.push(cluster_of(alloc, one, attached)?)?;
     }
     Ok(clusters)
 }
 
-fn made(alloc: Global, installed: &Installed, attached: &[u8]) -> Result<Cluster<Block>, AllocError>
+/// An installed cluster with its bytes.
+fn cluster_of(
+    alloc: Global,
+    installed: &Installed,
+    attached: &[u8],
+) -> Result<Cluster<Block>, AllocError>
     ensures { IfOk result (λ c. c ≡ cluster_meant attached.now installed.now) }
 {
     Ok(Cluster {
@@ -59,7 +64,7 @@ fn made(alloc: Global, installed: &Installed, attached: &[u8]) -> Result<Cluster
 }
 
 /// A node in memory that has just been formatted with these clusters.
-fn formatted(alloc: Global, clusters: Vec<Cluster<Block>>) -> Result<Core<MemStaging>, AllocError>
+fn format_node(alloc: Global, clusters: Vec<Cluster<Block>>) -> Result<Core<MemStaging>, AllocError>
     requires differ { IsTrue (all_differ (map (λ c. c.name) clusters.items)) }
     requires few { length clusters.items ≤ cluster_limit }
     requires short { AllByRecursion (λ c. length c.content ≤ package_limit) clusters.items }
@@ -75,7 +80,7 @@ fn formatted(alloc: Global, clusters: Vec<Cluster<Block>>) -> Result<Core<MemSta
 }
 
 /// Executes a numbered call.
-pub fn called(
+pub fn execute(
     alloc: Global,
     core: &mut Core<MemStaging>,
     client: ClientId,
@@ -97,7 +102,7 @@ pub fn called(
 }
 
 /// Does a unit of work, where these clusters fail when they are verified.
-pub fn worked(
+pub fn work(
     alloc: Global,
     core: &mut Core<MemStaging>,
     fails: &[ClusterName],
@@ -115,8 +120,8 @@ pub fn worked(
     }
 }
 
-/// A query of a script that begins at this time: the bounds of a history are times.
-pub fn asked(start: u64, query: Query) -> Query
+/// A query of a script that begins at this time, whose history is asked by times and lies by places.
+pub fn query_in_places(start: u64, query: Query) -> Query
     ensures { result ≡ asked start query }
 {
     match query {

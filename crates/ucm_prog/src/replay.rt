@@ -11,7 +11,7 @@ ghost use Rattle.ucm_prog.specs.Outputs.{IsOutput};
 ghost use Rattle.ucm_prog.specs.Replay.{after_event, given_by, line_text, replayed, script_text, texts_of};
 
 use crate::answers::{Given, add_given};
-use crate::node::{asked, begin, called, worked};
+use crate::node::{begin, execute, query_in_places, work};
 use crate::output::{Output, refused_line};
 use crate::status::ExitStatus;
 use node_core::Core;
@@ -95,11 +95,11 @@ fn give(
     match event {
         Event::Call { client, no, call } => {
             let call = call_of(alloc, call, attached)?;
-            called(alloc, core, *client, *no, &call)
+            execute(alloc, core, *client, *no, &call)
         }
-        Event::Work { .. } => worked(alloc, core, script.fails.as_slice()),
+        Event::Work { .. } => work(alloc, core, script.fails.as_slice()),
         Event::Ask { client, query } => {
-            let query = asked(script.time, *query);
+            let query = query_in_places(script.time, *query);
             let answer = core.query(alloc, *client, &query)?;
             Ok(Given::Answer(answer))
         }
