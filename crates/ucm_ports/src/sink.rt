@@ -25,6 +25,7 @@ pub trait Sink {
         ensures failed { OnErr result (written self.new ≡ written self.old) }
         ensures cause { OnErr result (HasRisen (fault_count self.old) (fault_count self.new)) }
         ensures count { fault_count self.old ≤ fault_count self.new }
+        ensures steady { OnOk result (fault_count self.new ≡ fault_count self.old) }
         ensures own { obeys self.old bytes.now (result_ok result) self.new };
 
     /// The count of failed calls. It stays at `u64::MAX` once it is there.

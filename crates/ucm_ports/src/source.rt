@@ -32,6 +32,7 @@ pub trait Source {
         ensures failed { OnErr result (left self.new ≡ left self.old) }
         ensures cause { OnErr result (HasRisen (fault_count self.old) (fault_count self.new)) }
         ensures count { fault_count self.old ≤ fault_count self.new }
+        ensures steady { OnOk result (fault_count self.new ≡ fault_count self.old) }
         ensures own { obeys self.old (length into.new) (result_ok result) self.new };
 
     /// The count of failed calls. It stays at `u64::MAX` once it is there.

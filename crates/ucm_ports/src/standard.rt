@@ -1,8 +1,10 @@
 //! Adapters over std's readers and writers, which tell nothing of their bytes.
+ghost use Rattle.std.specs.Prelude.{◌≡◌, ℕ};
 
 use crate::{PortError, Sink, Source};
 use fault_count::one_more;
 use std::io::{Read, Write};
+use std::marker::Model;
 
 /// A reader of std as a source. Each `Err` is a fault.
 #[derive(Drop)]
@@ -11,9 +13,18 @@ pub struct StdSource<R: Drop> {
     faults: u64,
 }
 
+impl<R: Drop> Model for StdSource<R> {
+    ghost Value = { ℕ };
+
+    // What is seen is the count of failed calls.
+    ghost view = { λ s. s.faults };
+}
+
 impl<R: Read + Drop> StdSource<R> {
     /// A source over this reader, without a fault so far.
-    pub fn new(reader: R) -> StdSource<R> {
+    pub fn new(reader: R) -> StdSource<R>
+        ensures { result ≡ 0 }
+    {
         StdSource { reader, faults: 0 }
     }
 }
@@ -23,7 +34,7 @@ impl<R: Read + Drop> Source for StdSource<R> {
 
     ghost left = { λ _. None };
 
-    ghost fault_count = { λ s. s.faults };
+    ghost fault_count = { λ faults. faults };
 
     fn take(&mut self, into: &mut [u8]) -> Result<usize, PortError> {
         match self.reader.read(into) {
@@ -47,9 +58,18 @@ pub struct StdSink<W: Drop> {
     faults: u64,
 }
 
+impl<W: Drop> Model for StdSink<W> {
+    ghost Value = { ℕ };
+
+    // What is seen is the count of failed calls.
+    ghost view = { λ s. s.faults };
+}
+
 impl<W: Write + Drop> StdSink<W> {
     /// A sink over this writer, without a fault so far.
-    pub fn new(writer: W) -> StdSink<W> {
+    pub fn new(writer: W) -> StdSink<W>
+        ensures { result ≡ 0 }
+    {
         StdSink { writer, faults: 0 }
     }
 }
@@ -59,7 +79,7 @@ impl<W: Write + Drop> Sink for StdSink<W> {
 
     ghost written = { λ _. None };
 
-    ghost fault_count = { λ s. s.faults };
+    ghost fault_count = { λ faults. faults };
 
     fn put(&mut self, bytes: &[u8]) -> Result<usize, PortError> {
         match self.writer.write(bytes) {
