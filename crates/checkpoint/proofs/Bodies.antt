@@ -75,7 +75,8 @@ module _ (head front : List ℕ) (is : front ≡ slice_range head 0 13) where
 
   pub length_field : take 4 (drop 8 (drop 1 front)) ≡ take 4 (drop 8 (drop 1 head))
   length_field = ap (λ (xs : List ℕ). take 4 (drop 8 xs)) behind_gate
-      ∙ ap (λ (xs : List ℕ). take 4 xs) (drop-take 8 4 (drop 1 head)) ∙ take-take 4 4 (drop 8 (drop 1 head)) (omega arith)
+      ∙ ap (λ (xs : List ℕ). take 4 xs) (drop-take 8 4 (drop 1 head))
+      ∙ take-take 4 4 (drop 8 (drop 1 head)) (omega arith)
 
 -- the gate, as it is read
 pub gate_of : (head front : List ℕ) (k gate : ℕ) → 0 < k → k ≤ length head → front ≡ take k head

@@ -50,7 +50,8 @@ impl Stops {
     }
 }
 
-/// Single failures: pairs of a kind of call and the number of the call of this kind, counted from 1 since the plan was armed.
+/// Single failures: pairs of a kind of call and the number of the call of this kind, counted from 1 since the plan was
+/// armed.
 #[derive(Drop)]
 pub struct Fails {
     items: Vec<(FailKind, u64)>,

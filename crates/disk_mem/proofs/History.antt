@@ -47,7 +47,8 @@ content-wrote image (Wrote a l k ∷ es) pieces more at len kept all long =
     (es ++ Wrote at len kept ∷ []) (drop-append-le k pieces more (omega (arith, all)) i))
     ∙ content-wrote (put_at image a (take k pieces)) es (drop k pieces) more at len kept
     (omega (arith, all, Rattle.std.proofs.Common.length-drop k pieces)) long
-content-wrote image (Synced ∷ es) pieces more at len kept all long = content-wrote image es pieces more at len kept all long
+content-wrote image (Synced ∷ es) pieces more at len kept all long =
+    content-wrote image es pieces more at len kept all long
 
 pub content-synced : (image : List ℕ) (es : List Event) (pieces : List ℕ)
     → content_from image (es ++ Synced ∷ []) pieces ≡ content_from image es pieces
@@ -62,7 +63,14 @@ Left size es pieces content t image = IsImage (ranges_from [] es) content image 
 pub elapses_same : (size : ℕ) (es : List Event) (pieces content : List ℕ)
     → Elapses (length es) (length es) (Left size es pieces content) (Left size es pieces content)
     (IsImage (ranges_from [] es) content)
-elapses_same size es pieces content = record { later = omega arith; nothing_else = λ t c le left. inl left; keeps = λ t c le left. left; counts_now = λ t c le now. inl now }
+elapses_same size es pieces content =
+    record {
+      later = omega arith;
+      nothing_else = λ t c le left. inl left;
+      keeps = λ t c le left. left;
+      counts_now =
+          λ t c le now. inl now;
+    }
 
 -- one event more
 module _ (size : ℕ) (es later : List Event) (e : Event) (pieces more all content next : List ℕ)

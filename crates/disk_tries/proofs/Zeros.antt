@@ -20,9 +20,11 @@ goes_on n some = record {
   shut = λ one. omega (arith, one, get_or-replicate {A = ℕ} n 0 0 1 some);
 }
 
-pub ready_on_zeros : (area : Area) (size : ℕ) (image : List ℕ) → area.at ≡ 0 → 0 < area.len → area.len ≤ size → image ≡ replicate size 0 → IsReady area 0 image
+pub ready_on_zeros : (area : Area) (size : ℕ) (image : List ℕ) → area.at ≡ 0 → 0 < area.len → area.len ≤ size
+    → image ≡ replicate size 0 → IsReady area 0 image
 ready_on_zeros area size image at some le is =
-    let zeros : window area image ≡ replicate area.len 0 = (λ i. take area.len (drop (at i) (is i))) ∙ take-replicate area.len size 0 le in
+    let zeros : window area image ≡ replicate area.len 0 =
+    (λ i. take area.len (drop (at i) (is i))) ∙ take-replicate area.len size 0 le in
     record {
       inside = omega (arith, at, le, ap length is, length-replicate {A = ℕ} size 0);
       goes_on = subst (λ (w : List ℕ). GoesOn 0 w) (sym zeros) (goes_on area.len some);

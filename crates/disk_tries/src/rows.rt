@@ -24,7 +24,8 @@ fn failing_at(alloc: Global, kind: FailKind, number: u64) -> Result<FaultPlan, A
     })
 }
 
-/// How many records are read behind an append under a plan, and whether it failed with one fault or ended well with none.
+/// How many records are read behind an append under a plan, and whether it failed with one fault or ended well with
+/// none.
 fn records_left(alloc: Global, plan: &FaultPlan) -> Result<(usize, bool), TryError> {
     let tried = try_append(alloc, 64, plan, &[7; 20], &[8; 33])?;
     let failed = match tried.ended {

@@ -52,7 +52,8 @@ module _ {S : Type 0} (start : List ℕ → Option S) (step : S → List ℕ
   module _ (found : Log) (text : List ℕ) (records : List (List ℕ))
       (is : IsFound start (layout_of log.half) found text records image) where
     settled_as : (l : Log) (revived : Revived) → layout_of l.half ≡ layout_of log.half → settles log l ≡ revived
-        → Holds start step l (ended revived doubt) image → Holds start step found (ended (settles log found) doubt) image
+        → Holds start step l (ended revived doubt) image
+        → Holds start step found (ended (settles log found) doubt) image
     settled_as l revived pair settled held =
         let same = same_log start l found held.text text image (pair ∙ sym is.pair) held.stands is.stands in
         subst (λ (l : Log). Holds start step l (ended (settles log l) doubt) image) same

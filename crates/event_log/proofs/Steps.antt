@@ -131,7 +131,8 @@ module _ {S : Type 0} (start : List ℕ → Option S) (step : S → List ℕ →
 
     -- the journal's bytes change, and nothing else
     in_journal : (used : ℕ) (after : Option S) (d c : List ℕ) (held : Holds start step log now d)
-        → Torn (journal_area log.half).at (journal_area log.half).len d c → GoesOn used (window (journal_area log.half) c)
+        → Torn (journal_area log.half).at (journal_area log.half).len d c
+        → GoesOn used (window (journal_area log.half) c)
         → state_of start step held.text (events_of log.half c) ≡ after
         → Holds start step (record log { used = used }) after c
     in_journal used after d c held torn goes_on means = record {

@@ -27,8 +27,8 @@ pub struct Found {
     pub records: Records,
 }
 
-/// Finds what the disk stands for by the pair of this half; `None` exactly where neither half tells a state. Begins with
-/// a sync; takes no room for writes.
+/// Finds what the disk stands for by the pair of this half; `None` exactly where neither half tells a state. Begins
+/// with a sync; takes no room for writes.
 pub fn open<D: Disk, S: Stored>(
     alloc: Global,
     disk: &mut D,

@@ -25,8 +25,8 @@ pub enum Revived {
 }
 
 impl Log {
-    /// Restarts the disk, and says whether the event of this record stood, which is in doubt behind this state. Where it
-    /// fails, the event stays in doubt, and it may be called again.
+    /// Restarts the disk, and says whether the event of this record stood, which is in doubt behind this state. Where
+    /// it fails, the event stays in doubt, and it may be called again.
     pub fn revive<D: Disk, S: Stored>(
         &mut self,
         alloc: Global,

@@ -40,7 +40,8 @@ two false c x l long h = rw h (omega arith)
 
 one_short : (x : ℕ) → 32 ≤ x → length (escape_byte x) ≤ 2
 unfolding escape_byte
-one_short x h = two (nat_lt 0 (escape_letter x)) (nat_lt x 32) x (escape_letter x) (92 ∷ 117 ∷ 48 ∷ 48 ∷ digit_char (x / 16) ∷ digit_char (x % 16) ∷ []) (not_below x 32 h)
+one_short x h = two (nat_lt 0 (escape_letter x)) (nat_lt x 32) x (escape_letter x) (92 ∷ 117 ∷ 48 ∷ 48
+    ∷ digit_char (x / 16) ∷ digit_char (x % 16) ∷ []) (not_below x 32 h)
 
 -- texts whose bytes all pass a test that no control character passes
 module _ (p : ℕ → Bool) (visible : (x : ℕ) → p x ≡ true → 32 ≤ x) where
@@ -48,7 +49,12 @@ module _ (p : ℕ → Bool) (visible : (x : ℕ) → p x ≡ true → 32 ≤ x) 
   escaped [] h = omega arith
   escaped (x ∷ s) h =
       let parts = and_parts (p x) (list_all p s) h in
-      omega (arith, length-append (escape_byte x) (flat_map escape_byte s), one_short x (visible x parts.0), escaped s parts.1)
+      omega (
+        arith,
+        length-append (escape_byte x) (flat_map escape_byte s),
+        one_short x (visible x parts.0),
+        escaped s parts.1,
+      )
 
   -- two bytes for each of them at most, and the quotes
   quoted_short : (s : List ℕ) (n : ℕ) → list_all p s ≡ true → length s ≤ n → length (quoted s) ≤ 2 * n + 2
@@ -68,7 +74,9 @@ text_short s b h =
     quoted_short is_visible (λ x k. grind arith) s 64 bytes.1 (below (length s) 64 size.1)
 
 digest_short : (s : List ℕ) → IsDigest s → length (quoted (encode_lower s)) ≤ 130
-digest_short s h = quoted_short is_lower_digit (λ x k. grind arith) (encode_lower s) 64 (all_lower s h.bytes) (omega (arith, length-encode_with lower_digits s, h.size))
+digest_short s h =
+    quoted_short is_lower_digit (λ x k. grind arith) (encode_lower s) 64 (all_lower s h.bytes)
+    (omega (arith, length-encode_with lower_digits s, h.size))
 
 action_short : (a : Action) → length (quoted (action_word a)) ≤ 9
 unfolding escape_byte
@@ -84,7 +92,8 @@ need_short n h =
 needs_short : (ns : List Need) → AllByRecursion IsNeed ns → length (needs_text ns) ≤ 214 * length ns
 needs_short [] h = omega arith
 needs_short (n ∷ []) h = omega (arith, need_short n h.0)
-needs_short (n ∷ k ∷ ns) h = omega (arith, length-append (need_text n) (44 ∷ needs_text (k ∷ ns)), need_short n h.0, needs_short (k ∷ ns) h.1)
+needs_short (n ∷ k ∷ ns) h =
+    omega (arith, length-append (need_text n) (44 ∷ needs_text (k ∷ ns)), need_short n h.0, needs_short (k ∷ ns) h.1)
 
 pub manifest_short : (m : Manifest) → IsManifest m → length (manifest_text m) ≤ 4096
 manifest_short m h =
@@ -95,4 +104,13 @@ manifest_short m h =
     ∷ codes ",\"needs\":[" ∷ needs_text m.needs ∷ codes "]"
     ∷ codes ",\"sha256\":" ∷ quoted (encode_lower m.sha256)
     ∷ codes ",\"version\":" ∷ quoted m.version ∷ codes "}" ∷ []) in
-    omega (arith, sum, h.few, needs, action_short m.action, name_short m.name h.name, digest_short m.sha256 h.sha256, text_short m.version _ h.version)
+    omega (
+      arith,
+      sum,
+      h.few,
+      needs,
+      action_short m.action,
+      name_short m.name h.name,
+      digest_short m.sha256 h.sha256,
+      text_short m.version _ h.version,
+    )

@@ -26,10 +26,13 @@ module _ {A B : Type 0} (f : A → Option B) where
 
 module _ {V A B : Type 0} (f : A → Option B) (g : V → A) where
   pub next_one : (vs : List V) (i : ℕ) (d : V) → i < length vs
-      → all_of f (map g (take (suc i) vs)) ≡ option_and_then (λ ys. option_map (λ w. ys ++ w ∷ []) (f (g (get_or vs i d)))) (all_of f (map g (take i vs)))
+      → all_of f (map g (take (suc i) vs))
+      ≡ option_and_then (λ ys. option_map (λ w. ys ++ w ∷ []) (f (g (get_or vs i d))))
+      (all_of f (map g (take i vs)))
   next_one [] i d h = absurd (omega arith)
   next_one (v ∷ vs) zero d h = first_one f (f (g v))
-  next_one (v ∷ vs) (suc i) d h = rw (next_one vs i d (omega arith)) (pushed f (f (g v)) (all_of f (map g (take i vs))) (f (g (get_or vs i d))))
+  next_one (v ∷ vs) (suc i) d h =
+      rw (next_one vs i d (omega arith)) (pushed f (f (g v)) (all_of f (map g (take i vs))) (f (g (get_or vs i d))))
 
   -- one more member, x, that has a value
   pub all_of-more : (vs : List V) (i : ℕ) (x : V) (ys : List B) (y : B) → i < length vs → x ≡ get_or vs i x
@@ -40,13 +43,15 @@ module _ {V A B : Type 0} (f : A → Option B) (g : V → A) where
       let here : f (g (get_or vs i x)) ≡ Some y = ap (λ v. f (g v)) (sym at) ∙ one in
       rw (e, next_one vs i x h, taken, here) refl
 
-  pub none_at : (vs : List V) (i : ℕ) (d : V) → i < length vs → f (g (get_or vs i d)) ≡ None → all_of f (map g vs) ≡ None
+  pub none_at : (vs : List V) (i : ℕ) (d : V) → i < length vs → f (g (get_or vs i d)) ≡ None
+      → all_of f (map g vs) ≡ None
   none_at [] i d h e = absurd (omega arith)
   none_at (v ∷ vs) zero d h e = rw e refl
   none_at (v ∷ vs) (suc i) d h e = rw (none_at vs i d (omega arith) e) (nothing f (f (g v)))
 
   -- a member, x, that has none
-  pub all_of-stop : (vs : List V) (i : ℕ) (x : V) → i < length vs → x ≡ get_or vs i x → f (g x) ≡ None → all_of f (map g vs) ≡ None
+  pub all_of-stop : (vs : List V) (i : ℕ) (x : V) → i < length vs → x ≡ get_or vs i x → f (g x) ≡ None
+      → all_of f (map g vs) ≡ None
   all_of-stop vs i x h at e = none_at vs i x h (ap (λ v. f (g v)) (sym at) ∙ e)
 
 pub items_list-view : (vs : List Value) → items_list (items_view vs) ≡ map view vs
@@ -54,7 +59,8 @@ items_list-view [] = refl
 items_list-view (v ∷ vs) = ap (λ ds. view v ∷ ds) (items_list-view vs)
 
 -- one more member, v, that is seen as x is
-pub mapped-more : {A : Type 0} (f : A → Data) (xs : List A) (i : ℕ) (x : A) (vs : List Value) (v : Value) → i < length xs → x ≡ get_or xs i x
+pub mapped-more : {A : Type 0} (f : A → Data) (xs : List A) (i : ℕ) (x : A) (vs : List Value) (v : Value)
+    → i < length xs → x ≡ get_or xs i x
     → map view vs ≡ map f (take i xs) → view v ≡ f x → map view (vs ++ v ∷ []) ≡ map f (take (i + 1) xs)
 mapped-more f xs i x vs v h at before one =
     let last = (take_at_read xs i x h).1 in

@@ -33,6 +33,7 @@ both (Ok x) P Q p q = (p, q)
 both (Err e) P Q p q = tt
 
 -- the needs of an array of values
-pub counted : (d : Data) (vs : List Value) (few : Bool) → Some (items_view vs) ≡ as_array d → few ≡ nat_le (length vs) need_limit
+pub counted : (d : Data) (vs : List Value) (few : Bool) → Some (items_view vs) ≡ as_array d
+    → few ≡ nat_le (length vs) need_limit
     → needs_of_tree d ≡ (if few then all_of need_of_tree (map view vs) else None)
 counted d vs few e is = rw (← e, items_list-view vs, length-map vs view, is) refl

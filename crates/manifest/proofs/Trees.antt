@@ -60,7 +60,15 @@ pub manifest_back : (m : Manifest) → IsManifest m → manifest_of_tree (manife
 manifest_back m h =
     let needs = needs_back m.needs (recursion_from_All IsNeed m.needs h.needs) in
     let low = few (length (map need_tree m.needs)) (omega (arith, length-map m.needs need_tree, h.few)) in
-    rw (h.name, h.version, digest_back m.sha256 h.sha256, listed (map need_tree m.needs), needs, low, action_back m.action) refl
+    rw (
+      h.name,
+      h.version,
+      digest_back m.sha256 h.sha256,
+      listed (map need_tree m.needs),
+      needs,
+      low,
+      action_back m.action,
+    ) refl
 
 -- ---- what is written
 
@@ -85,7 +93,8 @@ unfolding escape_byte
 need_written n = refl
 
 -- the needs after the first, each behind a comma
-later_needs : (n : Need) (ns : List Need) → needs_text (n ∷ ns) ++ 93 ∷ [] ≡ compact_text (need_tree n) ++ items_text true (items_of (map need_tree ns))
+later_needs : (n : Need) (ns : List Need) → needs_text (n ∷ ns) ++ 93 ∷ [] ≡ compact_text (need_tree n)
+    ++ items_text true (items_of (map need_tree ns))
 later_needs n [] = ap (λ t. t ++ 93 ∷ []) (sym (need_written n))
 later_needs n (k ∷ ns) =
     append_assoc (need_text n) (44 ∷ needs_text (k ∷ ns)) (93 ∷ [])

@@ -40,7 +40,8 @@ stored-same parts = units-same 0 parts
 
 pub in-hand : (v : Holding) (x : SessionOf Extent) (id : ℕ) → IsSound (at_process v x id) → InHand v x id
 in-hand v x id sound = go (stored_of v.state.transfers x.owner id) refl
-    (subst (λ o. IsSomeAnd o (λ (t : Transfer). x.units_done < all_units t.parts)) (found-means package_reading v.areas x.owner id v.state.transfers)
+    (subst (λ o. IsSomeAnd o (λ (t : Transfer). x.units_done < all_units t.parts))
+    (found-means package_reading v.areas x.owner id v.state.transfers)
     sound.fit.consistent.processing.unfinished)
   where
     read : (u : StoredTransfer) → stored_of v.state.transfers x.owner id ≡ Some u → u.header.phase ≡ BeingProcessed
@@ -54,25 +55,33 @@ in-hand v x id sound = go (stored_of v.state.transfers x.owner id) refl
       parts = parts;
       reads = q;
       means = means;
-      contents = (found-has _ (IsPlaced package_reading v.areas) v.state.transfers u sound.order.transfers e).1.contents ∙ ap (map with_length) means;
+      contents =
+          (found-has _ (IsPlaced package_reading v.areas) v.state.transfers u sound.order.transfers e).1.contents
+          ∙ ap (map with_length) means;
       unfinished = subst (λ n. x.units_done < n) (ap all_units means) left;
     }
     read u e phase left (Err f) q means some = absurd (let f : ⊥ = omega (arith, some, ap length means) in f)
 
     go : (o : Option StoredTransfer) → stored_of v.state.transfers x.owner id ≡ o
-        → IsSomeAnd (option_map (transfer_meaning package_reading v.areas) o) (λ (t : Transfer). x.units_done < all_units t.parts) → InHand v x id
+        → IsSomeAnd (option_map (transfer_meaning package_reading v.areas) o)
+        (λ (t : Transfer). x.units_done < all_units t.parts) → InHand v x id
     go None e left = absurd left
     go (Some u) e left =
         let ts = v.state.transfers in
-        let due = found-fact (λ t. is_in BeingProcessed t.header ≡ (id == t.header.id)) v.areas x.owner id ts u sound.fit.consistent.processing.each e in
+        let due = found-fact (λ t. is_in BeingProcessed t.header
+        ≡ (id == t.header.id)) v.areas x.owner id ts u sound.fit.consistent.processing.each e in
         let phase = is-processing u.header (due ∙ eq-eqb _ _ (sym (found-is x.owner id ts u e).0)) in
-        let own = found-fact (λ t. IsRead package_reading t t.header.phase) v.areas x.owner id ts u sound.fit.read_parts e in
-        let all = (found-fact (IsSoundTransfer v.state.next_id) v.areas x.owner id ts u sound.fit.consistent.transfers.each e).whole in
+        let own =
+        found-fact (λ t. IsRead package_reading t t.header.phase) v.areas x.owner id ts u sound.fit.read_parts e in
+        let all =
+        (found-fact (IsSoundTransfer v.state.next_id) v.areas x.owner id ts u sound.fit.consistent.transfers.each
+        e).whole in
         read u e phase left (package_reading (bytes_of v.areas u)) refl
         (subst (IsRead package_reading (transfer_meaning package_reading v.areas u)) phase own)
         (subst (IsWholeFromTransferred (transfer_meaning package_reading v.areas u)) phase all).1
 
-module _ (v : Holding) (x : SessionOf Extent) (id : ℕ) (p : Prepared) (sound : IsSound (at_process v x id)) (h : InHand v x id) where
+module _ (v : Holding) (x : SessionOf Extent) (id : ℕ) (p : Prepared) (sound : IsSound (at_process v x id))
+    (h : InHand v x id) where
   -- where the payloads of the package in hand go
   abbrev pub extents : List Extent
   extents = extents_of v.state.running (taken_in (at_process v x id).state) (map with_length h.parts)
@@ -81,59 +90,84 @@ module _ (v : Holding) (x : SessionOf Extent) (id : ℕ) (p : Prepared) (sound :
   extents-are = ap (extents_of v.state.running (taken_in (at_process v x id).state)) h.contents
 
   -- what is ready for its next unit
-  package-ready : IsUnitReady Processing (at_process v x id) (busy x id) → IsPackageReady (at_process v x id) (busy x id) id h.transfer
+  package-ready : IsUnitReady Processing (at_process v x id) (busy x id)
+      → IsPackageReady (at_process v x id) (busy x id) id h.transfer
   package-ready ready = subst (λ o. IfSome o (IsPackageReady (at_process v x id) (busy x id) id)) h.is ready
 
-  pub bytes-ready : IsUnitReady Processing (at_process v x id) (busy x id) → AreCopied v.areas (x.units_done + 1) h.parts extents
-  bytes-ready ready = subst (λ (k : List (Part Bytes) × List Extent). AreCopied v.areas (x.units_done + 1) k.0 k.1) (λ i. (h.means i, extents-are i)) (package-ready ready).bytes
+  pub bytes-ready : IsUnitReady Processing (at_process v x id) (busy x id)
+      → AreCopied v.areas (x.units_done + 1) h.parts extents
+  bytes-ready ready =
+      subst (λ (k : List (Part Bytes) × List Extent). AreCopied v.areas (x.units_done + 1) k.0 k.1) (λ i.
+      (h.means i, extents-are i)) (package-ready ready).bytes
 
-  pub changes-ready : IsUnitReady Processing (at_process v x id) (busy x id) → nat_lt (x.units_done + 1) (all_units h.parts) ≡ false
+  pub changes-ready : IsUnitReady Processing (at_process v x id) (busy x id)
+      → nat_lt (x.units_done + 1) (all_units h.parts) ≡ false
       → plan_kept v.prepared ≡ Some (changes_to id (map with_length h.parts) extents)
   changes-ready ready last =
-      (package-ready ready).changes (ap (λ c. nat_lt (x.units_done + 1) (stored_units c)) h.contents ∙ ap (nat_lt (x.units_done + 1)) (stored-same h.parts) ∙ last)
+      (package-ready ready).changes (ap (λ c. nat_lt (x.units_done + 1) (stored_units c)) h.contents
+      ∙ ap (nat_lt (x.units_done + 1)) (stored-same h.parts) ∙ last)
       ∙ (λ i. Some (changes_to id (h.contents i) (extents-are i)))
 
   -- the parts that the unit is of
   pub parts-found : parts_of (transfer_of (node_of (at_process v x id)) x.owner id) ≡ h.parts
-  parts-found = ap parts_of (found-means package_reading v.areas x.owner id v.state.transfers ∙ ap (option_map (transfer_meaning package_reading v.areas)) h.is) ∙ h.means
+  parts-found = ap parts_of (found-means package_reading v.areas x.owner id v.state.transfers
+      ∙ ap (option_map (transfer_meaning package_reading v.areas)) h.is) ∙ h.means
 
   abbrev process_at : List (Part Bytes) → Bool → Option NodeState
   process_at parts more =
       let s = node_of (at_process v x id) in
       let y = session_meaning v.areas (busy x id) in
-      Some (if more then record s { session = Some (record y { units_done = y.units_done + 1 }) } else processed s y id parts)
+      Some (if more then record s { session = Some (record y { units_done = y.units_done + 1 }) }
+      else processed s y id parts)
 
   -- what is copied of the package in hand is all that need be, while transfers mean the same
-  pub hand-copied : (areas : Areas) (s : State) → ((t : StoredTransfer) → transfer_meaning package_reading areas t ≡ transfer_meaning package_reading v.areas t)
-      → AreCopied areas (units_done s) h.parts (extents_in s h.transfer) → AllByRecursion (λ t. IsCopiedIn package_reading areas s t t.header.phase) v.state.transfers
-  hand-copied areas s reads own = each-both _ _ _ (λ t due same. copied-when areas s t t.header.phase (λ e. parts t (same (this t due e)))) v.state.transfers
-      (each-unmap (λ (t : Transfer). is_in BeingProcessed t.header ≡ (id == t.header.id)) (transfer_meaning package_reading v.areas) v.state.transfers
+  pub hand-copied : (areas : Areas) (s : State)
+      → ((t : StoredTransfer) → transfer_meaning package_reading areas t ≡ transfer_meaning package_reading v.areas t)
+      → AreCopied areas (units_done s) h.parts (extents_in s h.transfer)
+      → AllByRecursion (λ t. IsCopiedIn package_reading areas s t t.header.phase) v.state.transfers
+  hand-copied areas s reads own =
+      each-both _ _ _ (λ t due same. copied-when areas s t t.header.phase (λ e. parts t (same (this t due e))))
+      v.state.transfers
+      (each-unmap (λ (t : Transfer). is_in BeingProcessed t.header ≡ (id == t.header.id))
+      (transfer_meaning package_reading v.areas) v.state.transfers
       sound.fit.consistent.processing.each)
       (only x.owner id v.state.transfers h.transfer (rise (at_process v x id) sound) h.is)
     where
-      this : (t : StoredTransfer) → is_in BeingProcessed t.header ≡ (id == t.header.id) → t.header.phase ≡ BeingProcessed → (t.header.id == id) ≡ true
+      this : (t : StoredTransfer) → is_in BeingProcessed t.header ≡ (id == t.header.id)
+          → t.header.phase ≡ BeingProcessed → (t.header.id == id) ≡ true
       this t due e = let z = ap (λ p. phase_code p == 2) (sym e) ∙ due in grind (arith, nat_tests, sym z)
 
-      parts : (t : StoredTransfer) → t ≡ h.transfer → AreCopied areas (units_done s) (transfer_meaning package_reading areas t).parts (extents_in s t)
+      parts : (t : StoredTransfer) → t ≡ h.transfer
+          → AreCopied areas (units_done s) (transfer_meaning package_reading areas t).parts (extents_in s t)
       parts t same =
           subst (λ (k : List (Part Bytes) × StoredTransfer). AreCopied areas (units_done s) k.0 (extents_in s k.1))
-          (λ i. ((sym (ap (λ (u : StoredTransfer). (transfer_meaning package_reading areas u).parts) same ∙ ap (λ (k : Transfer). k.parts) (reads h.transfer) ∙ h.means)) i, sym same i)) own
+          (λ i. (
+            (sym (ap (λ (u : StoredTransfer). (transfer_meaning package_reading areas u).parts) same
+                ∙ ap (λ (k : Transfer). k.parts) (reads h.transfer) ∙ h.means)) i,
+            sym same i,
+          )) own
 
   -- what the unit does
-  pub unit-done : (passed more : Bool) → nat_lt (x.units_done + 1) (all_units h.parts) ≡ more → unit (node_of (at_process v x id)) passed ≡ process_at h.parts more
-  unit-done passed more m = ap (λ parts. process_at parts (nat_lt (x.units_done + 1) (all_units parts))) parts-found ∙ ap (process_at h.parts) m
+  pub unit-done : (passed more : Bool) → nat_lt (x.units_done + 1) (all_units h.parts) ≡ more
+      → unit (node_of (at_process v x id)) passed ≡ process_at h.parts more
+  unit-done passed more m = ap (λ parts. process_at parts (nat_lt (x.units_done + 1) (all_units parts))) parts-found
+      ∙ ap (process_at h.parts) m
 
   -- the stored state after a unit that isn't the last
   abbrev new : State
   new = (moved v (busy x id) p Processing (record (busy x id) { units_done = x.units_done + 1 }) v.state.running).state
 
   -- a unit that isn't the last
-  pub more-unit : (passed : Bool) → IsUnitReady Processing (at_process v x id) (busy x id) → nat_lt (x.units_done + 1) (all_units h.parts) ≡ true
-      → IsUnit (at_process v x id) passed (moved v (busy x id) p Processing (record (busy x id) { units_done = x.units_done + 1 }) v.state.running)
+  pub more-unit : (passed : Bool) → IsUnitReady Processing (at_process v x id) (busy x id)
+      → nat_lt (x.units_done + 1) (all_units h.parts) ≡ true
+      → IsUnit (at_process v x id) passed
+      (moved v (busy x id) p Processing (record (busy x id) { units_done = x.units_done + 1 }) v.state.running)
   more-unit passed ready more = record {
     node = unit-done passed true more;
-    order = marked-order v.areas (at_process v x id).state Processing (busy x id) (Some id) (x.units_done + 1) x.verified x.outcome
+    order = marked-order v.areas (at_process v x id).state Processing (busy x id) (Some id)
+        (x.units_done + 1) x.verified x.outcome
         sound.order sound.order.running;
-    copied = hand-copied v.areas new (λ t. refl) (subst (AreCopied v.areas (x.units_done + 1) h.parts) (sym extents-are) (bytes-ready ready));
+    copied = hand-copied v.areas new (λ t. refl)
+        (subst (AreCopied v.areas (x.units_done + 1) h.parts) (sym extents-are) (bytes-ready ready));
     entries = refl;
   }

@@ -26,14 +26,18 @@ use Rattle.node_core.proofs.Pieces.{all-lie, lie-short}
 use Rattle.node_core.proofs.Placing.{Match, all-fit, changes-side, extents-are-extents, extents-match, match-length, name_of, planned-payloads}
 
 -- of different names, none of the later ones is an earlier one, and these differ
-apart-names : (ns ms : List (List ℕ)) → all_differ (ns ++ ms) ≡ true → AllByRecursion (λ m. has_name ns m ≡ false) ms × (all_differ ms ≡ true)
+apart-names : (ns ms : List (List ℕ)) → all_differ (ns ++ ms) ≡ true
+    → AllByRecursion (λ m. has_name ns m ≡ false) ms × (all_differ ms ≡ true)
 apart-names [] ms d = (every (λ m. refl) ms, d)
 apart-names (n ∷ ns) ms d =
     let parts : (has_name (ns ++ ms) n ≡ false) × (all_differ (ns ++ ms) ≡ true) = grind (arith, d) in
     let both : (has_name ns n || has_name ms n) ≡ false = sym (has-append ns ms n) ∙ parts.0 in
     let other : has_name ms n ≡ false = grind (arith, both) in
-    let rest = apart-names ns ms parts.1 in
-    (each-both _ _ _ (λ m h k. grind (arith, name-swap n m, h, k)) ms (none-named (λ (m : List ℕ). m) ms n (subst (λ l. has_name l n ≡ false) (sym (map-id ms)) other)) rest.0, rest.1)
+    let rest = apart-names ns ms parts.1 in (
+      each-both _ _ _ (λ m h k. grind (arith, name-swap n m, h, k)) ms
+          (none-named (λ (m : List ℕ). m) ms n (subst (λ l. has_name l n ≡ false) (sym (map-id ms)) other)) rest.0,
+      rest.1,
+    )
 
 module _ (v : Holding) (x : SessionOf Extent) (id : ℕ) (sound : IsSound (at_process v x id)) (h : InHand v x id) where
   abbrev pub state : State
@@ -77,12 +81,15 @@ module _ (v : Holding) (x : SessionOf Extent) (id : ℕ) (sound : IsSound (at_pr
   runs = sound.order.running
 
   -- each applies to what runs
-  pub suiting : AllByRecursion (λ (part : Part ℕ). suits part.manifest.action (has_cluster v.state.running (cluster_of part)) ≡ true) brings
+  pub suiting : AllByRecursion (λ (part : Part ℕ). suits part.manifest.action
+      (has_cluster v.state.running (cluster_of part)) ≡ true) brings
   suiting =
       each-map _ with_length h.parts (each-imp _ _ (λ part a.
-      ap (λ cs. suits part.manifest.action (has_cluster cs (cluster_of part))) runs ∙ ap (suits part.manifest.action) (sym (has-means v.areas x.saved (cluster_of part))) ∙ a) h.parts
+      ap (λ cs. suits part.manifest.action (has_cluster cs (cluster_of part))) runs
+      ∙ ap (suits part.manifest.action) (sym (has-means v.areas x.saved (cluster_of part))) ∙ a) h.parts
       (each-second (λ part. applies part (map (cluster_meaning v.areas) x.saved) ≡ true) plans h.parts
-      (subst (AllByRecursion (λ part. applies part (map (cluster_meaning v.areas) x.saved) ≡ true)) parts-are sound.fit.consistent.applying.each)))
+      (subst (AllByRecursion (λ part. applies part (map (cluster_meaning v.areas) x.saved) ≡ true)) parts-are
+      sound.fit.consistent.applying.each)))
 
   abbrev ran : List (List ℕ)
   ran = map (λ (c : Cluster Extent). c.name) v.state.running
@@ -117,17 +124,26 @@ module _ (v : Holding) (x : SessionOf Extent) (id : ℕ) (sound : IsSound (at_pr
       (subst (λ ns. all_differ ns ≡ true) (part-names x.changes)
       (subst (λ ps. all_differ (map cluster_of ps) ≡ true) parts-are sound.fit.consistent.applying.differ))
       (among-changed (changed ++ names) (within-self (changed ++ names))) in
-      omega (arith, n, few, length-append changed names, length-map x.changes (λ (c : Change Extent). cluster_of c.part), length-map brings name_of)
+      omega (
+        arith,
+        n,
+        few,
+        length-append changed names,
+        length-map x.changes (λ (c : Change Extent). cluster_of c.part),
+        length-map brings name_of,
+      )
 
   abbrev pub pairs : List Pair
   pairs = places_in state
 
   pair-names : map (λ (a : Pair). a.0) pairs ≡ ran ++ (kept ++ changed)
   pair-names =
-      map-append (λ (a : Pair). a.0) (map cluster_place v.state.running) (map cluster_place x.saved ++ map change_place x.changes)
+      map-append (λ (a : Pair). a.0) (map cluster_place v.state.running) (map cluster_place x.saved
+      ++ map change_place x.changes)
       ∙ (λ i. map-map (λ (a : Pair). a.0) cluster_place v.state.running i
       ++ (map-append (λ (a : Pair). a.0) (map cluster_place x.saved) (map change_place x.changes)
-      ∙ (λ j. map-map (λ (a : Pair). a.0) cluster_place x.saved j ++ map-map (λ (a : Pair). a.0) change_place x.changes j)) i)
+      ∙ (λ j. map-map (λ (a : Pair). a.0) cluster_place x.saved j
+      ++ map-map (λ (a : Pair). a.0) change_place x.changes j)) i)
 
   inside : Within (map (λ (a : Pair). a.0) pairs) all
   inside = subst (λ ns. Within ns all) (sym pair-names)
@@ -136,7 +152,8 @@ module _ (v : Holding) (x : SessionOf Extent) (id : ℕ) (sound : IsSound (at_pr
       (among-changed changed (within-left changed changed names (within-self changed)))))
 
   -- a part's name is among them where its cluster runs
-  here : AllByRecursion (λ (part : Part ℕ). has_name (map (λ (a : Pair). a.0) pairs) (cluster_of part) ≡ has_cluster v.state.running (cluster_of part)) brings
+  here : AllByRecursion (λ (part : Part ℕ). has_name (map (λ (a : Pair). a.0) pairs) (cluster_of part)
+      ≡ has_cluster v.state.running (cluster_of part)) brings
   here = each-imp _ _ one brings (each-unmap (λ n. has_name changed n ≡ false) name_of brings apart.0)
     where
       twice : (b : Bool) → (b || (b || false)) ≡ b
@@ -147,7 +164,8 @@ module _ (v : Holding) (x : SessionOf Extent) (id : ℕ) (sound : IsSound (at_pr
       one part new =
           let name = cluster_of part in
           let there = has-named (λ (c : Cluster Extent). c.name) v.state.running name in
-          let saved = has-named (λ (c : Cluster Extent). c.name) x.saved name ∙ ap (λ cs. has_cluster cs name) (sym runs) in
+          let saved = has-named (λ (c : Cluster Extent). c.name) x.saved name
+          ∙ ap (λ cs. has_cluster cs name) (sym runs) in
           ap (λ ns. has_name ns name) pair-names
           ∙ has-append ran (kept ++ changed) name ∙ ap (λ b. has_name ran name || b) (has-append kept changed name)
           ∙ (λ i. there i || (saved i || new i)) ∙ twice (has_cluster v.state.running name)
@@ -155,15 +173,19 @@ module _ (v : Holding) (x : SessionOf Extent) (id : ℕ) (sound : IsSound (at_pr
   -- the places with the changes'
   pub later-fits : names_fit_places (pairs ++ map change_place planned) ≡ true
   later-fits = all-fit v.state.running all few id pairs brings sound.order.places
-      (λ P each. each-first P (map cluster_place v.state.running) _ each) here suiting apart.1 inside (among-changed names (within-right names changed names (within-self names)))
+      (λ P each. each-first P (map cluster_place v.state.running) _ each) here suiting apart.1 inside
+      (among-changed names (within-right names changed names (within-self names)))
 
   -- payloads are no longer than a package
   pub short : AllByRecursion (λ (part : Part ℕ). part.payload ≤ package_limit) brings
   short =
-      let bounded = (found-has (λ t. is_of x.owner id t.header) _ v.state.transfers h.transfer (table-is (at_process v x id) sound).each h.is).1 in
+      let bounded =
+      (found-has (λ t. is_of x.owner id t.header) _ v.state.transfers h.transfer
+      (table-is (at_process v x id) sound).each h.is).1 in
       let came = length-take h.transfer.header.received (slice_index_or v.areas.slots h.transfer.slot []) in
       each-map _ with_length h.parts (lie-short (bytes_of v.areas h.transfer) (parts_place (length h.parts)) h.parts
-      (omega (arith, bounded.received, bounded.size, came)) (parts-read (bytes_of v.areas h.transfer) h.parts h.reads).lie)
+      (omega (arith, bounded.received, bounded.size, came))
+      (parts-read (bytes_of v.areas h.transfer) h.parts h.reads).lie)
 
   pub planned-extents : AllByRecursion IsExtent (extents v x id v.prepared sound h)
   planned-extents = extents-are-extents v.state.running sound.order.clusters (taken_in state) brings short
@@ -182,32 +204,46 @@ module _ (v : Holding) (x : SessionOf Extent) (id : ℕ) (sound : IsSound (at_pr
 
   none-in-processing : AllByRecursion (λ t. is_in BeingProcessed t.header ≡ false) after.transfers
   none-in-processing =
-      each-map (λ t. is_in BeingProcessed t.header ≡ false) (λ t. if t.header.id == id then moved_to Processed t else t) v.state.transfers
+      each-map (λ t. is_in BeingProcessed t.header ≡ false) (λ t. if t.header.id == id then moved_to Processed t
+      else t) v.state.transfers
       (each-imp _ _ (λ t due. by t (t.header.id == id) refl due) v.state.transfers
-      (each-unmap (λ (t : Transfer). is_in BeingProcessed t.header ≡ (id == t.header.id)) (transfer_meaning package_reading v.areas)
+      (each-unmap (λ (t : Transfer). is_in BeingProcessed t.header ≡ (id == t.header.id))
+      (transfer_meaning package_reading v.areas)
       v.state.transfers sound.fit.consistent.processing.each))
     where
-      by : (t : StoredTransfer) (b : Bool) → (t.header.id == id) ≡ b → is_in BeingProcessed t.header ≡ (id == t.header.id)
+      by : (t : StoredTransfer) (b : Bool) → (t.header.id == id) ≡ b
+          → is_in BeingProcessed t.header ≡ (id == t.header.id)
           → is_in BeingProcessed (if b then moved_to Processed t else t).header ≡ false
       by t b e due = grind (arith, nat_tests)
 
   -- the last unit
   pub last-unit : (passed : Bool) (p : Prepared) → IsUnitReady Processing (at_process v x id) (busy x id)
-      → nat_lt (x.units_done + 1) (all_units h.parts) ≡ false → IsUnit (at_process v x id) passed (processed_with p after (x.changes ++ planned))
+      → nat_lt (x.units_done + 1) (all_units h.parts) ≡ false
+      → IsUnit (at_process v x id) passed (processed_with p after (x.changes ++ planned))
   last-unit passed p ready last = record {
     node = unit-done v x id v.prepared sound h passed false last
         ∙ (λ i. Some (record (node_of (processed_with p after (x.changes ++ planned))) {
-          transfers = sym (phased-means (at_process v x id) sound x.owner id h.transfer h.is Processed was-whole refl) i;
-          session = Some (record (session_meaning v.areas x) { changes = sym changes-mean i; processing = None; units_done = x.units_done + 1 });
+          transfers =
+              sym (phased-means (at_process v x id) sound x.owner id h.transfer h.is Processed was-whole refl) i;
+          session =
+              Some (record (session_meaning v.areas x) {
+                changes = sym changes-mean i;
+                processing = None;
+                units_done =
+                    x.units_done + 1;
+              });
         }));
     order = record {
       clusters = sound.order.clusters;
       session = (
         sound.order.session.0,
         each-append (λ c. IsExtent c.part.payload) x.changes planned sound.order.session.1
-            (each-unmap IsExtent (λ (c : Change Extent). c.part.payload) planned (subst (AllByRecursion IsExtent) (sym (planned-payloads id brings _ matches)) planned-extents)),
+            (each-unmap IsExtent (λ (c : Change Extent). c.part.payload) planned
+            (subst (AllByRecursion IsExtent) (sym (planned-payloads id brings _ matches)) planned-extents)),
         each-all _ (x.changes ++ planned) (each-append _ x.changes planned (all-each _ x.changes sound.order.session.2)
-            (subst (λ cs. AllByRecursion (λ (c : Change Extent). takes_side c.part.manifest.action c.part.payload.side (cluster_at cs (cluster_of c.part)) ≡ true) planned) runs
+            (subst (λ cs.
+            AllByRecursion (λ (c : Change Extent). takes_side c.part.manifest.action c.part.payload.side
+            (cluster_at cs (cluster_of c.part)) ≡ true) planned) runs
             (changes-side v.state.running id (taken_in state) brings))),
       );
       transfers = phased-placed (at_process v x id) sound x.owner id h.transfer h.is Processed was-whole refl;
@@ -219,20 +255,26 @@ module _ (v : Holding) (x : SessionOf Extent) (id : ℕ) (sound : IsSound (at_pr
     entries = refl;
   }
     where
-      places-are : pairs ++ map change_place planned ≡ map cluster_place v.state.running ++ (map cluster_place x.saved ++ map change_place (x.changes ++ planned))
+      places-are : pairs ++ map change_place planned ≡ map cluster_place v.state.running
+          ++ (map cluster_place x.saved ++ map change_place (x.changes ++ planned))
       places-are =
-          append_assoc (map cluster_place v.state.running) (map cluster_place x.saved ++ map change_place x.changes) (map change_place planned)
-          ∙ ap (λ ps. map cluster_place v.state.running ++ ps) (append_assoc (map cluster_place x.saved) (map change_place x.changes) (map change_place planned)
+          append_assoc (map cluster_place v.state.running) (map cluster_place x.saved ++ map change_place x.changes)
+          (map change_place planned)
+          ∙ ap (λ ps. map cluster_place v.state.running ++ ps)
+          (append_assoc (map cluster_place x.saved) (map change_place x.changes) (map change_place planned)
           ∙ ap (λ ps. map cluster_place x.saved ++ ps) (sym (map-append change_place x.changes planned)))
 
-      changes-mean : map (change_meaning v.areas) (x.changes ++ planned) ≡ map (change_meaning v.areas) x.changes ++ changes_of id h.parts
+      changes-mean : map (change_meaning v.areas) (x.changes ++ planned) ≡ map (change_meaning v.areas) x.changes
+          ++ changes_of id h.parts
       changes-mean =
           map-append (change_meaning v.areas) x.changes planned
           ∙ ap (λ cs. map (change_meaning v.areas) x.changes ++ cs)
-          (all-lie v.areas id (x.units_done + 1) h.parts (extents v x id v.prepared sound h) matches (ltb-false _ _ last) (bytes-ready v x id v.prepared sound h ready))
+          (all-lie v.areas id (x.units_done + 1) h.parts (extents v x id v.prepared sound h) matches
+          (ltb-false _ _ last) (bytes-ready v x id v.prepared sound h ready))
 
 -- the same, told of a node by its parts
-module _ {v w : Holding} (e : v ≡ w) (x : SessionOf Extent) (id : ℕ) (is : x.processing ≡ Some id) (there : v.state.session ≡ Some x)
+module _ {v w : Holding} (e : v ≡ w) (x : SessionOf Extent) (id : ℕ) (is : x.processing ≡ Some id)
+    (there : v.state.session ≡ Some x)
     (sound : IsSound w) (q : w.state.status ≡ Processing) where
   at : v.state.session ≡ Some (busy x id)
   at = there ∙ ap (λ o. Some (record x { processing = o })) is
@@ -252,7 +294,8 @@ module _ {v w : Holding} (e : v ≡ w) (x : SessionOf Extent) (id : ℕ) (is : x
     is-hand = let z = sym hand.is ∙ found in cc
 
     same-units : stored_units u.contents ≡ all_units hand.parts
-    same-units = ap (λ (t : StoredTransfer). stored_units t.contents) (sym is-hand) ∙ ap stored_units hand.contents ∙ stored-same hand.parts
+    same-units = ap (λ (t : StoredTransfer). stored_units t.contents) (sym is-hand) ∙ ap stored_units hand.contents
+        ∙ stored-same hand.parts
 
     pub next-fits : x.units_done < stored_units u.contents
     next-fits = subst (λ n. x.units_done < n) (sym same-units) hand.unfinished
@@ -262,11 +305,20 @@ module _ {v w : Holding} (e : v ≡ w) (x : SessionOf Extent) (id : ℕ) (is : x
       ready-now : IsUnitReady Processing (at_process v x id) (busy x id)
       ready-now = ready-at v w Processing (busy x id) e q at ready
 
-      pub more-done : x.units_done + 1 < stored_units u.contents → (passed : Bool) (p : Prepared) (status : Status) → status ≡ Processing
-          → IsUnit w passed (record v { state = record v.state { status = status; session = Some (record x { units_done = x.units_done + 1 }) }; prepared = p })
+      pub more-done : x.units_done + 1 < stored_units u.contents → (passed : Bool) (p : Prepared) (status : Status)
+          → status ≡ Processing
+          → IsUnit w passed (record v {
+            state =
+                record v.state { status = status; session = Some (record x { units_done = x.units_done + 1 }) };
+            prepared = p;
+          })
       more-done more passed p status stays =
           subst (IsUnit w passed) (λ i. record v {
-            state = record v.state { status = sym stays i; session = Some (record x { processing = sym is i; units_done = x.units_done + 1 }) };
+            state = record v.state {
+              status = sym stays i;
+              session =
+                  Some (record x { processing = sym is i; units_done = x.units_done + 1 });
+            };
             prepared = p;
           })
           (unit-at v w Processing (busy x id) e q at passed _ (more-unit v x id p whole hand passed ready-now
@@ -292,9 +344,17 @@ module _ {v w : Holding} (e : v ≡ w) (x : SessionOf Extent) (id : ℕ) (is : x
               let some = room v x id whole hand in
               let many = ap length (planned-payloads id (brings v x id whole hand) _ (matches v x id whole hand)) in
               let as_many = match-length (brings v x id whole hand) _ (matches v x id whole hand) in
-              omega (arith, some, many, as_many, ap length same-plan, length-map (planned v x id whole hand) (λ (c : Change Extent). c.part.payload))
+              omega (
+                arith,
+                some,
+                many,
+                as_many,
+                ap length same-plan,
+                length-map (planned v x id whole hand) (λ (c : Change Extent). c.part.payload),
+              )
 
-          pub last-done : (passed : Bool) (p : Prepared) (table : Table) → table ≡ with_stored id (moved_to Processed) (table_of v.state)
+          pub last-done : (passed : Bool) (p : Prepared) (table : Table)
+              → table ≡ with_stored id (moved_to Processed) (table_of v.state)
               → (changes : List (Change Extent)) → changes ≡ x.changes ++ plan
               → IsUnit w passed (record v {
                 state = record (with_table table v.state) {
@@ -304,5 +364,8 @@ module _ {v w : Holding} (e : v ≡ w) (x : SessionOf Extent) (id : ℕ) (is : x
                 prepared = p;
               })
           last-done passed p table tables changes longer =
-              subst (IsUnit w passed) (λ i. processed_with v x id whole hand p (sym tables i) ((ap (λ c. x.changes ++ c) same-plan ∙ sym longer) i))
-              (unit-at v w Processing (busy x id) e q at passed _ (last-unit v x id whole hand passed p ready-now last-is))
+              subst (IsUnit w passed) (λ i.
+              processed_with v x id whole hand p (sym tables i)
+              ((ap (λ c. x.changes ++ c) same-plan ∙ sym longer) i))
+              (unit-at v w Processing (busy x id) e q at passed _
+              (last-unit v x id whole hand passed p ready-now last-is))

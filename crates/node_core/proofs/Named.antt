@@ -18,7 +18,8 @@ none-named f xs n e =
     each-imp _ _ (λ x h. name-swap n (f x) ∙ h) xs (none-any (λ x. bytes_eq (f x) n) xs (sym (has-named f xs n) ∙ e))
 
 -- of different names, none is a later one
-pub differ-before : (ns : List (List ℕ)) (n : List ℕ) (rest : List (List ℕ)) → all_differ (ns ++ n ∷ rest) ≡ true → has_name ns n ≡ false
+pub differ-before : (ns : List (List ℕ)) (n : List ℕ) (rest : List (List ℕ)) → all_differ (ns ++ n ∷ rest) ≡ true
+    → has_name ns n ≡ false
 differ-before [] n rest d = refl
 differ-before (m ∷ ns) n rest d = grind (arith, has-append ns (n ∷ rest) m, name-swap n m, differ-before ns n rest)
 
@@ -42,7 +43,8 @@ pub one-named : (ns : List (List ℕ)) (n : List ℕ)
 one-named ns n = grind arith
 
 -- a cluster more
-pub cluster-more : (c : Cluster Extent) (cs : List (Cluster Extent)) (changes : List (Change Extent)) (parts : List (Part ℕ))
+pub cluster-more : (c : Cluster Extent) (cs : List (Cluster Extent)) (changes : List (Change Extent))
+    (parts : List (Part ℕ))
     → count_of (c ∷ cs) changes parts ≡ added cs changes parts c.name + count_of cs changes parts
 cluster-more c cs changes parts =
     let names = map (λ (d : Cluster Extent). d.name) cs in
@@ -51,7 +53,15 @@ cluster-more c cs changes parts =
     let own = has-named (λ (d : Cluster Extent). d.name) cs c.name in
     let planned = has-named (λ (d : Change Extent). cluster_of d.part) changes c.name in
     let brought = has-named (λ (p : Part ℕ). cluster_of p) parts c.name in
-    grind (arith, one-named (names ++ plans ++ brings) c.name, has-append (names ++ plans) brings c.name, has-append names plans c.name, own, planned, brought)
+    grind (
+      arith,
+      one-named (names ++ plans ++ brings) c.name,
+      has-append (names ++ plans) brings c.name,
+      has-append names plans c.name,
+      own,
+      planned,
+      brought,
+    )
 
 -- a change more
 pub change-more : (change : Change Extent) (changes : List (Change Extent)) (parts : List (Part ℕ))
@@ -65,10 +75,16 @@ change-more change changes parts =
     grind (arith, one-named (plans ++ brings) name, has-append plans brings name, planned, brought)
 
 -- a part more
-pub part-more : (part : Part ℕ) (parts : List (Part ℕ)) → count_of [] [] (part ∷ parts) ≡ added [] [] parts (cluster_of part) + count_of [] [] parts
-part-more part parts = grind (arith, one-named (map (λ (p : Part ℕ). cluster_of p) parts) (cluster_of part), has-named (λ (p : Part ℕ). cluster_of p) parts (cluster_of part))
+pub part-more : (part : Part ℕ) (parts : List (Part ℕ))
+    → count_of [] [] (part ∷ parts) ≡ added [] [] parts (cluster_of part) + count_of [] [] parts
+part-more part parts = grind (
+  arith,
+  one-named (map (λ (p : Part ℕ). cluster_of p) parts) (cluster_of part),
+  has-named (λ (p : Part ℕ). cluster_of p) parts (cluster_of part),
+)
 
-pub one-at-most : (clusters : List (Cluster Extent)) (changes : List (Change Extent)) (parts : List (Part ℕ)) (name : List ℕ) → added clusters changes parts name ≤ 1
+pub one-at-most : (clusters : List (Cluster Extent)) (changes : List (Change Extent)) (parts : List (Part ℕ))
+    (name : List ℕ) → added clusters changes parts name ≤ 1
 one-at-most clusters changes parts name = grind arith
 
 -- a list without its first
@@ -76,8 +92,10 @@ abbrev pub rest_of : {X : Type 0} → List X → List X
 rest_of xs = take (length xs - 1) (drop 1 xs)
 
 -- the rest of a list that is counted, one at a time
-module _ {X : Type 0} (total : List X → ℕ) (more : List X → X → ℕ) (step : (x : X) (xs : List X) → total (x ∷ xs) ≡ more xs x + total xs) where
-  pub counted-on : (xs : List X) (x : X) (count n : ℕ) → 1 ≤ length xs → x ≡ get_or xs 0 x → count + total xs ≡ n → count + more (rest_of xs) x + total (rest_of xs) ≡ n
+module _ {X : Type 0} (total : List X → ℕ) (more : List X → X → ℕ) (step : (x : X) (xs : List X)
+    → total (x ∷ xs) ≡ more xs x + total xs) where
+  pub counted-on : (xs : List X) (x : X) (count n : ℕ) → 1 ≤ length xs → x ≡ get_or xs 0 x → count + total xs ≡ n
+      → count + more (rest_of xs) x + total (rest_of xs) ≡ n
   counted-on [] x count n some is sum = absurd (omega (arith, some))
   counted-on (y ∷ ys) x count n some is sum = grind (arith, step y ys, take_rest (y ∷ ys) 1)
 

@@ -26,50 +26,82 @@ module _ (n : List ℕ) where
 
   none-before : (cs : List (Cluster Bytes)) → AllByRecursion (λ d. name_lt n d.name ≡ true) cs → named_before n cs ≡ []
   none-before [] h = refl
-  none-before (d ∷ cs) h = ap (λ b. cond b (d ∷ named_before n cs) (named_before n cs)) (lt-not n d.name h.0) ∙ none-before cs h.1
+  none-before (d ∷ cs) h = ap (λ b. cond b (d ∷ named_before n cs) (named_before n cs)) (lt-not n d.name h.0)
+      ∙ none-before cs h.1
 
   all-behind : (cs : List (Cluster Bytes)) → AllByRecursion (λ d. name_lt n d.name ≡ true) cs → behind cs ≡ cs
   all-behind [] h = refl
   all-behind (d ∷ cs) h = ap (λ b. cond b (d ∷ behind cs) (behind cs)) h.0 ∙ ap (λ l. d ∷ l) (all-behind cs h.1)
 
   -- a rising list is cut where a name belongs
-  cut : (cs : List (Cluster Bytes)) → names_rise (names_of cs) ≡ true → AllByRecursion (λ d. bytes_eq d.name n ≡ false) cs
+  cut : (cs : List (Cluster Bytes)) → names_rise (names_of cs) ≡ true
+      → AllByRecursion (λ d. bytes_eq d.name n ≡ false) cs
       → (take (length (named_before n cs)) cs ≡ named_before n cs) × (drop (length (named_before n cs)) cs ≡ behind cs)
   cut [] r apart = (refl, refl)
   cut (d ∷ cs) r apart = go (name_lt d.name n) refl (cut cs (names-tail d.name (names_of cs) r) apart.1)
     where
-      go : (b : Bool) → name_lt d.name n ≡ b → (take (length (named_before n cs)) cs ≡ named_before n cs) × (drop (length (named_before n cs)) cs ≡ behind cs)
-          → (take (length (cond b (d ∷ named_before n cs) (named_before n cs))) (d ∷ cs) ≡ cond b (d ∷ named_before n cs) (named_before n cs))
-          × (drop (length (cond b (d ∷ named_before n cs) (named_before n cs))) (d ∷ cs) ≡ cond (name_lt n d.name) (d ∷ behind cs) (behind cs))
-      go true e rest = (ap (λ l. d ∷ l) rest.0, rest.1 ∙ sym (ap (λ b. cond b (d ∷ behind cs) (behind cs)) (lt-not d.name n e)))
+      go : (b : Bool) → name_lt d.name n ≡ b → (take (length (named_before n cs)) cs ≡ named_before n cs)
+          × (drop (length (named_before n cs)) cs ≡ behind cs)
+          → (take (length (cond b (d ∷ named_before n cs) (named_before n cs))) (d ∷ cs)
+          ≡ cond b (d ∷ named_before n cs) (named_before n cs))
+          × (drop (length (cond b (d ∷ named_before n cs) (named_before n cs))) (d ∷ cs)
+          ≡ cond (name_lt n d.name) (d ∷ behind cs) (behind cs))
+      go true e rest =
+          (ap (λ l. d ∷ l) rest.0, rest.1 ∙ sym (ap (λ b. cond b (d ∷ behind cs) (behind cs)) (lt-not d.name n e)))
       go false e rest =
           let first = lt-other d.name n e apart.0 in
-          let later = each-imp _ _ (λ x h. lt-trans n d.name x.name first h) cs (each-unmap (λ x. name_lt d.name x ≡ true) (λ (x : Cluster Bytes). x.name) cs (names-behind d.name (names_of cs) r)) in
+          let later =
+          each-imp _ _ (λ x h. lt-trans n d.name x.name first h) cs
+          (each-unmap (λ x. name_lt d.name x ≡ true) (λ (x : Cluster Bytes). x.name) cs
+          (names-behind d.name (names_of cs) r)) in
           let none = none-before cs later in (
             ap (λ l. take (length l) (d ∷ cs)) none ∙ sym none,
-            ap (λ l. drop (length l) (d ∷ cs)) none ∙ sym (ap (λ b. cond b (d ∷ behind cs) (behind cs)) first ∙ ap (λ l. d ∷ l) (all-behind cs later)),
+            ap (λ l. drop (length l) (d ∷ cs)) none
+                ∙ sym (ap (λ b. cond b (d ∷ behind cs) (behind cs)) first ∙ ap (λ l. d ∷ l) (all-behind cs later)),
           )
 
-inserted : (c : Cluster Bytes) (cs : List (Cluster Bytes)) → names_rise (names_of cs) ≡ true → AllByRecursion (λ d. bytes_eq d.name c.name ≡ false) cs → insert cs (length (named_before c.name cs)) c ≡ with_cluster c cs
+inserted : (c : Cluster Bytes) (cs : List (Cluster Bytes)) → names_rise (names_of cs) ≡ true
+    → AllByRecursion (λ d. bytes_eq d.name c.name ≡ false) cs
+    → insert cs (length (named_before c.name cs)) c ≡ with_cluster c cs
 inserted c cs r apart = let at = cut c.name cs r apart in ap₂ (λ xs ys. xs ++ c ∷ ys) at.0 at.1
 
-with-rise : (c : Cluster Bytes) (cs : List (Cluster Bytes)) → names_rise (names_of cs) ≡ true → names_rise (names_of (with_cluster c cs)) ≡ true
+with-rise : (c : Cluster Bytes) (cs : List (Cluster Bytes)) → names_rise (names_of cs) ≡ true
+    → names_rise (names_of (with_cluster c cs)) ≡ true
 with-rise c cs r =
-    planned-rise (record { transfer = 0; part = record { manifest = record { action = Install; name = c.name; version = c.version; needs = c.needs; sha256 = [] }; payload = c.content } } ∷ []) cs r
+    planned-rise (record {
+      transfer = 0;
+      part =
+          record {
+            manifest = record {
+              action = Install;
+              name = c.name;
+              version = c.version;
+              needs = c.needs;
+              sha256 =
+                  [];
+            };
+            payload = c.content;
+          };
+    } ∷ []) cs r
 
-rises-from : (cs ordered : List (Cluster Bytes)) → names_rise (names_of ordered) ≡ true → names_rise (names_of (fold (λ ordered c. with_cluster c ordered) ordered cs)) ≡ true
+rises-from : (cs ordered : List (Cluster Bytes)) → names_rise (names_of ordered) ≡ true
+    → names_rise (names_of (fold (λ ordered c. with_cluster c ordered) ordered cs)) ≡ true
 rises-from [] ordered r = r
 rises-from (c ∷ cs) ordered r = rises-from cs (with_cluster c ordered) (with-rise c ordered r)
 
 pub order-rises : (cs : List (Cluster Bytes)) → names_rise (names_of (in_order cs)) ≡ true
 order-rises cs = rises-from cs [] refl
 
-each-from : (P : Cluster Bytes → Type 0) (cs ordered : List (Cluster Bytes)) → AllByRecursion P ordered → AllByRecursion P cs → AllByRecursion P (fold (λ ordered c. with_cluster c ordered) ordered cs)
+each-from : (P : Cluster Bytes → Type 0) (cs ordered : List (Cluster Bytes)) → AllByRecursion P ordered
+    → AllByRecursion P cs → AllByRecursion P (fold (λ ordered c. with_cluster c ordered) ordered cs)
 each-from P [] ordered h k = h
-each-from P (c ∷ cs) ordered h k = each-from P cs (with_cluster c ordered) (each-append P _ _ (each-filter P _ ordered h) (k.0, each-filter P _ ordered h)) k.1
+each-from P (c ∷ cs) ordered h k =
+    each-from P cs (with_cluster c ordered)
+    (each-append P _ _ (each-filter P _ ordered h) (k.0, each-filter P _ ordered h)) k.1
 
 -- what is so of each is so of each in order
-pub order-each : (P : Cluster Bytes → Type 0) (cs : List (Cluster Bytes)) → AllByRecursion P cs → AllByRecursion P (in_order cs)
+pub order-each : (P : Cluster Bytes → Type 0) (cs : List (Cluster Bytes)) → AllByRecursion P cs
+    → AllByRecursion P (in_order cs)
 order-each P cs h = each-from P cs [] tt h
 
 -- a name that none of these has
@@ -77,25 +109,30 @@ apart : (ys : List (Cluster Bytes)) (c : Cluster Bytes) (rest : List (Cluster By
     → all_differ (names_of (ys ++ c ∷ rest)) ≡ true → AllByRecursion (λ d. bytes_eq d.name c.name ≡ false) ys
 apart ys c rest h =
     each-imp _ _ (λ d k. name-swap d.name c.name ∙ k) ys (none-named (λ (d : Cluster Bytes). d.name) ys c.name
-    (differ-before (names_of ys) c.name (names_of rest) (ap all_differ (sym (map-append (λ (d : Cluster Bytes). d.name) ys (c ∷ rest))) ∙ h)))
+    (differ-before (names_of ys) c.name (names_of rest)
+    (ap all_differ (sym (map-append (λ (d : Cluster Bytes). d.name) ys (c ∷ rest))) ∙ h)))
 
 -- one cluster more is inserted where it belongs
-pub one-inserted : (ys : List (Cluster Bytes)) (c : Cluster Bytes) (rest : List (Cluster Bytes)) → all_differ (names_of (ys ++ c ∷ rest)) ≡ true
+pub one-inserted : (ys : List (Cluster Bytes)) (c : Cluster Bytes) (rest : List (Cluster Bytes))
+    → all_differ (names_of (ys ++ c ∷ rest)) ≡ true
     → insert (in_order ys) (length (named_before c.name (in_order ys))) c ≡ in_order (ys ++ c ∷ [])
 one-inserted ys c rest h =
     inserted c (in_order ys) (order-rises ys) (order-each (λ d. bytes_eq d.name c.name ≡ false) ys (apart ys c rest h))
     ∙ sym (fold-append (λ ordered c. with_cluster c ordered) [] ys (c ∷ []))
 
 -- the next one of a list in order
-module _ (ordered ys rest all new : List (Cluster Bytes)) (c : Cluster Bytes) (k : ℕ) (at : k ≡ length (named_before c.name ordered)) (is : new ≡ insert ordered k c) where
-  pub next-ordered : ys ++ c ∷ rest ≡ all → all_differ (names_of all) ≡ true → ordered ≡ in_order ys → new ≡ in_order (ys ++ c ∷ [])
+module _ (ordered ys rest all new : List (Cluster Bytes)) (c : Cluster Bytes) (k : ℕ) (at : k
+    ≡ length (named_before c.name ordered)) (is : new ≡ insert ordered k c) where
+  pub next-ordered : ys ++ c ∷ rest ≡ all → all_differ (names_of all) ≡ true → ordered ≡ in_order ys
+      → new ≡ in_order (ys ++ c ∷ [])
   next-ordered whole differ so_far =
       is ∙ ap (λ j. insert ordered j c) at ∙ ap (λ l. insert l (length (named_before c.name l)) c) so_far
       ∙ one-inserted ys c rest (ap (λ l. all_differ (names_of l)) whole ∙ differ)
 
   pub next-length : length ordered ≡ length ys → length new ≡ length (ys ++ c ∷ [])
   next-length same =
-      let few : k ≤ length ordered = subst (λ j. j ≤ length ordered) (sym at) (length-filter (λ d. name_lt d.name c.name) ordered) in
+      let few : k ≤ length ordered =
+      subst (λ j. j ≤ length ordered) (sym at) (length-filter (λ d. name_lt d.name c.name) ordered) in
       let one = length-append ys (c ∷ []) in
       let more = ap length is ∙ length-insert ordered k c few in
       omega (arith, one, more, same)

@@ -31,14 +31,19 @@ module _ (bytes : Bytes) where
       λ i. record { manifest = c.manifest; payload = size i } ∷ same-lengths cs within.1 i
 
   -- the verdict on what is a package
-  pub good-verdict : (cs : List (Part Span)) → contents_of bytes ≡ Ok cs → AllByRecursion (λ (c : Part Span). LiesWithin bytes c.payload) cs
+  pub good-verdict : (cs : List (Part Span)) → contents_of bytes ≡ Ok cs
+      → AllByRecursion (λ (c : Part Span). LiesWithin bytes c.payload) cs
       → (stored : List (Part ℕ)) → stored ≡ map stored_part cs → IsVerdict (Good stored) (package_reading bytes)
   unfolding reading
   good-verdict cs e within stored same =
-      subst (IsVerdict (Good stored)) (sym (ap (λ read. verdict_of (read >>= λ parts. Ok (map (with_payload bytes) parts))) e)) (same ∙ same-lengths cs within)
+      subst (IsVerdict (Good stored))
+      (sym (ap (λ read. verdict_of (read >>= λ parts. Ok (map (with_payload bytes) parts))) e)) (same
+      ∙ same-lengths cs within)
 
   -- and on what isn't
-  pub bad-verdict : (f : PackageError) (why : Refusal) → contents_of bytes ≡ Err f → refusal_of f ≡ why → IsVerdict (Bad why) (package_reading bytes)
+  pub bad-verdict : (f : PackageError) (why : Refusal) → contents_of bytes ≡ Err f → refusal_of f ≡ why
+      → IsVerdict (Bad why) (package_reading bytes)
   unfolding reading
   bad-verdict f why e same =
-      subst (IsVerdict (Bad why)) (sym (ap (λ read. verdict_of (read >>= λ parts. Ok (map (with_payload bytes) parts))) e)) (sym same)
+      subst (IsVerdict (Bad why))
+      (sym (ap (λ read. verdict_of (read >>= λ parts. Ok (map (with_payload bytes) parts))) e)) (sym same)

@@ -13,22 +13,30 @@ use Rattle.node_core.proofs.Lists.{every, change-each}
 use Rattle.node_core.proofs.Stored.{found-header, rise, changed-means, only-has, some-stored}
 
 -- the slots are as they were
-pub same-slots : (id : ℕ) (phase : Phase) (ts : List StoredTransfer) → map (λ t. t.slot) (phased id phase ts) ≡ map (λ t. t.slot) ts
+pub same-slots : (id : ℕ) (phase : Phase) (ts : List StoredTransfer)
+    → map (λ t. t.slot) (phased id phase ts) ≡ map (λ t. t.slot) ts
 same-slots id phase [] = refl
 same-slots id phase (t ∷ ts) = grind (arith, same-slots id phase ts)
 
 -- a transfer that is whole goes to a phase where it still is
-module _ (v : Holding) (sound : IsSound v) (client id : ℕ) (u : StoredTransfer) (e : stored_of v.state.transfers client id ≡ Some u)
+module _ (v : Holding) (sound : IsSound v) (client id : ℕ) (u : StoredTransfer)
+    (e : stored_of v.state.transfers client id ≡ Some u)
     (phase : Phase) (whole : (phase_code u.header.phase == 0) ≡ false) (stays : (phase_code phase == 0) ≡ false) where
   -- it has the same parts there
   same-meaning : transfer_meaning package_reading v.areas (moved phase u)
       ≡ record (transfer_meaning package_reading v.areas u) { header = in_phase phase u.header }
   same-meaning =
       let bytes = take u.header.received (slice_index_or v.areas.slots u.slot []) in
-      ap (λ b. record { header = in_phase phase u.header; bytes = bytes; parts = if b then [] else parts_read (package_reading bytes) })
+      ap (λ b. record {
+        header = in_phase phase u.header;
+        bytes = bytes;
+        parts = if b then []
+            else parts_read (package_reading bytes);
+      })
       (stays ∙ sym whole)
 
-  pub phased-means : map (transfer_meaning package_reading v.areas) (phased id phase v.state.transfers) ≡ (with_phase id phase (node_of v)).transfers
+  pub phased-means : map (transfer_meaning package_reading v.areas) (phased id phase v.state.transfers)
+      ≡ (with_phase id phase (node_of v)).transfers
   phased-means =
       changed-means package_reading v.areas client id (moved phase) (λ t. record t { header = in_phase phase t.header })
       v.state.transfers u (rise v sound) e same-meaning
@@ -38,7 +46,11 @@ module _ (v : Holding) (sound : IsSound v) (client id : ℕ) (u : StoredTransfer
       let own = (found-has _ (IsPlaced package_reading v.areas) v.state.transfers u sound.order.transfers e).1 in
       change-each (IsPlaced package_reading v.areas) (λ t. t.header.id == id) (moved phase) v.state.transfers
       (only-has (λ t. IsPlaced package_reading v.areas (moved phase t)) client id v.state.transfers u (rise v sound) e
-      (record { slot = own.slot; contents = own.contents ∙ ap (λ (t : Transfer). map with_length t.parts) (sym same-meaning) }))
+      (record {
+        slot = own.slot;
+        contents = own.contents
+            ∙ ap (λ (t : Transfer). map with_length t.parts) (sym same-meaning);
+      }))
       sound.order.transfers
 
   pub phased-slots : slots_differ (map (λ t. t.slot) (phased id phase v.state.transfers)) ≡ true
@@ -62,7 +74,8 @@ module _ (v : Holding) (sound : IsSound v) (client id : ℕ) (u : StoredTransfer
 
 -- Cancel is refused by what is stored
 pub cancel-by : {v w : Holding} → v ≡ w → (client id : ℕ) (found : Option Found) (o : Option Refusal)
-    → found ≡ found_of v.state.transfers client id → o ≡ first_refusal (cancel_refusals (option_map (λ f. f.header) found))
+    → found ≡ found_of v.state.transfers client id
+    → o ≡ first_refusal (cancel_refusals (option_map (λ f. f.header) found))
     → first_refusal (session_refusals (node_of w) client (Cancel id)) ≡ None → refusal_by w client (Cancel id) ≡ o
 cancel-by {v = v} {w = w} same client id found o there judged none =
     ap (λ x. option_or x (first_refusal (cancel_refusals (header_of (transfer_of (node_of w) client id))))) none
@@ -73,7 +86,8 @@ cancel-by {v = v} {w = w} same client id found o there judged none =
     ∙ sym judged
 
 -- what stopping leaves
-module _ (v : Holding) (sound : IsSound v) (client id : ℕ) (u : StoredTransfer) (e : stored_of v.state.transfers client id ≡ Some u)
+module _ (v : Holding) (sound : IsSound v) (client id : ℕ) (u : StoredTransfer)
+    (e : stored_of v.state.transfers client id ≡ Some u)
     (phase : u.header.phase ≡ BeingProcessed) where
   abbrev with : Option (SessionOf Extent) → State
   with o = record v.state { session = o }
@@ -91,7 +105,8 @@ module _ (v : Holding) (sound : IsSound v) (client id : ℕ) (u : StoredTransfer
           ≡ option_map (λ (x : Session). record x { processing = None }) (option_map (session_meaning v.areas) o)
       go o = grind arith
 
-  stopped-order : (o : Option (SessionOf Extent)) → IsInOrder package_reading v.areas (with o) → IsInOrder package_reading v.areas (stopped id (with o))
+  stopped-order : (o : Option (SessionOf Extent)) → IsInOrder package_reading v.areas (with o)
+      → IsInOrder package_reading v.areas (stopped id (with o))
   stopped-order None i = record {
     clusters = i.clusters;
     session = tt;
@@ -102,13 +117,16 @@ module _ (v : Holding) (sound : IsSound v) (client id : ℕ) (u : StoredTransfer
   }
   stopped-order (Some x) i = phased-order v sound client id u e Transferred was-whole refl x None x.units_done i
 
-  stopped-copied : (o : Option (SessionOf Extent)) → IsCopied package_reading v.areas (with o) → IsCopied package_reading v.areas (stopped id (with o))
+  stopped-copied : (o : Option (SessionOf Extent)) → IsCopied package_reading v.areas (with o)
+      → IsCopied package_reading v.areas (stopped id (with o))
   stopped-copied o copied =
-      change-each (λ t. IsCopiedIn package_reading v.areas (stopped id (with o)) t t.header.phase) (λ t. t.header.id == id) (moved Transferred)
+      change-each (λ t. IsCopiedIn package_reading v.areas (stopped id (with o)) t t.header.phase) (λ t.
+      t.header.id == id) (moved Transferred)
       v.state.transfers (every (λ t q. tt) v.state.transfers)
       (copied-by v.areas (with o) (stopped id (with o)) (still o).0 refl (still o).1 v.state.transfers copied)
     where
-      still : (o : Option (SessionOf Extent)) → (units_done (stopped id (with o)) ≡ units_done (with o)) × (places_in (stopped id (with o)) ≡ places_in (with o))
+      still : (o : Option (SessionOf Extent)) → (units_done (stopped id (with o)) ≡ units_done (with o))
+          × (places_in (stopped id (with o)) ≡ places_in (with o))
       still o = grind arith
 
 -- Cancel
@@ -117,7 +135,8 @@ pub cancel-judged : (v : Holding) (client id : ℕ) (reply : Reply) (goal : Goal
     → w ≡ record v { state = stopped id v.state } → reply ≡ Done → new ≡ record w { state = arrived goal w.state }
     → IsJudged v client (Cancel id) reply new
 cancel-judged v client id reply goal w new sound none table stops replies leads =
-    done-judged v client (Cancel id) reply new goal (stopped id v.state) v.prepared (stop_processing (node_of v) id) none refl refl
+    done-judged v client (Cancel id) reply new goal (stopped id v.state) v.prepared
+    (stop_processing (node_of v) id) none refl refl
     (stopped-means v sound client id there.0 there.1 phase) table
     (stopped-order v sound client id there.0 there.1 phase v.state.session sound.order)
     (stopped-copied v sound client id there.0 there.1 phase v.state.session sound.copied) refl replies
@@ -125,7 +144,8 @@ cancel-judged v client id reply goal w new sound none table stops replies leads 
   where
     clear : AllByRecursion (λ row. row.0 ≡ false) (cancel_refusals (stored_header v.state.transfers client id))
     clear = rows-clear (cancel_refusals (stored_header v.state.transfers client id))
-        (ap (λ h. first_refusal (cancel_refusals h)) (sym (header-means package_reading v.areas (is_of client id) v.state.transfers))
+        (ap (λ h. first_refusal (cancel_refusals h))
+        (sym (header-means package_reading v.areas (is_of client id) v.state.transfers))
         ∙ (both-none (first_refusal (session_refusals (node_of v) client (Cancel id))) _ none).1)
 
     there : (u : StoredTransfer) × (stored_of v.state.transfers client id ≡ Some u)
@@ -133,4 +153,5 @@ cancel-judged v client id reply goal w new sound none table stops replies leads 
 
     phase : there.0.header.phase ≡ BeingProcessed
     phase = is-processing there.0.header (not-false _
-        (ap (λ o. some_passes (λ h. not (is_in BeingProcessed h)) (option_map (λ t. t.header) o)) (sym there.1) ∙ clear.1.0))
+        (ap (λ o. some_passes (λ h. not (is_in BeingProcessed h)) (option_map (λ t. t.header) o)) (sym there.1)
+        ∙ clear.1.0))

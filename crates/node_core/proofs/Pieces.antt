@@ -17,7 +17,8 @@ none-done areas [] extents = tt
 none-done areas (part ∷ parts) [] = tt
 none-done areas (part ∷ parts) (extent ∷ extents) = (
   refl,
-  subst (λ n. AreCopied areas n parts extents) (let z : 0 ≡ 0 - units_of (length part.payload) = omega arith in z) (none-done areas parts extents),
+  subst (λ n. AreCopied areas n parts extents) (let z : 0 ≡ 0 - units_of (length part.payload) = omega arith in
+      z) (none-done areas parts extents),
 )
 
 -- the units that lie in some areas lie in others that hold the same
@@ -26,14 +27,17 @@ pub same-copied : (old new : Areas) (done : ℕ) (parts : List (Part Bytes)) (ex
     → AreCopied old done parts extents → AreCopied new done parts extents
 same-copied old new done [] extents same copied = tt
 same-copied old new done (part ∷ parts) [] same copied = tt
-same-copied old new done (part ∷ parts) (extent ∷ extents) same copied =
-    (ap (take (done * block_limit)) same.0 ∙ copied.0, same-copied old new (done - units_of (length part.payload)) parts extents same.1 copied.1)
+same-copied old new done (part ∷ parts) (extent ∷ extents) same copied = (
+  ap (take (done * block_limit)) same.0 ∙ copied.0,
+  same-copied old new (done - units_of (length part.payload)) parts extents same.1 copied.1,
+)
 
 -- bytes within the first n are those of the whole
 pub slice-take : (at len n : ℕ) (xs : Bytes) → at + len ≤ n → take len (drop at (take n xs)) ≡ take len (drop at xs)
 slice-take at len n xs le =
     let split : at + (n - at) ≡ n = omega (arith, le) in
-    ap (λ k. take len (drop at (take k xs))) (sym split) ∙ ap (take len) (drop-take at (n - at) xs) ∙ take-take len (n - at) (drop at xs) (omega (arith, le))
+    ap (λ k. take len (drop at (take k xs))) (sym split) ∙ ap (take len) (drop-take at (n - at) xs)
+    ∙ take-take len (n - at) (drop at xs) (omega (arith, le))
 
 -- no more than a list has
 short-take : (n k : ℕ) (xs : Bytes) → length xs ≤ k → take (min n k) xs ≡ take n xs
@@ -41,25 +45,31 @@ short-take n k xs le = go (nat_lt n k) refl
   where
     go : (b : Bool) → nat_lt n k ≡ b → take (min n k) xs ≡ take n xs
     go true h = let less = ltb-true n k h in ap (λ m. take m xs) (omega (arith, less))
-    go false h = let more = ltb-false n k h in take_all (min n k) xs (omega (arith, le, more)) ∙ sym (take_all n xs (omega (arith, le, more)))
+    go false h = let more = ltb-false n k h in take_all (min n k) xs (omega (arith, le, more))
+        ∙ sym (take_all n xs (omega (arith, le, more)))
 
 -- an extent's bytes are no more than its length
 extent-short : (areas : Areas) (extent : Extent) → length (on_side areas extent) ≤ extent.length
-extent-short areas extent = omega (arith, length-take extent.length (if extent.side == 0 then (pair areas extent).0 else (pair areas extent).1))
+extent-short areas extent =
+    omega (arith, length-take extent.length (if extent.side == 0 then (pair areas extent).0 else (pair areas extent).1))
   where
     pair : Areas → Extent → Bytes × Bytes
     pair areas extent = slice_index_or areas.sides extent.place ([], [])
 
 -- where all units of a payload are done it lies whole in its extent
-whole : (areas : Areas) (extent : Extent) (payload : Bytes) (done : ℕ) → extent.length ≡ length payload → units_of (length payload) ≤ done
-    → take (done * block_limit) (on_side areas extent) ≡ take (done * block_limit) payload → on_side areas extent ≡ payload
+whole : (areas : Areas) (extent : Extent) (payload : Bytes) (done : ℕ) → extent.length ≡ length payload
+    → units_of (length payload) ≤ done
+    → take (done * block_limit) (on_side areas extent) ≡ take (done * block_limit) payload
+    → on_side areas extent ≡ payload
 whole areas extent payload done size all copied =
     let enough : length payload ≤ done * block_limit = omega (arith, all) in
     let short = extent-short areas extent in
-    sym (take_all (done * block_limit) (on_side areas extent) (omega (arith, enough, short, size))) ∙ copied ∙ take_all (done * block_limit) payload enough
+    sym (take_all (done * block_limit) (on_side areas extent) (omega (arith, enough, short, size))) ∙ copied
+    ∙ take_all (done * block_limit) payload enough
 
 -- and so do the payloads of all parts, where all units are
-pub all-lie : (areas : Areas) (id done : ℕ) (parts : List (Part Bytes)) (extents : List Extent) → Match (map with_length parts) extents
+pub all-lie : (areas : Areas) (id done : ℕ) (parts : List (Part Bytes)) (extents : List Extent)
+    → Match (map with_length parts) extents
     → all_units parts ≤ done → AreCopied areas done parts extents
     → map (change_meaning areas) (changes_to id (map with_length parts) extents) ≡ changes_of id parts
 all-lie areas id done [] extents m all copied = refl
@@ -71,34 +81,42 @@ all-lie areas id done (part ∷ parts) (extent ∷ extents) m all copied =
     ∷ all-lie areas id (done - units_of (length part.payload)) parts extents m.1 (omega (arith, all, sum)) copied.1 i
 
 -- a payload that lies in bytes is no longer than they are
-pub lie-short : {limit : ℕ} (bytes : Bytes) (place : ℕ) (parts : List (Part Bytes)) → length bytes ≤ limit → PartsLie bytes place parts
+pub lie-short : {limit : ℕ} (bytes : Bytes) (place : ℕ) (parts : List (Part Bytes)) → length bytes ≤ limit
+    → PartsLie bytes place parts
     → AllByRecursion (λ (part : Part Bytes). length part.payload ≤ limit) parts
 lie-short bytes place [] le lie = tt
 lie-short bytes place (part ∷ parts) le lie =
-    let inside = lie.0 in (omega (arith, le, inside), lie-short bytes (payload_at bytes place + length part.payload) parts le lie.2)
+    let inside = lie.0 in
+    (omega (arith, le, inside), lie-short bytes (payload_at bytes place + length part.payload) parts le lie.2)
 
 -- the payloads of parts that lie in bytes do
-pub lie-within : (bytes : Bytes) (place : ℕ) (parts : List (Part Bytes)) (extents : List Extent) → Match (map with_length parts) extents
+pub lie-within : (bytes : Bytes) (place : ℕ) (parts : List (Part Bytes)) (extents : List Extent)
+    → Match (map with_length parts) extents
     → PartsLie bytes place parts → LieWithin bytes place extents
 lie-within bytes place [] extents m lie = subst (LieWithin bytes place) (sym m) tt
 lie-within bytes place (part ∷ parts) [] m lie = tt
 lie-within bytes place (part ∷ parts) (extent ∷ extents) m lie =
-    subst (λ n. (payload_at bytes place + n ≤ length bytes) × LieWithin bytes (payload_at bytes place + n) extents) (sym m.0)
+    subst (λ n. (payload_at bytes place + n ≤ length bytes)
+    × LieWithin bytes (payload_at bytes place + n) extents) (sym m.0)
     (lie.0, lie-within bytes (payload_at bytes place + length part.payload) parts extents m.1 lie.2)
 
 -- parts that lie in the first bytes lie in all
-pub lie-in-all : (came : ℕ) (bytes : Bytes) (place : ℕ) (parts : List (Part Bytes)) → came ≤ length bytes → PartsLie (take came bytes) place parts
+pub lie-in-all : (came : ℕ) (bytes : Bytes) (place : ℕ) (parts : List (Part Bytes)) → came ≤ length bytes
+    → PartsLie (take came bytes) place parts
     → PartsLie bytes place parts
 lie-in-all came bytes place [] le lie = tt
 lie-in-all came bytes place (part ∷ parts) le lie =
     let wide = length-take came bytes in
     let inside = lie.0 in
     let start : payload_at (take came bytes) place ≡ payload_at bytes place =
-    ap (λ (field : Bytes). place + 8 + from_be_bytes w32 field) (slice-take place 4 came bytes (omega (arith, inside, wide, le))) in
-    subst (λ n. (n + length part.payload ≤ length bytes) × (take (length part.payload) (drop n bytes) ≡ part.payload) × PartsLie bytes (n + length part.payload) parts)
+    ap (λ (field : Bytes). place + 8 + from_be_bytes w32 field)
+    (slice-take place 4 came bytes (omega (arith, inside, wide, le))) in
+    subst (λ n. (n + length part.payload ≤ length bytes) × (take (length part.payload) (drop n bytes) ≡ part.payload)
+    × PartsLie bytes (n + length part.payload) parts)
     start (
       omega (arith, inside, wide, le),
-      sym (slice-take (payload_at (take came bytes) place) (length part.payload) came bytes (omega (arith, inside, wide, le))) ∙ lie.1,
+      sym (slice-take (payload_at (take came bytes) place) (length part.payload) came bytes
+          (omega (arith, inside, wide, le))) ∙ lie.1,
       lie-in-all came bytes (payload_at (take came bytes) place + length part.payload) parts le lie.2,
     )
 
@@ -112,12 +130,15 @@ module _ (content : Bytes) where
     pub lies : piece.at ≤ length (on_side areas piece.to)
     pub among : (P : Extent → Type 0) → AllByRecursion P extents → P piece.to
     pub kept : (new : Areas) → AllByRecursion (λ e. e.place ≢ piece.to.place → on_side new e ≡ on_side areas e) extents
-        → take piece.at (on_side new piece.to) ≡ take piece.at (on_side areas piece.to) → AreCopied new done parts extents
+        → take piece.at (on_side new piece.to) ≡ take piece.at (on_side areas piece.to)
+        → AreCopied new done parts extents
     pub ready : (new : Areas) → AllByRecursion (λ e. e.place ≢ piece.to.place → on_side new e ≡ on_side areas e) extents
-        → take (piece.at + piece.len) (on_side new piece.to) ≡ take piece.at (on_side areas piece.to) ++ take piece.len (drop piece.from content)
+        → take (piece.at + piece.len) (on_side new piece.to) ≡ take piece.at (on_side areas piece.to)
+        ++ take piece.len (drop piece.from content)
         → AreCopied new (done + 1) parts extents
 
-  pub next-piece : (areas : Areas) (place done : ℕ) (parts : List (Part Bytes)) (extents : List Extent) → PartsLie content place parts
+  pub next-piece : (areas : Areas) (place done : ℕ) (parts : List (Part Bytes)) (extents : List Extent)
+      → PartsLie content place parts
       → Match (map with_length parts) extents → slots_differ (map (λ (e : Extent). e.place) extents) ≡ true
       → AreCopied areas done parts extents → done < all_units parts → Copies areas place done parts extents
   next-piece areas place done [] extents lie m differ copied left = absurd (omega (arith, left))
@@ -144,19 +165,23 @@ module _ (content : Bytes) where
       behind : ℕ
       behind = start + extent.length
 
-      apart : (list_all (λ n. not (n == extent.place)) (map (λ (e : Extent). e.place) extents) ≡ true) × (slots_differ (map (λ (e : Extent). e.place) extents) ≡ true)
+      apart : (list_all (λ n. not (n == extent.place)) (map (λ (e : Extent). e.place) extents) ≡ true)
+          × (slots_differ (map (λ (e : Extent). e.place) extents) ≡ true)
       apart = and_parts _ _ differ
 
       others : AllByRecursion (λ (e : Extent). extent.place ≢ e.place) extents
       others = each-unmap (λ n. extent.place ≢ n) (λ (e : Extent). e.place) extents
-          (each-imp _ _ (λ n k same. eqb-false n extent.place (not-true _ k) (sym same)) _ (all-each (λ n. not (n == extent.place)) _ apart.0))
+          (each-imp _ _ (λ n k same. eqb-false n extent.place (not-true _ k) (sym same)) _
+          (all-each (λ n. not (n == extent.place)) _ apart.0))
 
       none : (n : ℕ) → n ≡ 0 → (new : Areas) → AreCopied new n parts extents
       none n zero new = subst (λ k. AreCopied new k parts extents) (sym zero) (none-done new parts extents)
 
       go : (b : Bool) → nat_lt done (units_of extent.length) ≡ b
-          → (PartsLie content behind parts → Match (map with_length parts) extents → slots_differ (map (λ (e : Extent). e.place) extents) ≡ true
-          → AreCopied areas (done - units_of extent.length) parts extents → done - units_of extent.length < all_units parts
+          → (PartsLie content behind parts → Match (map with_length parts) extents
+          → slots_differ (map (λ (e : Extent). e.place) extents) ≡ true
+          → AreCopied areas (done - units_of extent.length) parts extents
+          → done - units_of extent.length < all_units parts
           → Copies areas behind (done - units_of extent.length) parts extents)
           → Copies areas place done (part ∷ parts) (extent ∷ extents)
       go true h rec =
@@ -169,17 +194,21 @@ module _ (content : Bytes) where
             is = ap (λ b. if b then Some here else piece_of content behind (done - units_of extent.length) extents) h;
             range = omega (arith, inside, begin, same);
             within = omega (arith, begin, same);
-            lies = let wide = ap length copied.0 in omega (arith, begin, wide, length-take at (on_side areas extent), length-take at part.payload);
+            lies = let wide = ap length copied.0 in
+                omega (arith, begin, wide, length-take at (on_side areas extent), length-take at part.payload);
             among = λ P each. each.0;
             kept = λ new still own. (own ∙ copied.0, none (done - units_of size) (omega (arith, less, same)) new);
             ready = λ new still own. (
               sym (short-take ((done + 1) * block_limit) extent.length (on_side new extent) (extent-short new extent))
-                  ∙ ap (λ n. take n (on_side new extent)) (let z : min ((done + 1) * block_limit) extent.length ≡ at + len = omega (arith, begin, same) in z)
+                  ∙ ap (λ n. take n (on_side new extent)) (let z : min ((done + 1) * block_limit) extent.length
+                  ≡ at + len = omega (arith, begin, same) in z)
                   ∙ own ∙ ap (λ xs. xs ++ take len (drop (start + at) content)) copied.0
                   ∙ ap (λ xs. take at part.payload ++ xs) (ap (take len) (sym (drop-drop at start content))
-                  ∙ sym (slice-take at len size (drop start content) (omega (arith, begin, same))) ∙ ap (λ xs. take len (drop at xs)) lie.1)
+                  ∙ sym (slice-take at len size (drop start content) (omega (arith, begin, same)))
+                  ∙ ap (λ xs. take len (drop at xs)) lie.1)
                   ∙ sym (take-add at len part.payload)
-                  ∙ ap (λ n. take n part.payload) (let z : at + len ≡ min ((done + 1) * block_limit) size = omega (arith, begin, same) in z)
+                  ∙ ap (λ n. take n part.payload) (let z : at + len ≡ min ((done + 1) * block_limit) size =
+                  omega (arith, begin, same) in z)
                   ∙ short-take ((done + 1) * block_limit) size part.payload (omega arith),
               none (done + 1 - units_of size) (omega (arith, less, same)) new,
             );
@@ -191,11 +220,13 @@ module _ (content : Bytes) where
           let sum = sum_by-cons (λ (p : Part Bytes). units_of (length p.payload)) part parts in
           let rest : Copies areas behind (done - units_of extent.length) parts extents = rec
           (subst (λ n. PartsLie content (start + n) parts) (sym same) lie.2) m.1 apart.1
-          (subst (λ n. AreCopied areas (done - n) parts extents) (sym units) copied.1) (omega (arith, left, sum, units, all)) in
+          (subst (λ n. AreCopied areas (done - n) parts extents) (sym units) copied.1)
+          (omega (arith, left, sum, units, all)) in
           let elsewhere = rest.among (λ e. extent.place ≢ e.place) others in
           record {
             piece = rest.piece;
-            is = ap (λ b. if b then Some here else piece_of content behind (done - units_of extent.length) extents) h ∙ rest.is;
+            is = ap (λ b. if b then Some here else piece_of content behind (done - units_of extent.length) extents) h
+                ∙ rest.is;
             range = rest.range;
             within = rest.within;
             lies = rest.lies;
@@ -205,15 +236,19 @@ module _ (content : Bytes) where
               subst (λ n. AreCopied new (done - n) parts extents) units (rest.kept new still.1 own),
             );
             ready = λ new still own. (
-              ap (take ((done + 1) * block_limit)) (still.0 elsewhere ∙ whole areas extent part.payload done same (omega (arith, units, all)) copied.0),
-              subst (λ n. AreCopied new n parts extents) (let z : done - units_of extent.length + 1 ≡ done + 1 - units_of size = omega (arith, units, all) in z)
+              ap (take ((done + 1) * block_limit)) (still.0 elsewhere
+                  ∙ whole areas extent part.payload done same (omega (arith, units, all)) copied.0),
+              subst (λ n. AreCopied new n parts extents) (let z : done - units_of extent.length + 1
+                  ≡ done + 1 - units_of size = omega (arith, units, all) in z)
                   (rest.ready new still.1 own),
             );
           }
 
 -- the part at a place lies in the bytes, and so do those behind it
-pub lie-here : (content : Bytes) (place i : ℕ) (xs : List Extent) (d : Extent) → i < length xs → LieWithin content place (drop i xs)
-    → (payload_at content place + (get_or xs i d).length ≤ length content) × LieWithin content (payload_at content place + (get_or xs i d).length) (drop (i + 1) xs)
+pub lie-here : (content : Bytes) (place i : ℕ) (xs : List Extent) (d : Extent) → i < length xs
+    → LieWithin content place (drop i xs)
+    → (payload_at content place + (get_or xs i d).length ≤ length content)
+    × LieWithin content (payload_at content place + (get_or xs i d).length) (drop (i + 1) xs)
 lie-here content place i xs d lt lie = subst (LieWithin content place) (drop_more xs i d lt) lie
 
 -- its units aren't all done, or the next piece is of a part behind it

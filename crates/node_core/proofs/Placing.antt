@@ -38,12 +38,16 @@ planned-payloads id (part ∷ parts) [] m = absurd m
 planned-payloads id (part ∷ parts) (extent ∷ extents) m = ap (λ es. extent ∷ es) (planned-payloads id parts extents m.1)
 
 -- the changes from a place on: one, and those behind it, or none
-pub changes-more : (id : ℕ) (parts : List (Part ℕ)) (extents : List Extent) (i : ℕ) (p : Part ℕ) (d : Extent) → i < length parts → i < length extents
+pub changes-more : (id : ℕ) (parts : List (Part ℕ)) (extents : List Extent) (i : ℕ) (p : Part ℕ) (d : Extent)
+    → i < length parts → i < length extents
     → changes_to id (drop i parts) (drop i extents)
-    ≡ record { transfer = id; part = record { manifest = (get_or parts i p).manifest; payload = get_or extents i d } } ∷ changes_to id (drop (i + 1) parts) (drop (i + 1) extents)
-changes-more id parts extents i p d some more = λ j. changes_to id (drop_more parts i p some j) (drop_more extents i d more j)
+    ≡ record { transfer = id; part = record { manifest = (get_or parts i p).manifest; payload = get_or extents i d } }
+    ∷ changes_to id (drop (i + 1) parts) (drop (i + 1) extents)
+changes-more id parts extents i p d some more =
+    λ j. changes_to id (drop_more parts i p some j) (drop_more extents i d more j)
 
-pub changes-end : (id : ℕ) (parts : List (Part ℕ)) (extents : List Extent) (i : ℕ) → min (length parts) (length extents) ≤ i
+pub changes-end : (id : ℕ) (parts : List (Part ℕ)) (extents : List Extent) (i : ℕ)
+    → min (length parts) (length extents) ≤ i
     → changes_to id (drop i parts) (drop i extents) ≡ []
 changes-end id parts extents i le = go (nat_le (length parts) i) refl
   where
@@ -63,7 +67,8 @@ pub planned-names : (id : ℕ) (parts : List (Part ℕ)) (extents : List Extent)
     → map (λ (c : Change Extent). cluster_of c.part) (changes_to id parts extents) ≡ map name_of parts
 planned-names id [] extents m = refl
 planned-names id (part ∷ parts) [] m = absurd m
-planned-names id (part ∷ parts) (extent ∷ extents) m = ap (λ ns. cluster_of part ∷ ns) (planned-names id parts extents m.1)
+planned-names id (part ∷ parts) (extent ∷ extents) m =
+    ap (λ ns. cluster_of part ∷ ns) (planned-names id parts extents m.1)
 
 module _ (running : List (Cluster Extent)) where
   pub extents-match : (taken : List ℕ) (parts : List (Part ℕ)) → Match parts (extents_of running taken parts)
@@ -80,16 +85,20 @@ module _ (running : List (Cluster Extent)) where
     run-extent name = go (cluster_at running name) refl
       where
         go : (o : Option (Cluster Extent)) → cluster_at running name ≡ o
-            → IsExtent (option_map_or (λ (c : Cluster Extent). c.content) o (record { place = 0; side = 0; length = 0 }))
+            → IsExtent (option_map_or (λ (c : Cluster Extent). c.content) o
+            (record { place = 0; side = 0; length = 0 }))
         go None e = (omega arith, omega arith, omega arith)
-        go (Some c) e = (found-has (λ (d : Cluster Extent). bytes_eq d.name name) (λ d. IsExtent d.content) running c each e).1
+        go (Some c) e =
+            (found-has (λ (d : Cluster Extent). bytes_eq d.name name) (λ d. IsExtent d.content) running c each e).1
 
-    goes-extent : (a : Action) (taken : List ℕ) (name : List ℕ) (size : ℕ) → size ≤ package_limit → IsExtent (goes_to a taken (running_at running name) size)
+    goes-extent : (a : Action) (taken : List ℕ) (name : List ℕ) (size : ℕ) → size ≤ package_limit
+        → IsExtent (goes_to a taken (running_at running name) size)
     goes-extent Install taken name size short = (lowest-low taken, omega arith, short)
     goes-extent Update taken name size short = ((run-extent name).0, omega arith, short)
     goes-extent Remove taken name size short = ((run-extent name).0, (run-extent name).1, short)
 
-    pub extents-are-extents : (taken : List ℕ) (parts : List (Part ℕ)) → AllByRecursion (λ (p : Part ℕ). p.payload ≤ package_limit) parts
+    pub extents-are-extents : (taken : List ℕ) (parts : List (Part ℕ))
+        → AllByRecursion (λ (p : Part ℕ). p.payload ≤ package_limit) parts
         → AllByRecursion IsExtent (extents_of running taken parts)
     extents-are-extents taken [] short = tt
     extents-are-extents taken (part ∷ parts) short = (
@@ -98,13 +107,15 @@ module _ (running : List (Cluster Extent)) where
     )
 
   -- and on its side
-  goes-side : (a : Action) (taken : List ℕ) (name : List ℕ) (size : ℕ) → takes_side a (goes_to a taken (running_at running name) size).side (cluster_at running name) ≡ true
+  goes-side : (a : Action) (taken : List ℕ) (name : List ℕ) (size : ℕ)
+      → takes_side a (goes_to a taken (running_at running name) size).side (cluster_at running name) ≡ true
   goes-side Install taken name size = refl
   goes-side Update taken name size = grind (arith, nat_tests)
   goes-side Remove taken name size = grind (arith, nat_tests)
 
   pub changes-side : (id : ℕ) (taken : List ℕ) (parts : List (Part ℕ))
-      → AllByRecursion (λ c. takes_side c.part.manifest.action c.part.payload.side (cluster_at running (cluster_of c.part)) ≡ true)
+      → AllByRecursion (λ c. takes_side c.part.manifest.action c.part.payload.side
+      (cluster_at running (cluster_of c.part)) ≡ true)
       (changes_to id parts (extents_of running taken parts))
   changes-side id taken [] = tt
   changes-side id taken (part ∷ parts) = (
@@ -116,25 +127,36 @@ module _ (running : List (Cluster Extent)) where
   module _ (all : List (List ℕ)) (few : length (different_names all) ≤ cluster_limit) where
     -- a part more with its place
     one-fits : (pairs : List Pair) (a : Action) (name : List ℕ) (size : ℕ) → names_fit_places pairs ≡ true
-        → IsAmong (map cluster_place running) pairs → has_name (map (λ (p : Pair). p.0) pairs) name ≡ has_cluster running name
-        → suits a (has_cluster running name) ≡ true → Within (map (λ (p : Pair). p.0) pairs) all → has_name all name ≡ true
+        → IsAmong (map cluster_place running) pairs
+        → has_name (map (λ (p : Pair). p.0) pairs) name ≡ has_cluster running name
+        → suits a (has_cluster running name) ≡ true → Within (map (λ (p : Pair). p.0) pairs) all
+        → has_name all name ≡ true
         → names_fit_places ((name, (goes_to a (places_of pairs) (running_at running name) size).place) ∷ pairs) ≡ true
     one-fits pairs a name size fit among here s within own = by a s
       where
-        there : has_cluster running name ≡ true → names_fit_places ((name, (running_at running name).place) ∷ pairs) ≡ true
+        there : has_cluster running name ≡ true
+            → names_fit_places ((name, (running_at running name).place) ∷ pairs) ≡ true
         there t =
             let c = any-found (λ (d : Cluster Extent). bytes_eq d.name name) running t in
             among-fit ((name, (running_at running name).place) ∷ pairs) pairs (λ P each.
-            let found = found-has (λ (d : Cluster Extent). bytes_eq d.name name) (λ d. P (cluster_place d)) running c.0 (each-unmap_ P each) c.1 in (
-              subst P (λ i. (name-eq c.0.name name found.0 i, (option_map_or (λ (d : Cluster Extent). d.content) (sym c.1 i) (record { place = 0; side = 0; length = 0 })).place)) found.1,
+            let found =
+            found-has (λ (d : Cluster Extent). bytes_eq d.name name) (λ d. P (cluster_place d)) running c.0
+            (each-unmap_ P each) c.1 in (
+              subst P (λ i. (
+                name-eq c.0.name name found.0 i,
+                (option_map_or (λ (d : Cluster Extent). d.content) (sym c.1 i)
+                    (record { place = 0; side = 0; length = 0 })).place,
+              )) found.1,
               each,
             )) fit
           where
-            each-unmap_ : (P : Pair → Type 0) → AllByRecursion P pairs → AllByRecursion (λ (d : Cluster Extent). P (cluster_place d)) running
+            each-unmap_ : (P : Pair → Type 0) → AllByRecursion P pairs
+                → AllByRecursion (λ (d : Cluster Extent). P (cluster_place d)) running
             each-unmap_ P each = each-unmap P cluster_place running (among P each)
 
         by : (a : Action) → suits a (has_cluster running name) ≡ true
-            → names_fit_places ((name, (goes_to a (places_of pairs) (running_at running name) size).place) ∷ pairs) ≡ true
+            → names_fit_places ((name, (goes_to a (places_of pairs) (running_at running name) size).place) ∷ pairs)
+            ≡ true
         by Install s =
             let new = here ∙ not-true _ s in
             fresh-fits pairs name _ fit new (free-place pairs (each-fits pairs fit) name all new own within few)
@@ -142,12 +164,17 @@ module _ (running : List (Cluster Extent)) where
         by Remove s = there s
 
     -- all parts
-    pub all-fit : (id : ℕ) (pairs : List Pair) (parts : List (Part ℕ)) → names_fit_places pairs ≡ true → IsAmong (map cluster_place running) pairs
-        → AllByRecursion (λ part. has_name (map (λ (p : Pair). p.0) pairs) (cluster_of part) ≡ has_cluster running (cluster_of part)) parts
+    pub all-fit : (id : ℕ) (pairs : List Pair) (parts : List (Part ℕ)) → names_fit_places pairs ≡ true
+        → IsAmong (map cluster_place running) pairs
+        → AllByRecursion (λ part. has_name (map (λ (p : Pair). p.0) pairs) (cluster_of part)
+        ≡ has_cluster running (cluster_of part)) parts
         → AllByRecursion (λ part. suits part.manifest.action (has_cluster running (cluster_of part)) ≡ true) parts
-        → all_differ (map name_of parts) ≡ true → Within (map (λ (p : Pair). p.0) pairs) all → Within (map name_of parts) all
-        → names_fit_places (pairs ++ map change_place (changes_to id parts (extents_of running (places_of pairs) parts))) ≡ true
-    all-fit id pairs [] fit among here s differ within own = subst (λ ps. names_fit_places ps ≡ true) (sym (append-nil pairs)) fit
+        → all_differ (map name_of parts) ≡ true → Within (map (λ (p : Pair). p.0) pairs) all
+        → Within (map name_of parts) all
+        → names_fit_places (pairs
+        ++ map change_place (changes_to id parts (extents_of running (places_of pairs) parts))) ≡ true
+    all-fit id pairs [] fit among here s differ within own =
+        subst (λ ps. names_fit_places ps ≡ true) (sym (append-nil pairs)) fit
     all-fit id pairs (part ∷ parts) fit among here s differ within own =
         subst (λ ps. names_fit_places ps ≡ true) whole
         (all-fit id more parts
@@ -156,7 +183,8 @@ module _ (running : List (Cluster Extent)) where
         (λ P each. among P (each-first P pairs (pair ∷ []) each))
         (each-both _ _ _ still parts here.1 (others parts apart.0))
         s.1 apart.1
-        (subst (λ ns. Within ns all) (sym names) (each-append _ (map (λ (p : Pair). p.0) pairs) (name ∷ []) within (own.0, tt)))
+        (subst (λ ns. Within ns all) (sym names)
+        (each-append _ (map (λ (p : Pair). p.0) pairs) (name ∷ []) within (own.0, tt)))
         own.1)
       where
         name : List ℕ
@@ -177,27 +205,38 @@ module _ (running : List (Cluster Extent)) where
         names : map (λ (p : Pair). p.0) more ≡ map (λ (p : Pair). p.0) pairs ++ name ∷ []
         names = map-append (λ (p : Pair). p.0) pairs (pair ∷ [])
 
-        others : (ps : List (Part ℕ)) → has_name (map name_of ps) name ≡ false → AllByRecursion (λ p. bytes_eq name (cluster_of p) ≡ false) ps
+        others : (ps : List (Part ℕ)) → has_name (map name_of ps) name ≡ false
+            → AllByRecursion (λ p. bytes_eq name (cluster_of p) ≡ false) ps
         others ps e = none-named name_of ps name e
 
-        still : (p : Part ℕ) → has_name (map (λ (q : Pair). q.0) pairs) (cluster_of p) ≡ has_cluster running (cluster_of p) → bytes_eq name (cluster_of p) ≡ false
+        still : (p : Part ℕ) → has_name (map (λ (q : Pair). q.0) pairs) (cluster_of p)
+            ≡ has_cluster running (cluster_of p) → bytes_eq name (cluster_of p) ≡ false
             → has_name (map (λ (q : Pair). q.0) more) (cluster_of p) ≡ has_cluster running (cluster_of p)
         still p was other =
             ap (λ ns. has_name ns (cluster_of p)) names
-            ∙ grind (arith, has-append (map (λ (q : Pair). q.0) pairs) (name ∷ []) (cluster_of p), name-swap name (cluster_of p))
+            ∙ grind (
+              arith,
+              has-append (map (λ (q : Pair). q.0) pairs) (name ∷ []) (cluster_of p),
+              name-swap name (cluster_of p),
+            )
 
         whole : more ++ map change_place (changes_to id parts (extents_of running (places_of more) parts))
-            ≡ pairs ++ pair ∷ map change_place (changes_to id parts (extents_of running (places_of pairs ++ extent.place ∷ []) parts))
+            ≡ pairs ++ pair
+            ∷ map change_place
+            (changes_to id parts (extents_of running (places_of pairs ++ extent.place ∷ []) parts))
         whole =
             append_assoc pairs (pair ∷ []) _
-            ∙ ap (λ taken. pairs ++ pair ∷ map change_place (changes_to id parts (extents_of running taken parts))) (map-append (λ (p : Pair). p.1) pairs (pair ∷ []))
+            ∙ ap (λ taken. pairs ++ pair ∷ map change_place (changes_to id parts (extents_of running taken parts)))
+            (map-append (λ (p : Pair). p.1) pairs (pair ∷ []))
 
 -- of pairs that fit, different names have different places
-pub places-differ : (pairs : List Pair) → AllByRecursion (FitsAll pairs) pairs → all_differ (map (λ (p : Pair). p.0) pairs) ≡ true
+pub places-differ : (pairs : List Pair) → AllByRecursion (FitsAll pairs) pairs
+    → all_differ (map (λ (p : Pair). p.0) pairs) ≡ true
     → slots_differ (map (λ (p : Pair). p.1) pairs) ≡ true
 places-differ [] fit d = refl
 places-differ (a ∷ pairs) fit d =
-    let parts : (has_name (map (λ (p : Pair). p.0) pairs) a.0 ≡ false) × (all_differ (map (λ (p : Pair). p.0) pairs) ≡ true) = grind (arith, d) in
+    let parts : (has_name (map (λ (p : Pair). p.0) pairs) a.0 ≡ false)
+    × (all_differ (map (λ (p : Pair). p.0) pairs) ≡ true) = grind (arith, d) in
     both_true (each-all (λ n. not (n == a.1)) (map (λ (p : Pair). p.1) pairs) (each-map _ (λ (p : Pair). p.1) pairs
     (each-both _ _ _ (λ b f n. other b f n) pairs fit.0.1 (none-named (λ (p : Pair). p.0) pairs a.0 parts.0))))
     (places-differ pairs (each-imp _ _ (λ b f. f.1) pairs fit.1) parts.1)

@@ -21,10 +21,13 @@ pub reading-is : IsReading package_reading
 reading-is = record { parts_of = λ bytes parts e. of (reading bytes) parts e (λ ps q. reading_are_parts bytes ps q) }
   where
     of : (r : Result (List (Part Bytes)) PackageError) (parts : List (Part Bytes)) → verdict_of r ≡ Ok parts
-        → ((ps : List (Part Bytes)) → r ≡ Ok ps → are_parts ps ≡ true) → (0 < length parts) × IsTrue (all_differ (map cluster_of parts))
-    of (Ok ps) parts e are = let a = are ps refl in let same : ps ≡ parts = cc e in subst (λ qs. (0 < length qs) × (all_differ (map cluster_of qs) ≡ true)) same (parts-of ps a)
+        → ((ps : List (Part Bytes)) → r ≡ Ok ps → are_parts ps ≡ true)
+        → (0 < length parts) × IsTrue (all_differ (map cluster_of parts))
+    of (Ok ps) parts e are = let a = are ps refl in let same : ps ≡ parts = cc e in
+        subst (λ qs. (0 < length qs) × (all_differ (map cluster_of qs) ≡ true)) same (parts-of ps a)
       where
-        parts-of : (ps : List (Part Bytes)) → are_parts ps ≡ true → (0 < length ps) × (all_differ (map cluster_of ps) ≡ true)
+        parts-of : (ps : List (Part Bytes)) → are_parts ps ≡ true
+            → (0 < length ps) × (all_differ (map cluster_of ps) ≡ true)
         parts-of ps a =
             let both = and_parts _ _ a in
             (let some = leb-true 1 (length ps) (and_parts _ _ both.0).0 in omega (arith, some), both.1)
@@ -34,7 +37,8 @@ reading-is = record { parts_of = λ bytes parts e. of (reading bytes) parts e (�
 pub rising-differ : (ns : List ℕ) → numbers_rise ns ≡ true → slots_differ ns ≡ true
 rising-differ [] r = refl
 rising-differ (n ∷ ns) r =
-    both_true (each-all (λ m. not (m == n)) ns (each-imp _ _ (λ m lt. apart m lt) ns (rise-above n ns r))) (rising-differ ns (rise-tail n ns r))
+    both_true (each-all (λ m. not (m == n)) ns (each-imp _ _ (λ m lt. apart m lt) ns (rise-above n ns r)))
+    (rising-differ ns (rise-tail n ns r))
   where
     apart : (m : ℕ) → n < m → not (m == n) ≡ true
     apart m lt = grind (arith, nat_tests, lt)
@@ -46,37 +50,53 @@ table-is v sound =
     let limits = sound.fit.consistent.limits in
     let means = transfer_meaning package_reading v.areas in
     let each = each-unmap (IsSoundTransfer v.state.next_id) means v.state.transfers ts.each in
-    let sizes = each-unmap (λ (t : Transfer). (t.header.size ≤ package_limit) × (t.header.client < client_limit)) means v.state.transfers limits.sizes in
+    let sizes = each-unmap (λ (t : Transfer). (t.header.size ≤ package_limit)
+    × (t.header.client < client_limit)) means v.state.transfers limits.sizes in
     record {
       few = subst (λ n. n ≤ transfer_limit) (length-map v.state.transfers means) limits.transfers;
       each = each-both _ _ _ (λ t k rest. rest k) v.state.transfers each
-          (each-both _ _ (λ t. IsSoundTransfer v.state.next_id (means t) → IsBounded v.state.next_id t) (λ t placed size k. record { id = k.id.1; received = k.size; size = size.0; counter = k.counter.1; slot = placed.slot }) v.state.transfers sound.order.transfers sizes);
+          (each-both _ _ (λ t. IsSoundTransfer v.state.next_id (means t)
+          → IsBounded v.state.next_id t) (λ t placed size k.
+          record { id = k.id.1; received = k.size; size = size.0; counter = k.counter.1; slot = placed.slot })
+          v.state.transfers sound.order.transfers sizes);
       ids = rising-differ (ids v.state.transfers) (rise v sound);
       slots = sound.order.slots;
     }
 
 -- a newer call is executed
-pub step-is : (s : NodeState) (client : ℕ) (at : CallNo) (call : Call) (w : Verdict) → repeat_of at (of_client s.last client) ≡ None
-    → step s client at call w ≡ (after_call s client at call w (reply_to s client call w), Answered (reply_to s client call w))
+pub step-is : (s : NodeState) (client : ℕ) (at : CallNo) (call : Call) (w : Verdict)
+    → repeat_of at (of_client s.last client) ≡ None
+    → step s client at call w ≡ (
+      after_call s client at call w (reply_to s client call w),
+      Answered (reply_to s client call w),
+    )
 step-is s client at call w none = grind (arith)
 
 -- a step leaves the node fit
-pub step-fit : (v : Holding) (client : ℕ) (at : CallNo) (call : Call) → client < client_limit → IsSound v → IsFit package_reading (step_by v client at call).0
-step-fit v client at call low sound = (keeps-fit package_reading reading-is).step (node_of v) client at call low sound.fit
+pub step-fit : (v : Holding) (client : ℕ) (at : CallNo) (call : Call) → client < client_limit → IsSound v
+    → IsFit package_reading (step_by v client at call).0
+step-fit v client at call low sound =
+    (keeps-fit package_reading reading-is).step (node_of v) client at call low sound.fit
 
 -- an executed call leaves it fit
-pub executed-fit : (v new : Holding) (client : ℕ) (at : CallNo) (call : Call) (reply : Reply) → client < client_limit → IsSound v → repeat_of at (of_client v.state.last client) ≡ None → reply ≡ reply_by v client call
-    → node_of new ≡ after_call (node_of v) client at call (verdict_on v client call) reply → IsFit package_reading (node_of new)
+pub executed-fit : (v new : Holding) (client : ℕ) (at : CallNo) (call : Call) (reply : Reply) → client < client_limit
+    → IsSound v → repeat_of at (of_client v.state.last client) ≡ None → reply ≡ reply_by v client call
+    → node_of new ≡ after_call (node_of v) client at call (verdict_on v client call) reply
+    → IsFit package_reading (node_of new)
 executed-fit v new client at call reply low sound none answers node =
     let s = node_of v in
     let w = verdict_on v client call in
-    subst (IsFit package_reading) (ap (λ z. z.0) (step-is s client at call w none) ∙ ap (after_call s client at call w) (sym answers) ∙ sym node) (step-fit v client at call low sound)
+    subst (IsFit package_reading) (ap (λ z. z.0) (step-is s client at call w none)
+    ∙ ap (after_call s client at call w) (sym answers) ∙ sym node) (step-fit v client at call low sound)
 
 -- the ids of a client's transfers are those of what they mean
 pub ids-shown : (v : Holding) (client : ℕ) → stored_ids v.state.transfers client ≡ ids_of (node_of v) client
 ids-shown v client = sym (ids-mean package_reading v.areas client v.state.transfers)
 
 -- what Sync shows of a node
-pub synced-shown : {v w : Holding} → v ≡ w → (client place : ℕ) (session : Option SessionMark) (ids : List ℕ) → session ≡ option_map (mark_of w.state.status) w.state.session → place ≡ client → ids ≡ stored_ids v.state.transfers client
-    → record { session = session; ended = slice_index_or v.state.ended place None; transfers = ids } ≡ synced (node_of w) client
+pub synced-shown : {v w : Holding} → v ≡ w → (client place : ℕ) (session : Option SessionMark) (ids : List ℕ)
+    → session ≡ option_map (mark_of w.state.status) w.state.session → place ≡ client
+    → ids ≡ stored_ids v.state.transfers client
+    → record { session = session; ended = slice_index_or v.state.ended place None; transfers = ids }
+    ≡ synced (node_of w) client
 synced-shown {v = v} {w = w} e client place session ids marks here shown = grind (arith, ids-shown v client)

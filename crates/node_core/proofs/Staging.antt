@@ -27,16 +27,24 @@ apart client id (t ∷ ts) u d e =
     let free = all-each (λ n. not (n == t.slot)) (slots_of ts) parts.0 in
     let differ = each-imp _ (λ n. n ≢ t.slot) (λ n k. eqb-false n t.slot (not-true _ k)) (slots_of ts) free in
     let rest = each-unmap (λ n. n ≢ t.slot) (λ (v : StoredTransfer). v.slot) ts differ in
-    grind (arith, apart client id ts u parts.1, rest, found-has (λ v. is_of client id v.header) (λ v. v.slot ≢ t.slot) ts u rest, each-imp)
+    grind (
+      arith,
+      apart client id ts u parts.1,
+      rest,
+      found-has (λ v. is_of client id v.header) (λ v. v.slot ≢ t.slot) ts u rest,
+      each-imp,
+    )
 
 -- where they hold the same of each transfer the node is kept
 same-kept : (v : Holding) (slots : List Bytes) (faults : ℕ) (p : Prepared) → IsSound v → v.faults ≤ faults
-    → AllByRecursion (λ t. transfer_meaning package_reading (record v.areas { slots = slots }) t ≡ transfer_meaning package_reading v.areas t) v.state.transfers
+    → AllByRecursion (λ t. transfer_meaning package_reading (record v.areas { slots = slots }) t
+    ≡ transfer_meaning package_reading v.areas t) v.state.transfers
     → IsKept v (record { areas = record v.areas { slots = slots }; faults = faults; state = v.state; prepared = p })
 same-kept v slots faults p sound more each = record {
   state = refl;
   node = ap (λ ts. record (node_of v) { transfers = ts })
-      (map-same (transfer_meaning package_reading areas) (transfer_meaning package_reading v.areas) v.state.transfers each);
+      (map-same (transfer_meaning package_reading areas)
+      (transfer_meaning package_reading v.areas) v.state.transfers each);
   order = read-order v.areas areas v.state each sound.order;
   copied = each-both _ _ _ copied v.state.transfers each sound.copied;
   faults = more;
@@ -45,14 +53,18 @@ same-kept v slots faults p sound more each = record {
     areas : Areas
     areas = record v.areas { slots = slots }
 
-    copied : (t : StoredTransfer) → transfer_meaning package_reading areas t ≡ transfer_meaning package_reading v.areas t
-        → IsCopiedIn package_reading v.areas v.state t t.header.phase → IsCopiedIn package_reading areas v.state t t.header.phase
+    copied : (t : StoredTransfer) → transfer_meaning package_reading areas t
+        ≡ transfer_meaning package_reading v.areas t
+        → IsCopiedIn package_reading v.areas v.state t t.header.phase
+        → IsCopiedIn package_reading areas v.state t t.header.phase
     copied t same c = copied-when areas v.state t t.header.phase (λ e.
         subst (λ (m : NodeTransfer). AreCopied areas (units_done v.state) m.parts (extents_in v.state t)) (sym same)
-        (same-copied v.areas areas (units_done v.state) _ (extents_in v.state t) (every (λ extent. refl) (extents_in v.state t))
+        (same-copied v.areas areas (units_done v.state) _ (extents_in v.state t)
+        (every (λ extent. refl) (extents_in v.state t))
         (subst (IsCopiedIn package_reading v.areas v.state t) e c)))
 
-module _ (v : Holding) (sound : IsSound v) (client id : ℕ) (u : StoredTransfer) (e : stored_of v.state.transfers client id ≡ Some u) where
+module _ (v : Holding) (sound : IsSound v) (client id : ℕ) (u : StoredTransfer)
+    (e : stored_of v.state.transfers client id ≡ Some u) where
   -- its slot is one
   pub slot-is : u.slot < transfer_limit
   slot-is =
@@ -62,38 +74,50 @@ module _ (v : Holding) (sound : IsSound v) (client id : ℕ) (u : StoredTransfer
   -- its bytes lie there
   pub came-lies : u.header.received ≤ length (content_of (Transfer u.slot) v.areas)
   came-lies =
-      let own = found-fact (IsSoundTransfer v.state.next_id) v.areas client id v.state.transfers u sound.fit.consistent.transfers.each e in
+      let own =
+      found-fact (IsSoundTransfer v.state.next_id) v.areas client id v.state.transfers u
+      sound.fit.consistent.transfers.each e in
       let width = length-take u.header.received (content_of (Transfer u.slot) v.areas) in
       omega (arith, own.bytes, width)
 
   -- a put behind them leaves what each transfer means
-  put-stands : AreasFit v.areas → (n : ℕ) (areas : Areas) → LeavesOutside (Transfer u.slot) u.header.received n v.areas areas
-      → AllByRecursion (λ t. transfer_meaning package_reading areas t ≡ transfer_meaning package_reading v.areas t) v.state.transfers
+  put-stands : AreasFit v.areas → (n : ℕ) (areas : Areas)
+      → LeavesOutside (Transfer u.slot) u.header.received n v.areas areas
+      → AllByRecursion (λ t. transfer_meaning package_reading areas t
+      ≡ transfer_meaning package_reading v.areas t) v.state.transfers
   put-stands fit n areas left = each-both _ _ _ (λ t placed where_is.
-      transfer-stands u.slot u.header.received n v.areas areas slot-is fit left package_reading t placed.slot (or-came t where_is))
+      transfer-stands u.slot u.header.received n v.areas areas slot-is fit left package_reading t placed.slot
+      (or-came t where_is))
       v.state.transfers sound.order.transfers (apart client id v.state.transfers u sound.order.slots e)
     where
-      or-came : (t : StoredTransfer) → (t.slot ≢ u.slot) ⊎ (t ≡ u) → (t.slot ≢ u.slot) ⊎ (t.header.received ≤ u.header.received)
+      or-came : (t : StoredTransfer) → (t.slot ≢ u.slot) ⊎ (t ≡ u)
+          → (t.slot ≢ u.slot) ⊎ (t.header.received ≤ u.header.received)
       or-came t other = grind arith
 
 -- a call that is refused needs nothing
-pub refused-block : {v w : Holding} → v ≡ w → (client id counter : ℕ) (block : Bytes) → block_refusal v client id counter block ≢ None
+pub refused-block : {v w : Holding} → v ≡ w → (client id counter : ℕ) (block : Bytes)
+    → block_refusal v client id counter block ≢ None
     → IsReady w client (TransferData id counter block)
 refused-block {w = w} e client id counter block refused none =
-    absurd (refused (ap (λ (x : Holding). block_refusal x client id counter block) e ∙ sym (data-same w client id counter block) ∙ none))
+    absurd (refused (ap (λ (x : Holding). block_refusal x client id counter block) e
+    ∙ sym (data-same w client id counter block) ∙ none))
 
-pub refused-exit : {v w : Holding} → v ≡ w → (client id : ℕ) → exit_refusal v client id ≢ None → IsReady w client (TransferExit id)
+pub refused-exit : {v w : Holding} → v ≡ w → (client id : ℕ) → exit_refusal v client id ≢ None
+    → IsReady w client (TransferExit id)
 refused-exit {w = w} e client id refused none =
     absurd (refused (ap (λ (x : Holding). exit_refusal x client id) e
-    ∙ ap (λ h. first_refusal (exit_refusals h)) (sym (header-means package_reading w.areas (is_of client id) w.state.transfers)) ∙ none))
+    ∙ ap (λ h. first_refusal (exit_refusals h))
+    (sym (header-means package_reading w.areas (is_of client id) w.state.transfers)) ∙ none))
 
 -- a look-up of a node by its parts
-module _ {v w : Holding} (view : v ≡ w) (sound : IsSound w) (client id : ℕ) (f : Found) (e : found_of v.state.transfers client id ≡ Some f) where
+module _ {v w : Holding} (view : v ≡ w) (sound : IsSound w) (client id : ℕ) (f : Found)
+    (e : found_of v.state.transfers client id ≡ Some f) where
   own : IsSound v
   own = subst IsSound (sym view) sound
 
   -- it is of a stored transfer
-  there : (u : StoredTransfer) × (stored_of v.state.transfers client id ≡ Some u) × (f ≡ record { header = u.header; slot = u.slot })
+  there : (u : StoredTransfer) × (stored_of v.state.transfers client id ≡ Some u)
+      × (f ≡ record { header = u.header; slot = u.slot })
   there = grind (arith, e)
 
   pub found-slot : f.slot < transfer_limit
@@ -116,13 +140,21 @@ module _ {v w : Holding} (view : v ≡ w) (sound : IsSound w) (client id : ℕ) 
   failed-kept fit n areas faults p more left =
       let each = put-stands v own client id there.0 there.1 fit n areas
       (subst (λ (x : Found). LeavesOutside (Transfer x.slot) x.header.received n v.areas areas) there.2 left) in
-      subst (λ (k : Holding × Areas). IsKept k.0 (record { areas = k.1; faults = faults; state = v.state; prepared = p }))
+      subst (λ (k : Holding × Areas). IsKept k.0 (record {
+        areas = k.1;
+        faults = faults;
+        state = v.state;
+        prepared =
+            p;
+      }))
       (λ i. (view i, sym left.elsewhere i)) (same-kept v _ faults p own more
-      (each-imp _ _ (λ t same. ap (λ z. transfer_meaning package_reading z t) (sym left.elsewhere) ∙ same) v.state.transfers each))
+      (each-imp _ _ (λ t same. ap (λ z. transfer_meaning package_reading z t) (sym left.elsewhere)
+      ∙ same) v.state.transfers each))
 
   -- and if it succeeds
   pub put-kept : AreasFit v.areas → (block : Bytes) (areas : Areas) (faults : ℕ) (p : Prepared) → v.faults ≤ faults
-      → areas ≡ with_content (Transfer f.slot) (overwritten f.header.received block (content_of (Transfer f.slot) v.areas)) v.areas
+      → areas ≡ with_content (Transfer f.slot)
+      (overwritten f.header.received block (content_of (Transfer f.slot) v.areas)) v.areas
       → IsKept w (record { areas = areas; faults = faults; state = v.state; prepared = p })
   put-kept fit block areas faults p more put =
       failed-kept fit (length block) areas faults p more
@@ -131,22 +163,27 @@ module _ {v w : Holding} (view : v ≡ w) (sound : IsSound w) (client id : ℕ) 
 
   -- a block that was put is ready
   pub put-ready : AreasFit v.areas → (counter : ℕ) (block : Bytes) (areas : Areas) (faults : ℕ) (p : Prepared)
-      → areas ≡ with_content (Transfer f.slot) (overwritten f.header.received block (content_of (Transfer f.slot) v.areas)) v.areas
-      → IsReady (record { areas = areas; faults = faults; state = v.state; prepared = p }) client (TransferData id counter block)
+      → areas ≡ with_content (Transfer f.slot)
+      (overwritten f.header.received block (content_of (Transfer f.slot) v.areas)) v.areas
+      → IsReady (record { areas = areas; faults = faults; state = v.state; prepared = p }) client
+      (TransferData id counter block)
   put-ready fit counter block areas faults p put none =
       let at = f.header.received in
       let area = Transfer f.slot in
       each-imp _ _ (λ t behind same. behind (eq-eqb t.header.id id same)) v.state.transfers
       (only-has (IsBehind areas block) client id v.state.transfers there.0 (rise v own) there.1
-      (subst (λ (x : Found). slice_range (content_of (Transfer x.slot) areas) x.header.received (x.header.received + length block) ≡ block) there.2
+      (subst (λ (x : Found). slice_range (content_of (Transfer x.slot) areas) x.header.received
+      (x.header.received + length block) ≡ block) there.2
       (ap (λ a. slice_range (content_of area a) at (at + length block)) put
       ∙ ap (λ c. slice_range c at (at + length block)) (content-here area v.areas found-slot fit _)
       ∙ slice-overwritten at block (content_of area v.areas) found-lies)))
 
   -- a verdict on the bytes that were got is ready
   pub got-ready : (bytes : Bytes) (verdict : ExitVerdict) (areas : Areas) (faults : ℕ) → areas ≡ v.areas
-      → bytes ≡ slice_range (content_of (Transfer f.slot) v.areas) 0 (0 + f.header.received) → IsVerdict verdict (package_reading bytes)
-      → IsReady (record { areas = areas; faults = faults; state = v.state; prepared = Judged verdict }) client (TransferExit id)
+      → bytes ≡ slice_range (content_of (Transfer f.slot) v.areas) 0 (0 + f.header.received)
+      → IsVerdict verdict (package_reading bytes)
+      → IsReady (record { areas = areas; faults = faults; state = v.state; prepared = Judged verdict }) client
+      (TransferExit id)
   got-ready bytes verdict areas faults same got judged none =
       let slot = content_of (Transfer f.slot) v.areas in
       let means = transfer_meaning package_reading in
@@ -154,7 +191,10 @@ module _ {v w : Holding} (view : v ≡ w) (sound : IsSound w) (client id : ℕ) 
       ∙ ap (λ (x : Found). take x.header.received (content_of (Transfer x.slot) v.areas)) there.2 in
       subst (IsVerdict verdict)
       (ap package_reading came
-      ∙ sym (ap (λ a. package_reading (option_map_or (λ t. t.bytes) (find (λ t. is_of client id t.header) (map (means a) v.state.transfers)) [])) same
-      ∙ ap (λ o. package_reading (option_map_or (λ t. t.bytes) o [])) (found-means package_reading v.areas client id v.state.transfers
+      ∙ sym (ap (λ a.
+      package_reading (option_map_or (λ t. t.bytes)
+      (find (λ t. is_of client id t.header) (map (means a) v.state.transfers)) [])) same
+      ∙ ap (λ o. package_reading (option_map_or (λ t. t.bytes) o []))
+      (found-means package_reading v.areas client id v.state.transfers
       ∙ ap (option_map (means v.areas)) there.1)))
       judged

@@ -14,15 +14,18 @@ abbrev pub found : ℕ → ℕ → List StoredTransfer → Option StoredTransfer
 found client id ts = find (λ t. is_of client id t.header) ts
 
 -- a transfer that is found has the id and the client
-pub found-is : (client id : ℕ) (ts : List StoredTransfer) (u : StoredTransfer) → found client id ts ≡ Some u → (u.header.id ≡ id) × (u.header.client ≡ client)
+pub found-is : (client id : ℕ) (ts : List StoredTransfer) (u : StoredTransfer) → found client id ts ≡ Some u
+    → (u.header.id ≡ id) × (u.header.client ≡ client)
 found-is client id ts u e =
     grind (arith, found-has (λ t. is_of client id t.header) (λ _. Unit {0}) ts u (every (λ _. tt) ts))
 
 -- and is the only one of its id
-pub only : (client id : ℕ) (ts : List StoredTransfer) (u : StoredTransfer) → numbers_rise (ids ts) ≡ true → found client id ts ≡ Some u → AllByRecursion (λ t. (t.header.id == id) ≡ true → t ≡ u) ts
+pub only : (client id : ℕ) (ts : List StoredTransfer) (u : StoredTransfer) → numbers_rise (ids ts) ≡ true
+    → found client id ts ≡ Some u → AllByRecursion (λ t. (t.header.id == id) ≡ true → t ≡ u) ts
 only client id [] u r e = tt
 only client id (t ∷ ts) u r e =
-    let above = each-unmap (λ n. t.header.id < n) (λ (v : StoredTransfer). v.header.id) ts (rise-above t.header.id (ids ts) r) in
+    let above = each-unmap (λ n. t.header.id < n) (λ (v : StoredTransfer). v.header.id) ts
+    (rise-above t.header.id (ids ts) r) in
     grind (
       arith,
       only client id ts u (rise-tail t.header.id (ids ts) r),
@@ -33,30 +36,40 @@ only client id (t ∷ ts) u r e =
     )
 
 -- a fact of the one that is found is one of all of its id
-pub only-has : (P : StoredTransfer → Type 0) (client id : ℕ) (ts : List StoredTransfer) (u : StoredTransfer) → numbers_rise (ids ts) ≡ true → found client id ts ≡ Some u → P u → AllByRecursion (λ t. (t.header.id == id) ≡ true → P t) ts
+pub only-has : (P : StoredTransfer → Type 0) (client id : ℕ) (ts : List StoredTransfer) (u : StoredTransfer)
+    → numbers_rise (ids ts) ≡ true → found client id ts ≡ Some u → P u
+    → AllByRecursion (λ t. (t.header.id == id) ≡ true → P t) ts
 only-has P client id ts u r e own = each-imp _ _ (λ t same q. subst P (sym (same q)) own) ts (only client id ts u r e)
 
 -- a transfer that some header is found of
-pub some-stored : (o : Option StoredTransfer) → is_none (option_map (λ t. t.header) o) ≡ false → (u : StoredTransfer) × (o ≡ Some u)
+pub some-stored : (o : Option StoredTransfer) → is_none (option_map (λ t. t.header) o) ≡ false
+    → (u : StoredTransfer) × (o ≡ Some u)
 some-stored o e = grind arith
 
 -- the header of a look-up
-pub found-header : (ts : List StoredTransfer) (client id : ℕ) → stored_header ts client id ≡ option_map (λ (f : Found). f.header) (found_of ts client id)
+pub found-header : (ts : List StoredTransfer) (client id : ℕ)
+    → stored_header ts client id ≡ option_map (λ (f : Found). f.header) (found_of ts client id)
 found-header ts client id = grind arith
 
 -- a part with its payload's length, of the bytes behind those that came
-pub staged-bytes : (came n : ℕ) (content block : List ℕ) → slice_range content came (came + n) ≡ block → take (came + n) content ≡ take came content ++ block
+pub staged-bytes : (came n : ℕ) (content block : List ℕ) → slice_range content came (came + n) ≡ block
+    → take (came + n) content ≡ take came content ++ block
 staged-bytes came n content block staged = grind (arith, take-add came n content)
 
 module _ (read : Reading) (areas : Areas) where
   -- what is found in what transfers mean is what the one that is found means
-  pub found-means : (client id : ℕ) (ts : List StoredTransfer) → find (λ t. is_of client id t.header) (map (transfer_meaning read areas) ts) ≡ option_map (transfer_meaning read areas) (found client id ts)
+  pub found-means : (client id : ℕ) (ts : List StoredTransfer)
+      → find (λ t. is_of client id t.header) (map (transfer_meaning read areas) ts)
+      ≡ option_map (transfer_meaning read areas) (found client id ts)
   found-means client id ts = find-map (transfer_meaning read areas) (λ t. is_of client id t.header) ts
 
   -- a change of the one that is found
-  pub changed-means : (client id : ℕ) (g : StoredTransfer → StoredTransfer) (h : Transfer → Transfer) (ts : List StoredTransfer) (u : StoredTransfer)
-      → numbers_rise (ids ts) ≡ true → found client id ts ≡ Some u → transfer_meaning read areas (g u) ≡ h (transfer_meaning read areas u)
-      → map (transfer_meaning read areas) (map (λ t. if t.header.id == id then g t else t) ts) ≡ map (λ t. if t.header.id == id then h t else t) (map (transfer_meaning read areas) ts)
+  pub changed-means : (client id : ℕ) (g : StoredTransfer → StoredTransfer) (h : Transfer
+      → Transfer) (ts : List StoredTransfer) (u : StoredTransfer)
+      → numbers_rise (ids ts) ≡ true → found client id ts ≡ Some u
+      → transfer_meaning read areas (g u) ≡ h (transfer_meaning read areas u)
+      → map (transfer_meaning read areas) (map (λ t. if t.header.id == id then g t else t) ts)
+      ≡ map (λ t. if t.header.id == id then h t else t) (map (transfer_meaning read areas) ts)
   changed-means client id g h ts u r e same =
       change-map (transfer_meaning read areas) (λ t. t.header.id == id) g h ts
       (only-has (λ t. transfer_meaning read areas (g t) ≡ h (transfer_meaning read areas t)) client id ts u r e same)
@@ -71,7 +84,8 @@ found-fact P areas client id ts u each e =
 
 -- only of a transfer in processing need anything be copied
 pub copied-when : (areas : Areas) (s : State) (t : StoredTransfer) (phase : Phase)
-    → (phase ≡ BeingProcessed → AreCopied areas (units_done s) (transfer_meaning package_reading areas t).parts (extents_in s t))
+    → (phase ≡ BeingProcessed
+    → AreCopied areas (units_done s) (transfer_meaning package_reading areas t).parts (extents_in s t))
     → IsCopiedIn package_reading areas s t phase
 copied-when areas s t phase each = grind arith
 
@@ -94,5 +108,6 @@ read-order old new s each i = record {
 -- the ids of a sound node's transfers rise
 pub rise : (v : Holding) → IsSound v → numbers_rise (ids v.state.transfers) ≡ true
 rise v sound =
-    ap numbers_rise (sym (map-map (λ (t : Transfer). t.header.id) (transfer_meaning package_reading v.areas) v.state.transfers))
+    ap numbers_rise
+    (sym (map-map (λ (t : Transfer). t.header.id) (transfer_meaning package_reading v.areas) v.state.transfers))
     ∙ sound.fit.consistent.transfers.rise

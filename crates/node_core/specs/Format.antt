@@ -34,7 +34,8 @@ placed_from place [] = []
 placed_from place (c ∷ clusters) = placed place c ∷ placed_from (place + 1) clusters
 
 -- the clusters lie on the first sides of the first places, and nothing on the first sides of the others
-pub record AreInstalled (areas : Areas) (stored : List (Cluster Extent)) (clusters : List (Cluster Bytes)) : Type 0 where
+pub record AreInstalled (areas : Areas) (stored : List (Cluster Extent))
+    (clusters : List (Cluster Bytes)) : Type 0 where
   pub places : stored ≡ placed_from 0 clusters
   pub contents : map (cluster_meaning areas) stored ≡ clusters
   pub others : (place : ℕ) → length clusters ≤ place → place < cluster_limit → content_of (Side place 0) areas ≡ []

@@ -19,7 +19,8 @@ use Rattle.transfer_blocks.specs.Table.{lowest_free}
 
 -- where the running cluster of a name lies
 abbrev pub running_at : List (Cluster Extent) → List ℕ → Extent
-running_at running name = option_map_or (λ c. c.content) (cluster_at running name) (record { place = 0; side = 0; length = 0 })
+running_at running name =
+    option_map_or (λ c. c.content) (cluster_at running name) (record { place = 0; side = 0; length = 0 })
 
 -- a payload goes to the lowest free place, to the running cluster's other side, or to none but its own
 abbrev pub goes_to : Action → List ℕ → Extent → ℕ → Extent

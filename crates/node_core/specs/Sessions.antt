@@ -120,7 +120,11 @@ taken_up id x = record x { processing = Some id; units_done = 0 }
 
 -- a session takes up the package of a transfer
 abbrev pub begun : ℕ → Option (SessionOf Extent) → State → State
-begun id session s = record s { transfers = phased id Processing s.transfers; session = option_map (taken_up id) session }
+begun id session s = record s {
+  transfers = phased id Processing s.transfers;
+  session =
+      option_map (taken_up id) session;
+}
 
 -- a cluster with what it needs
 abbrev pub needing_of : Cluster Extent → Needing

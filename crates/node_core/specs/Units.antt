@@ -77,13 +77,15 @@ changes_due done id parts extents =
 
 -- what the next unit of a transfer needs: its bytes lie behind the done ones, and the last one's changes are ready
 pub record IsPackageReady (v : Holding) (x : SessionOf Extent) (id : ℕ) (t : StoredTransfer) : Type 0 where
-  pub bytes : AreCopied v.areas (x.units_done + 1) (transfer_meaning package_reading v.areas t).parts (extents_in v.state t)
+  pub bytes : AreCopied v.areas (x.units_done + 1) (transfer_meaning package_reading v.areas t).parts
+      (extents_in v.state t)
   pub changes : nat_lt (x.units_done + 1) (stored_units t.contents) ≡ false
       → plan_kept v.prepared ≡ Some (changes_to id t.contents (extents_in v.state t))
 
 -- what the next unit of a session needs is there
 abbrev pub IsUnitReady : Status → Holding → SessionOf Extent → Type 0
-IsUnitReady Processing v x = IfSome x.processing (λ id. IfSome (stored_of v.state.transfers x.owner id) (IsPackageReady v x id))
+IsUnitReady Processing v x =
+    IfSome x.processing (λ id. IfSome (stored_of v.state.transfers x.owner id) (IsPackageReady v x id))
 IsUnitReady Activating v x = clusters_kept v.prepared ≡ Some (planned x.changes x.saved)
 IsUnitReady RollingBack v x = clusters_kept v.prepared ≡ Some x.saved
 IsUnitReady _ v x = ⊤
@@ -101,7 +103,8 @@ picks Others name other = not (bytes_eq other name)
 abbrev pub LieWithin : Bytes → ℕ → List Extent → Type 0
 LieWithin content place [] = ⊤
 LieWithin content place (extent ∷ extents) =
-    let behind = payload_at content place + extent.length in (behind ≤ length content) × LieWithin content behind extents
+    let behind = payload_at content place + extent.length in
+    (behind ≤ length content) × LieWithin content behind extents
 
 -- the next unit behind these done ones, of payloads that go to these extents: a piece of the first that isn't whole
 abbrev pub piece_of : Bytes → ℕ → ℕ → List Extent → Option Piece
@@ -127,7 +130,8 @@ pub record IsUnitOf (v : Holding) (n : NextUnit) : Type 0 where
   pub slot : n.slot ≡ transfer.slot
   pub done : n.done ≡ x.units_done
   pub extents : n.extents.items ≡ extents_in v.state transfer
-  pub changes : option_map (λ v. v.items) n.changes ≡ changes_due x.units_done id transfer.contents (extents_in v.state transfer)
+  pub changes : option_map (λ v. v.items) n.changes
+      ≡ changes_due x.units_done id transfer.contents (extents_in v.state transfer)
 
 abbrev pub IsNextUnit : Holding → Option NextUnit → Type 0
 IsNextUnit v None = ⊥

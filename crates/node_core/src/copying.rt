@@ -93,7 +93,8 @@ impl<S: Staging> Held<S> {
         }))
     }
 
-    /// The piece that the unit behind these done ones brings, of the package in a slot whose payloads go to the extents.
+    /// The piece that the unit behind these done ones brings, of the package in a slot whose payloads go to the
+    /// extents.
     fn find_piece(
         &mut self,
         slot: u8,

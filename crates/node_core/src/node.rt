@@ -98,8 +98,8 @@ impl<S: Staging> Core<S> {
         Core { held }
     }
 
-    /// Takes all memory that the call needs, stages a block that the table accepts behind the bytes that came, and reads
-    /// a package that is closed. The node stays as it is.
+    /// Takes all memory that the call needs, stages a block that the table accepts behind the bytes that came, and
+    /// reads a package that is closed. The node stays as it is.
     pub fn reserve(
         &mut self,
         alloc: Global,
@@ -144,7 +144,8 @@ impl<S: Staging> Core<S> {
         }
     }
 
-    /// Takes all memory that the next unit of work needs, and copies what it brings of a package. The node stays as it is.
+    /// Takes all memory that the next unit of work needs, and copies what it brings of a package. The node stays as
+    /// it is.
     pub fn reserve_work(&mut self, alloc: Global) -> Result<(), ReserveError>
         ensures state { self.new.state ≡ self.old.state }
         ensures node { node_of self.new ≡ node_of self.old }

@@ -11,12 +11,14 @@ use Rattle.package_reader.specs.declared.fault.PackageError.{PackageError}
 use Rattle.package_reader.specs.declared.span.Span.{Span}
 
 -- the value of a step that was not refused
-pub bind_ok : {A B : Type 0} (r : Result A PackageError) (f : A → Result B PackageError) (y : B) → (r >>= f) ≡ Ok y → (x : A) × (r ≡ Ok x) × (f x ≡ Ok y)
+pub bind_ok : {A B : Type 0} (r : Result A PackageError) (f : A → Result B PackageError) (y : B) → (r >>= f) ≡ Ok y
+    → (x : A) × (r ≡ Ok x) × (f x ≡ Ok y)
 bind_ok (Ok x) f y e = (x, refl, e)
 bind_ok (Err d) f y e = absurd cc
 
 -- a test that did not refuse
-pub guard_ok : {A : Type 0} (b : Bool) (d : PackageError) (r : Result A PackageError) (y : A) → cond b (Err d) r ≡ Ok y → (b ≡ false) × (r ≡ Ok y)
+pub guard_ok : {A : Type 0} (b : Bool) (d : PackageError) (r : Result A PackageError) (y : A) → cond b (Err d) r ≡ Ok y
+    → (b ≡ false) × (r ≡ Ok y)
 guard_ok true d r y e = absurd cc
 guard_ok false d r y e = (refl, e)
 
@@ -46,14 +48,27 @@ block_stands bytes place span e =
     }
 
 -- the block that is spelled at a place
-pub spelled_block : (bytes front value rest : List ℕ) (place : ℕ) → bytes ≡ front ++ (bytes_field value ++ rest) → length front ≡ place → length value < 2 ^ 32
-    → (number_at bytes place ≡ length value) × (block_at bytes place ≡ Ok (record { at = place + 4; len = length value })) × (bytes_of bytes (record { at = place + 4; len = length value }) ≡ value)
+pub spelled_block : (bytes front value rest : List ℕ) (place : ℕ) → bytes ≡ front ++ (bytes_field value ++ rest)
+    → length front ≡ place → length value < 2 ^ 32
+    → (number_at bytes place ≡ length value)
+    × (block_at bytes place ≡ Ok (record { at = place + 4; len = length value }))
+    × (bytes_of bytes (record { at = place + 4; len = length value }) ≡ value)
 unfolding block_at
 spelled_block bytes front value rest place e len short =
     let from : drop place bytes ≡ bytes_field value ++ rest = ap (drop place) e ∙ drop_at front _ place len in
-    let number : number_at bytes place ≡ length value = ap (λ (xs : List ℕ). from_be_bytes w32 (take 4 xs)) from ∙ from_be_bytes-to_be_bytes_4 (length value) short in
-    let behind : drop (place + 4) bytes ≡ value ++ rest = sym (drop-drop 4 place bytes) ∙ ap (λ (xs : List ℕ). drop 4 xs) from in
-    let all : place + 4 + length value ≤ length bytes = omega (arith, ap length e, length-append front (bytes_field value ++ rest), length-append (bytes_field value) rest, length-append (to_be_bytes w32 (length value)) value, len) in
+    let number : number_at bytes place ≡ length value =
+    ap (λ (xs : List ℕ). from_be_bytes w32 (take 4 xs)) from ∙ from_be_bytes-to_be_bytes_4 (length value) short in
+    let behind : drop (place + 4) bytes ≡ value ++ rest =
+    sym (drop-drop 4 place bytes) ∙ ap (λ (xs : List ℕ). drop 4 xs) from in
+    let all : place + 4 + length value ≤ length bytes =
+    omega (
+      arith,
+      ap length e,
+      length-append front (bytes_field value ++ rest),
+      length-append (bytes_field value) rest,
+      length-append (to_be_bytes w32 (length value)) value,
+      len,
+    ) in
     let head = le-ltb (length bytes) (place + 4) (omega (arith, all)) in
     let tail = le-ltb (length bytes) (place + 4 + length value) all in
     (number, rw (head, number, tail) refl, ap (take (length value)) behind ∙ take_at value rest (length value) refl)
@@ -74,16 +89,23 @@ pub record Spells (bytes : List ℕ) (place : ℕ) (span : Span) : Type 0 where
   pub size : length (bytes_of bytes span) ≡ span.len
   pub small : span.len < 2 ^ 32
 
-pub stands-spelled : (bytes : List ℕ) (place : ℕ) (span : Span) → AreBytes bytes → Stands bytes place span → Spells bytes place span
+pub stands-spelled : (bytes : List ℕ) (place : ℕ) (span : Span) → AreBytes bytes → Stands bytes place span
+    → Spells bytes place span
 stands-spelled bytes place span fits is =
     let n = span.len in
     let behind = drop span.at bytes in
     let number : number_at bytes place ≡ n = is.number in
-    let field : to_be_bytes w32 n ≡ take 4 (drop place bytes) = be_bytes_4 (take 4 (drop place bytes)) n (length-take-le 4 (drop place bytes) (omega (arith, length-drop place bytes, is.at, is.within))) (AreBytes-take 4 (drop place bytes) (AreBytes-drop place bytes fits)) (sym number) in
-    let len : length (take n behind) ≡ n = length-take-le n behind (omega (arith, length-drop span.at bytes, is.within)) in
-    let back : behind ≡ take n behind ++ drop (end_of span) bytes = sym (take-append-drop n behind) ∙ ap (λ (xs : List ℕ). take n behind ++ xs) (drop-drop n span.at bytes) in
+    let field : to_be_bytes w32 n ≡ take 4 (drop place bytes) =
+    be_bytes_4 (take 4 (drop place bytes)) n
+    (length-take-le 4 (drop place bytes) (omega (arith, length-drop place bytes, is.at, is.within)))
+    (AreBytes-take 4 (drop place bytes) (AreBytes-drop place bytes fits)) (sym number) in
+    let len : length (take n behind) ≡ n =
+    length-take-le n behind (omega (arith, length-drop span.at bytes, is.within)) in
+    let back : behind ≡ take n behind ++ drop (end_of span) bytes =
+    sym (take-append-drop n behind) ∙ ap (λ (xs : List ℕ). take n behind ++ xs) (drop-drop n span.at bytes) in
     let next : drop 4 (drop place bytes) ≡ behind = drop-drop 4 place bytes ∙ ap (λ k. drop k bytes) (sym is.at) in
-    let parts : drop place bytes ≡ to_be_bytes w32 n ++ (take n behind ++ drop (end_of span) bytes) = sym (take-append-drop 4 (drop place bytes)) ∙ (λ i. sym field i ++ (next ∙ back) i) in
+    let parts : drop place bytes ≡ to_be_bytes w32 n ++ (take n behind ++ drop (end_of span) bytes) =
+    sym (take-append-drop 4 (drop place bytes)) ∙ (λ i. sym field i ++ (next ∙ back) i) in
     let four = AreBytes-take 4 (drop place bytes) (AreBytes-drop place bytes fits) in
     record {
       parts = parts ∙ ap (λ (k : ℕ). to_be_bytes w32 k ++ (take n behind ++ drop (end_of span) bytes)) (sym len);

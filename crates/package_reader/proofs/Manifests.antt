@@ -6,11 +6,13 @@ use Rattle.manifest.proofs.Lists.{next_one, none_at}
 
 module _ {A B : Type 0} (f : A → Option B) (xs : List A) (i : ℕ) (d : A) (within : i < length xs) where
   -- one more, which has a value
-  pub all-more : (ys : List B) (y : B) → all_of f (take i xs) ≡ Some ys → f (get_or xs i d) ≡ Some y → all_of f (take (i + 1) xs) ≡ Some (ys ++ y ∷ [])
+  pub all-more : (ys : List B) (y : B) → all_of f (take i xs) ≡ Some ys → f (get_or xs i d) ≡ Some y
+      → all_of f (take (i + 1) xs) ≡ Some (ys ++ y ∷ [])
   all-more ys y taken one =
       let before = ap (all_of f) (map-id (take i xs)) ∙ taken in
       let next = next_one f (λ x. x) xs i d within in
-      ap (λ n. all_of f (take n xs)) (add-one i) ∙ ap (all_of f) (sym (map-id (take (suc i) xs))) ∙ next ∙ rw (before, one) refl
+      ap (λ n. all_of f (take n xs)) (add-one i) ∙ ap (all_of f) (sym (map-id (take (suc i) xs))) ∙ next
+      ∙ rw (before, one) refl
 
   -- one that has none
   pub all-stop : f (get_or xs i d) ≡ None → all_of f xs ≡ None

@@ -13,15 +13,18 @@ use Rattle.package_reader.specs.declared.fault.PackageError.{PackageError}
 use Rattle.package_reader.proofs.Blocks.{bind_ok, ok_is}
 use Rattle.package_reader.proofs.Taken.{contents_are_package, contents_are_parts}
 
-never-both : (parts : List (Part Bytes)) (read : Result (List (Part Bytes)) PackageError) (e : PackageError) → read ≡ Ok parts → read ≡ Err e → ⊥
+never-both : (parts : List (Part Bytes)) (read : Result (List (Part Bytes)) PackageError) (e : PackageError)
+    → read ≡ Ok parts → read ≡ Err e → ⊥
 never-both parts (Ok ps) e is refused = cc
 never-both parts (Err d) e is refused = cc
 
-pub refused-contents : (bytes : Bytes) (parts : List (Part Bytes)) (e : PackageError) → reading bytes ≡ Ok parts → contents_of bytes ≡ Err e → ⊥
+pub refused-contents : (bytes : Bytes) (parts : List (Part Bytes)) (e : PackageError) → reading bytes ≡ Ok parts
+    → contents_of bytes ≡ Err e → ⊥
 unfolding reading
 refused-contents bytes parts e is refused = never-both parts (reading bytes) e is (rw refused refl)
 
-pub reading_is_package : (bytes : Bytes) (parts : List (Part Bytes)) → AreBytes bytes → reading bytes ≡ Ok parts → IsPackage bytes parts
+pub reading_is_package : (bytes : Bytes) (parts : List (Part Bytes)) → AreBytes bytes → reading bytes ≡ Ok parts
+    → IsPackage bytes parts
 unfolding reading
 reading_is_package bytes parts are e =
     let a = bind_ok (contents_of bytes) (λ cs. Ok (map (with_payload bytes) cs)) parts e in
@@ -32,5 +35,7 @@ unfolding reading
 reading_are_parts bytes parts e =
     let a = bind_ok (contents_of bytes) (λ cs. Ok (map (with_payload bytes) cs)) parts e in
     let same : are_parts (map (with_payload bytes) a.0) ≡ are_parts a.0 =
-    (λ i. nat_le 1 (length-map a.0 (with_payload bytes) i) && nat_le (length-map a.0 (with_payload bytes) i) part_limit && all_differ (map-map cluster_of (with_payload bytes) a.0 i)) in
-    subst (λ (ps : List (Part Bytes)). are_parts ps ≡ true) (ok_is (map (with_payload bytes) a.0) parts a.2) (same ∙ contents_are_parts bytes a.0 a.1)
+    (λ i. nat_le 1 (length-map a.0 (with_payload bytes) i) && nat_le (length-map a.0 (with_payload bytes) i) part_limit
+    && all_differ (map-map cluster_of (with_payload bytes) a.0 i)) in
+    subst (λ (ps : List (Part Bytes)). are_parts ps ≡ true) (ok_is (map (with_payload bytes) a.0) parts a.2) (same
+    ∙ contents_are_parts bytes a.0 a.1)

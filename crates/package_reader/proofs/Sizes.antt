@@ -22,7 +22,8 @@ use Rattle.package_reader.specs.Reading.{are_parts, belongs}
 use Rattle.package_reader.specs.Spelling.{HasText, IsPackage, IsWritten, Written, fields, front}
 use Rattle.package_reader.proofs.Taken.{tells_of}
 
-fields-size : (parts : List (Part Bytes)) → length (flat_map fields (map canonical parts)) ≡ 8 * length parts + texts_size parts + payloads_size parts
+fields-size : (parts : List (Part Bytes)) → length (flat_map fields (map canonical parts))
+    ≡ 8 * length parts + texts_size parts + payloads_size parts
 fields-size [] = refl
 fields-size (part ∷ parts) =
     let w = canonical part in
@@ -36,7 +37,9 @@ fields-size (part ∷ parts) =
       fields-size parts,
     )
 
-pub whole-size : (parts : List (Part Bytes)) → length (package_text parts) ≡ length (front (length parts)) + 8 * length parts + texts_size parts + payloads_size parts + 32
+pub whole-size : (parts : List (Part Bytes))
+    → length (package_text parts) ≡ length (front (length parts)) + 8 * length parts + texts_size parts
+    + payloads_size parts + 32
 unfolding package_text
 whole-size parts =
     let body = front (length (map canonical parts)) ++ flat_map fields (map canonical parts) in
@@ -50,46 +53,62 @@ whole-size parts =
     )
 
 -- where the texts are within their limit, the whole decides
-pub size-decides : (parts : List (Part Bytes)) (size : ℕ) → texts_size parts ≤ texts_limit (length parts) → size ≡ length (front (length parts)) + 8 * length parts + texts_size parts + payloads_size parts + 32
+pub size-decides : (parts : List (Part Bytes)) (size : ℕ) → texts_size parts ≤ texts_limit (length parts)
+    → size ≡ length (front (length parts)) + 8 * length parts + texts_size parts + payloads_size parts + 32
     → nat_lt package_limit size ≡ is_too_large parts
 unfolding is_too_large
-size-decides parts size short is = rw (le-ltb (texts_limit (length parts)) (texts_size parts) short) (ap (nat_lt package_limit) (is ∙ sym (whole-size parts)))
+size-decides parts size short is =
+    rw (le-ltb (texts_limit (length parts)) (texts_size parts) short)
+    (ap (nat_lt package_limit) (is ∙ sym (whole-size parts)))
 
-each-and : {X : Type 0} (P : X → Type 0) (xs : List X) (x : X) → AllByRecursion P xs → P x → AllByRecursion P (xs ++ x ∷ [])
+each-and : {X : Type 0} (P : X → Type 0) (xs : List X) (x : X) → AllByRecursion P xs → P x
+    → AllByRecursion P (xs ++ x ∷ [])
 each-and P [] x each one = (one, tt)
 each-and P (y ∷ ys) x each one = (each.0, each-and P ys x each.1 one)
 
-module _ (parts : List (Part Bytes)) (i : ℕ) (part : Part Bytes) (within : i < length parts) (at : part ≡ get_or parts i part) where
+module _ (parts : List (Part Bytes)) (i : ℕ) (part : Part Bytes) (within : i < length parts) (at : part
+    ≡ get_or parts i part) where
   taken-more : take (i + 1) parts ≡ take i parts ++ part ∷ []
-  taken-more = ap (λ n. take n parts) (add-one i) ∙ take-suc parts i part within ∙ ap (λ p. take i parts ++ p ∷ []) (sym at)
+  taken-more = ap (λ n. take n parts) (add-one i) ∙ take-suc parts i part within
+      ∙ ap (λ p. take i parts ++ p ∷ []) (sym at)
 
   -- the fields of one part more
-  pub fields-more : flat_map fields (map canonical (take (i + 1) parts)) ≡ flat_map fields (map canonical (take i parts)) ++ fields (canonical part)
+  pub fields-more : flat_map fields (map canonical (take (i + 1) parts))
+      ≡ flat_map fields (map canonical (take i parts)) ++ fields (canonical part)
   fields-more =
-      ap (λ ps. flat_map fields (map canonical ps)) taken-more ∙ ap (flat_map fields) (map-append canonical (take i parts) (part ∷ []))
-      ∙ flat_map-append fields (map canonical (take i parts)) (canonical part ∷ []) ∙ ap (λ xs. flat_map fields (map canonical (take i parts)) ++ xs) (append-nil (fields (canonical part)))
+      ap (λ ps. flat_map fields (map canonical ps)) taken-more
+      ∙ ap (flat_map fields) (map-append canonical (take i parts) (part ∷ []))
+      ∙ flat_map-append fields (map canonical (take i parts)) (canonical part ∷ [])
+      ∙ ap (λ xs. flat_map fields (map canonical (take i parts)) ++ xs) (append-nil (fields (canonical part)))
 
   pub texts-more : AllByRecursion HasText (take i parts) → HasText part → AllByRecursion HasText (take (i + 1) parts)
   texts-more each one = subst (AllByRecursion HasText) (sym taken-more) (each-and HasText (take i parts) part each one)
 
 texts-of : (parts : List (Part Bytes)) → sum_by (λ w. length w.text) (map canonical parts) ≡ texts_size parts
 texts-of [] = refl
-texts-of (part ∷ parts) = sum_by-cons (λ (w : Written). length w.text) (canonical part) (map canonical parts) ∙ ap (λ n. length (manifest_text part.manifest) + n) (texts-of parts)
+texts-of (part ∷ parts) = sum_by-cons (λ (w : Written). length w.text) (canonical part) (map canonical parts)
+    ∙ ap (λ n. length (manifest_text part.manifest) + n) (texts-of parts)
     ∙ sym (sum_by-cons (λ (p : Part Bytes). length (manifest_text p.manifest)) part parts)
 
-are-written : (parts : List (Part Bytes)) → AllByRecursion HasText parts → all_belong parts ≡ true → AllByRecursion IsWritten (map canonical parts)
+are-written : (parts : List (Part Bytes)) → AllByRecursion HasText parts → all_belong parts ≡ true
+    → AllByRecursion IsWritten (map canonical parts)
 are-written [] texts belong = tt
 are-written (part ∷ parts) texts belong =
     let both = and_parts (belongs part) (all_belong parts) belong in
-    let told = tells_of part.manifest part.payload both.0 in
-    (record { manifest = texts.0.0; fits = texts.0.1; digest = told.0; removal = told.1 }, are-written parts texts.1 both.1)
+    let told = tells_of part.manifest part.payload both.0 in (
+      record { manifest = texts.0.0; fits = texts.0.1; digest = told.0; removal = told.1 },
+      are-written parts texts.1 both.1,
+    )
 
 -- parts that are printed are a package
-pub is_package : (bytes : List ℕ) (parts : List (Part Bytes)) → bytes ≡ package_text parts → AllByRecursion HasText parts → are_parts parts ≡ true → is_too_large parts ≡ false → all_belong parts ≡ true → IsPackage bytes parts
+pub is_package : (bytes : List ℕ) (parts : List (Part Bytes)) → bytes ≡ package_text parts
+    → AllByRecursion HasText parts → are_parts parts ≡ true → is_too_large parts ≡ false → all_belong parts ≡ true
+    → IsPackage bytes parts
 unfolding package_text is_too_large
 is_package bytes parts e texts are fit belong =
     let many = length-map parts canonical in
-    let few = and_parts (nat_le 1 (length parts) && nat_le (length parts) part_limit) (all_differ (map cluster_of parts)) are in
+    let few = and_parts (nat_le 1 (length parts) && nat_le (length parts) part_limit)
+    (all_differ (map cluster_of parts)) are in
     let counts = and_parts (nat_le 1 (length parts)) (nat_le (length parts) part_limit) few.0 in
     let within = ltb-false (texts_limit (length parts)) (texts_size parts) (or_parts _ _ fit).0 in
     record {

@@ -6,14 +6,17 @@ use Rattle.package_reader.specs.declared.fault.PackageError.{PackageError}
 use Rattle.package_reader.specs.declared.span.PartPlace.{PartPlace}
 
 -- what was read before, and what is still read
-abbrev pub with_front : List PartPlace → Result (List PartPlace × ℕ) PackageError → Result (List PartPlace × ℕ) PackageError
+abbrev pub with_front : List PartPlace → Result (List PartPlace × ℕ) PackageError
+    → Result (List PartPlace × ℕ) PackageError
 with_front front read = read >>= λ x. Ok (front ++ x.0, x.1)
 
-regroup : (front : List PartPlace) (p : PartPlace) (read : Result (List PartPlace × ℕ) PackageError) → with_front front (read >>= λ x. Ok (p ∷ x.0, x.1)) ≡ with_front (front ++ p ∷ []) read
+regroup : (front : List PartPlace) (p : PartPlace) (read : Result (List PartPlace × ℕ) PackageError)
+    → with_front front (read >>= λ x. Ok (p ∷ x.0, x.1)) ≡ with_front (front ++ p ∷ []) read
 regroup front p (Ok x) = ap (λ (ps : List PartPlace). Ok (ps, x.1)) (simp append_assoc)
 regroup front p (Err e) = refl
 
-module _ (front : List PartPlace) (count i room place : ℕ) (bytes : List ℕ) (all : Result (List PartPlace × ℕ) PackageError)
+module _ (front : List PartPlace) (count i room place : ℕ) (bytes : List ℕ)
+    (all : Result (List PartPlace × ℕ) PackageError)
     (so-far : with_front front (parts_at (count - i) bytes room place) ≡ all) where
   -- one part more
   pub goes-on : (p : PartPlace) → i < count → part_at bytes room place ≡ Ok p
@@ -21,7 +24,8 @@ module _ (front : List PartPlace) (count i room place : ℕ) (bytes : List ℕ) 
   unfolding parts_at
   goes-on p lt is =
       let k : count - i ≡ suc (count - (i + 1)) = omega arith in
-      let one : with_front front (parts_at (count - i) bytes room place) ≡ with_front (front ++ p ∷ []) (parts_at (count - (i + 1)) bytes (room - p.text.len) (end_of p.payload)) =
+      let one : with_front front (parts_at (count - i) bytes room place)
+      ≡ with_front (front ++ p ∷ []) (parts_at (count - (i + 1)) bytes (room - p.text.len) (end_of p.payload)) =
       rw (k, is) (regroup front p (parts_at (count - (i + 1)) bytes (room - p.text.len) (end_of p.payload))) in
       sym one ∙ so-far
 
@@ -38,5 +42,6 @@ module _ (front : List PartPlace) (count i room place : ℕ) (bytes : List ℕ) 
   unfolding parts_at
   is-done le =
       let k : count - i ≡ 0 = omega arith in
-      let one : with_front front (parts_at (count - i) bytes room place) ≡ Ok (front, place) = rw k (ap (λ (ps : List PartPlace). Ok (ps, place)) (append-nil front)) in
+      let one : with_front front (parts_at (count - i) bytes room place) ≡ Ok (front, place) =
+      rw k (ap (λ (ps : List PartPlace). Ok (ps, place)) (append-nil front)) in
       sym so-far ∙ one

@@ -50,7 +50,8 @@ has_its_payload bytes part = is_payload_of part.manifest (bytes_of bytes part.pa
 -- each payload is its manifest's, or the first that isn't
 abbrev pub payloads_in : Bytes → List (Part Span) → Result (Unit {0}) PackageError
 payloads_in bytes parts =
-    option_map_or (λ part. Err (PackageInconsistent part.payload.at)) (find (λ part. not (has_its_payload bytes part)) parts) (Ok tt)
+    option_map_or (λ part. Err (PackageInconsistent part.payload.at))
+    (find (λ part. not (has_its_payload bytes part)) parts) (Ok tt)
 
 -- the parts of a package, with where their payloads lie
 unfoldable pub contents_of : Bytes → Result (List (Part Span)) PackageError

@@ -11,5 +11,6 @@ appended (x ∷ ids) id =
     ap (λ t. codes "," ++ decimal x ++ t) (appended ids id)
     ∙ sym (append_assoc (codes "," ++ decimal x) (more_ids_text ids) (codes "," ++ decimal id))
 
-pub one-more : (ids : List ℕ) (i : ℕ) → i < length ids → more_ids_text (take (i + 1) ids) ≡ more_ids_text (take i ids) ++ (codes "," ++ decimal (get_or ids i 0))
+pub one-more : (ids : List ℕ) (i : ℕ) → i < length ids
+    → more_ids_text (take (i + 1) ids) ≡ more_ids_text (take i ids) ++ (codes "," ++ decimal (get_or ids i 0))
 one-more ids i h = ap more_ids_text (take_more ids i 0 h) ∙ appended (take i ids) (get_or ids i 0)

@@ -27,7 +27,8 @@ without name clusters = filter (λ c. not (bytes_eq c.name name)) clusters
 
 -- the clusters with this one in its place
 abbrev pub with_cluster : {C : Type 0} → Cluster C → List (Cluster C) → List (Cluster C)
-with_cluster c clusters = filter (λ d. name_lt d.name c.name) clusters ++ c ∷ filter (λ d. name_lt c.name d.name) clusters
+with_cluster c clusters = filter (λ d. name_lt d.name c.name) clusters ++ c
+    ∷ filter (λ d. name_lt c.name d.name) clusters
 
 -- the cluster that a part brings
 abbrev pub brought : {C : Type 0} → Part C → Cluster C

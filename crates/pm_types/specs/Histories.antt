@@ -47,7 +47,8 @@ worked s passed = option_map (λ t. with_entry (UnitAfter t.status) t) (unit s p
 
 -- the state after an entry
 abbrev pub after_entry : Reading → NodeState → Entry → NodeState
-after_entry read s (Numbered client call_no call reply) = after_call s client call_no call (verdict_for read s client call) reply
+after_entry read s (Numbered client call_no call reply) =
+    after_call s client call_no call (verdict_for read s client call) reply
 after_entry read s (UnitDone passed after) = unwrap_or (worked s passed) s
 
 -- the state after a history

@@ -25,8 +25,20 @@ abbrev pub answer : NodeState → ℕ → Query → Answer
 answer s client CurrentStatus = StatusIs s.status
 answer s client GetSwClusterInfo = Clusters (map (λ c. record { name = c.name; version = c.version }) s.running)
 answer s client GetSwClusterChangeInfo =
-    Changes (map (λ change. record { name = change.part.manifest.name; action = change.part.manifest.action; version = change.part.manifest.version }) (changes_in s))
+    Changes (map (λ change. record {
+      name = change.part.manifest.name;
+      action = change.part.manifest.action;
+      version =
+          change.part.manifest.version;
+    }) (changes_in s))
 answer s client GetSwPackages =
-    Packages (map (λ t. record { id = t.header.id; phase = t.header.phase; received = t.header.received; size = t.header.size }) (filter (λ t. t.header.client == client) s.transfers))
-answer s client (GetSwProcessProgress id) = elim (transfer_of s client id) [ None ↦ Refused InvalidTransferId | Some t ↦ Progress (progress_of s t) ]
+    Packages (map (λ t. record {
+      id = t.header.id;
+      phase = t.header.phase;
+      received = t.header.received;
+      size =
+          t.header.size;
+    }) (filter (λ t. t.header.client == client) s.transfers))
+answer s client (GetSwProcessProgress id) =
+    elim (transfer_of s client id) [ None ↦ Refused InvalidTransferId | Some t ↦ Progress (progress_of s t) ]
 answer s client (GetHistory ge lt) = History (filter (λ line. nat_le ge line.place && nat_lt line.place lt) s.lines)

@@ -88,22 +88,29 @@ is_old part clusters =
 -- the different names of running clusters, of planned changes and of further parts
 abbrev pub names_among : {C D E : Type 0} → List (Cluster C) → List (Change D) → List (Part E) → List (List ℕ)
 names_among clusters changes parts =
-    different_names (map (λ c. c.name) clusters ++ map (λ change. cluster_of change.part) changes ++ map cluster_of parts)
+    different_names (map (λ c. c.name) clusters ++ map (λ change. cluster_of change.part) changes
+    ++ map cluster_of parts)
 
 -- what refuses a part of a package, where some parts stand before it
-abbrev pub part_refusals : {C D E : Type 0} → List (Cluster C) → List (Change D) → List (Part E) → Part E → List (Bool × Refusal)
+abbrev pub part_refusals : {C D E : Type 0} → List (Cluster C) → List (Change D) → List (Part E) → Part E
+    → List (Bool × Refusal)
 part_refusals running changes before part =
     (list_any (λ change. bytes_eq (cluster_of change.part) (cluster_of part)) changes, ClusterAlreadyChanged)
     ∷ (not (applies part running), ActionNotApplicable)
     ∷ (is_old part running, OldVersion)
-    ∷ (is_install part.manifest.action && nat_le cluster_limit (length (names_among running changes before)), TooManyClusters)
+    ∷ (
+      is_install part.manifest.action && nat_le cluster_limit (length (names_among running changes before)),
+      TooManyClusters,
+    )
     ∷ []
 
 -- the refusal of the first part that has one
-abbrev pub parts_refusal : {C D E : Type 0} → List (Cluster C) → List (Change D) → List (Part E) → List (Part E) → Option Refusal
+abbrev pub parts_refusal : {C D E : Type 0} → List (Cluster C) → List (Change D) → List (Part E) → List (Part E)
+    → Option Refusal
 parts_refusal running changes before [] = None
 parts_refusal running changes before (part ∷ parts) =
-    option_or (first_refusal (part_refusals running changes before part)) (parts_refusal running changes (before ++ part ∷ []) parts)
+    option_or (first_refusal (part_refusals running changes before part))
+    (parts_refusal running changes (before ++ part ∷ []) parts)
 
 abbrev pub process_refusal : NodeState → ℕ → ℕ → Option Transfer → Option Refusal
 process_refusal s client tag found = option_or
@@ -119,7 +126,8 @@ abbrev pub planned_clusters : NodeState → List (Cluster Bytes)
 planned_clusters s = option_map_or (λ x. planned x.changes x.saved) s.session s.running
 
 abbrev pub activate_refusal : NodeState → Option Refusal
-activate_refusal s = option_map (λ u. MissingDependencies u.cluster u.need.name u.need.req) (unmet_among (planned_clusters s))
+activate_refusal s =
+    option_map (λ u. MissingDependencies u.cluster u.need.name u.need.req) (unmet_among (planned_clusters s))
 
 abbrev pub cancel_refusals : Option Header → List (Bool × Refusal)
 cancel_refusals found =

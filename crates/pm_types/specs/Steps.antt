@@ -29,17 +29,21 @@ use Rattle.pm_types.specs.Transfers.{Verdict, transfer_of, header_of, ids_of, st
 abbrev pub refusal : NodeState → ℕ → Call → Verdict → Option Refusal
 refusal s client Sync verdict = None
 refusal s client (TransferStart size) verdict = first_refusal (start_refusals s.next_id (length s.transfers) size)
-refusal s client (TransferData id counter bytes) verdict = first_refusal (data_refusals (header_of (transfer_of s client id)) counter (length bytes))
-refusal s client (TransferExit id) verdict = option_or (first_refusal (exit_refusals (header_of (transfer_of s client id)))) (verdict_refusal verdict)
+refusal s client (TransferData id counter bytes) verdict =
+    first_refusal (data_refusals (header_of (transfer_of s client id)) counter (length bytes))
+refusal s client (TransferExit id) verdict =
+    option_or (first_refusal (exit_refusals (header_of (transfer_of s client id)))) (verdict_refusal verdict)
 refusal s client (DeleteTransfer id) verdict = first_refusal (delete_refusals (header_of (transfer_of s client id)))
 refusal s client (ProcessSwPackage id tag) verdict =
-    option_or (first_refusal (session_refusals s client (ProcessSwPackage id tag))) (process_refusal s client tag (transfer_of s client id))
+    option_or (first_refusal (session_refusals s client (ProcessSwPackage id tag)))
+    (process_refusal s client tag (transfer_of s client id))
 refusal s client Activate verdict = option_or (first_refusal (session_refusals s client Activate)) (activate_refusal s)
 refusal s client Finish verdict = first_refusal (session_refusals s client Finish)
 refusal s client Rollback verdict = first_refusal (session_refusals s client Rollback)
 refusal s client RevertProcessedSwPackages verdict = first_refusal (session_refusals s client RevertProcessedSwPackages)
 refusal s client (Cancel id) verdict =
-    option_or (first_refusal (session_refusals s client (Cancel id))) (first_refusal (cancel_refusals (header_of (transfer_of s client id))))
+    option_or (first_refusal (session_refusals s client (Cancel id)))
+    (first_refusal (cancel_refusals (header_of (transfer_of s client id))))
 
 -- what an accepted call does
 abbrev pub accepted : NodeState → ℕ → Call → Verdict → NodeState
@@ -48,7 +52,8 @@ accepted s client (TransferStart size) verdict = started s client size
 accepted s client (TransferData id counter bytes) verdict = with_block s id bytes
 accepted s client (TransferExit id) verdict = exited s id verdict
 accepted s client (DeleteTransfer id) verdict = deleted s id
-accepted s client (ProcessSwPackage id tag) verdict = led_by (ProcessSwPackage id tag) (begin_processing s client id tag)
+accepted s client (ProcessSwPackage id tag) verdict =
+    led_by (ProcessSwPackage id tag) (begin_processing s client id tag)
 accepted s client Activate verdict = led_by Activate s
 accepted s client Finish verdict = led_by Finish s
 accepted s client Rollback verdict = led_by Rollback s
@@ -123,7 +128,8 @@ reply_code _ = 0
 
 -- the client's number and reply are kept
 abbrev pub with_kept : ℕ → CallNo → Reply → NodeState → NodeState
-with_kept client call_no reply s = record s { last = slice_set s.last client (Some (record { no = call_no; reply = reply })) }
+with_kept client call_no reply s =
+    record s { last = slice_set s.last client (Some (record { no = call_no; reply = reply })) }
 
 -- the state after a call with a new number: its effect, its number and reply, and its line
 abbrev pub after_call : NodeState → ℕ → CallNo → Call → Verdict → Reply → NodeState
@@ -159,4 +165,5 @@ repeat_of call_no (Some kept) = repeat_by kept (call_no_cmp call_no kept.no)
 
 -- one numbered call
 abbrev pub step : NodeState → ℕ → CallNo → Call → Verdict → NodeState × Reached
-step s client call_no call verdict = by_last s (executed s client call_no call verdict) call_no (of_client s.last client)
+step s client call_no call verdict =
+    by_last s (executed s client call_no call verdict) call_no (of_client s.last client)

@@ -49,10 +49,20 @@ on_side areas e =
     take e.length (if e.side == 0 then pair.0 else pair.1)
 
 abbrev pub cluster_meaning : Areas → Cluster Extent → Cluster Bytes
-cluster_meaning areas c = record { name = c.name; version = c.version; needs = c.needs; content = on_side areas c.content }
+cluster_meaning areas c = record {
+  name = c.name;
+  version = c.version;
+  needs = c.needs;
+  content =
+      on_side areas c.content;
+}
 
 abbrev pub change_meaning : Areas → Change Extent → Change Bytes
-change_meaning areas c = record { transfer = c.transfer; part = record { manifest = c.part.manifest; payload = on_side areas c.part.payload } }
+change_meaning areas c = record {
+  transfer = c.transfer;
+  part =
+      record { manifest = c.part.manifest; payload = on_side areas c.part.payload };
+}
 
 abbrev pub session_meaning : Areas → SessionOf Extent → Session
 session_meaning areas x = record {
@@ -70,7 +80,12 @@ session_meaning areas x = record {
 abbrev pub transfer_meaning : Reading → Areas → StoredTransfer → Transfer
 transfer_meaning read areas t =
     let bytes = take t.header.received (slice_index_or areas.slots t.slot []) in
-    record { header = t.header; bytes = bytes; parts = if is_in Transferring t.header then [] else parts_read (read bytes) }
+    record {
+      header = t.header;
+      bytes = bytes;
+      parts = if is_in Transferring t.header then []
+          else parts_read (read bytes);
+    }
 
 -- the state that a stored one stands for, with its areas
 abbrev pub meaning : Reading → Areas → State → NodeState
@@ -92,7 +107,8 @@ IsExtent e = (e.place < cluster_limit) × (e.side < 2) × (e.length ≤ package_
 -- a stored transfer's slot, and its contents: those of the package that its bytes are, from phase Transferred on
 pub record IsPlaced (read : Reading) (areas : Areas) (t : StoredTransfer) : Type 0 where
   pub slot : t.slot < transfer_limit
-  pub contents : t.contents ≡ map (λ part. record { manifest = part.manifest; payload = length part.payload }) (transfer_meaning read areas t).parts
+  pub contents : t.contents ≡ map (λ part. record { manifest = part.manifest; payload = length part.payload })
+      (transfer_meaning read areas t).parts
 
 -- names with their places
 abbrev pub cluster_place : Cluster Extent → List ℕ × ℕ
@@ -125,7 +141,8 @@ pub record IsInOrder (read : Reading) (areas : Areas) (s : State) : Type 0 where
   pub clusters : AllByRecursion (λ c. IsExtent c.content) s.running
   pub session : IfSome s.session (λ x.
       AllByRecursion (λ c. IsExtent c.content) x.saved × AllByRecursion (λ c. IsExtent c.part.payload) x.changes
-      × IsTrue (list_all (λ c. takes_side c.part.manifest.action c.part.payload.side (cluster_at x.saved (cluster_of c.part))) x.changes))
+      × IsTrue (list_all (λ c. takes_side c.part.manifest.action c.part.payload.side
+      (cluster_at x.saved (cluster_of c.part))) x.changes))
   pub transfers : AllByRecursion (IsPlaced read areas) s.transfers
   pub slots : IsTrue (slots_differ (map (λ t. t.slot) s.transfers))
   pub places : IsTrue (names_fit_places (places_in s))

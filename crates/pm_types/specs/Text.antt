@@ -45,7 +45,8 @@ refusal_text (PackageInconsistent place) = codes "PackageInconsistent " ++ decim
 refusal_text InvalidManifest = codes "InvalidManifest"
 refusal_text ServiceBusy = codes "ServiceBusy"
 refusal_text OldVersion = codes "OldVersion"
-refusal_text (MissingDependencies cluster needed req) = codes "MissingDependencies " ++ cluster ++ codes " " ++ needed ++ codes "@" ++ req
+refusal_text (MissingDependencies cluster needed req) =
+    codes "MissingDependencies " ++ cluster ++ codes " " ++ needed ++ codes "@" ++ req
 refusal_text ActionNotApplicable = codes "ActionNotApplicable"
 refusal_text TooManyClusters = codes "TooManyClusters"
 refusal_text ClusterAlreadyChanged = codes "ClusterAlreadyChanged"
@@ -79,7 +80,8 @@ ids_text [] = codes "-"
 ids_text (id ∷ ids) = decimal id ++ more_ids_text ids
 
 abbrev pub synced_text : Synced → List ℕ
-synced_text x = codes "Synced " ++ or_dash session_text x.session ++ codes " " ++ or_dash ended_text x.ended ++ codes " " ++ ids_text x.transfers
+synced_text x = codes "Synced " ++ or_dash session_text x.session ++ codes " " ++ or_dash ended_text x.ended
+    ++ codes " " ++ ids_text x.transfers
 
 abbrev pub reply_text : Reply → List ℕ
 reply_text Done = codes "Done"

@@ -46,7 +46,10 @@ abbrev pub data_refusals : Option Header → ℕ → ℕ → List (Bool × Refus
 data_refusals found counter size =
     (is_none found, InvalidTransferId)
     ∷ (some_passes (λ h. not (is_in Transferring h)) found, OperationNotPermitted)
-    ∷ ((size == 0) || nat_lt block_limit size || some_passes (λ h. not (h.next_counter == counter)) found, IncorrectBlock)
+    ∷ (
+      (size == 0) || nat_lt block_limit size || some_passes (λ h. not (h.next_counter == counter)) found,
+      IncorrectBlock,
+    )
     ∷ (some_passes (λ h. nat_lt h.size (h.received + size)) found, IncorrectSize)
     ∷ []
 
@@ -76,7 +79,15 @@ parts_read (Err refusal) = []
 
 -- the header of a transfer that has just begun
 abbrev pub fresh : ℕ → ℕ → ℕ → Header
-fresh id client size = record { id = id; client = client; size = size; received = 0; next_counter = 1; phase = Transferring }
+fresh id client size = record {
+  id = id;
+  client = client;
+  size = size;
+  received = 0;
+  next_counter = 1;
+  phase =
+      Transferring;
+}
 
 -- the header after a block
 abbrev pub grown : ℕ → Header → Header
@@ -99,10 +110,12 @@ started s client size = record s {
 }
 
 abbrev pub with_block : NodeState → ℕ → List ℕ → NodeState
-with_block s id bytes = with_transfer id (λ t. record t { header = grown (length bytes) t.header; bytes = t.bytes ++ bytes }) s
+with_block s id bytes =
+    with_transfer id (λ t. record t { header = grown (length bytes) t.header; bytes = t.bytes ++ bytes }) s
 
 abbrev pub exited : NodeState → ℕ → Verdict → NodeState
-exited s id verdict = with_transfer id (λ t. record t { header = in_phase Transferred t.header; parts = parts_read verdict }) s
+exited s id verdict =
+    with_transfer id (λ t. record t { header = in_phase Transferred t.header; parts = parts_read verdict }) s
 
 abbrev pub deleted : NodeState → ℕ → NodeState
 deleted s id = record s { transfers = filter (λ t. not (t.header.id == id)) s.transfers }

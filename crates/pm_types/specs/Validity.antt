@@ -41,7 +41,8 @@ RunsWhatItShould s = IfSome s.session (λ x. s.running ≡ should_run x s.status
 -- a processed transfer is the owner's, and the changes with its id are its parts, all and in order
 abbrev pub IsPlannedWhole : Session → Transfer → Phase → Type 0
 IsPlannedWhole x t Processed =
-    (t.header.client ≡ x.owner) × (filter (λ change. change.transfer == t.header.id) x.changes ≡ changes_of t.header.id t.parts)
+    (t.header.client ≡ x.owner)
+    × (filter (λ change. change.transfer == t.header.id) x.changes ≡ changes_of t.header.id t.parts)
 IsPlannedWhole x t _ = ⊤
 
 -- whether the id is a processed transfer's
@@ -82,7 +83,8 @@ id_in_processing s = option_and_then (λ x. x.processing) s.session
 
 -- the transfer in processing is the session's id, the owner's, and exactly in that status; its units aren't all done
 pub record ProcessingIsDue (s : NodeState) : Type 0 where
-  pub each : AllByRecursion (λ t. is_in BeingProcessed t.header ≡ some_passes (λ id. id == t.header.id) (id_in_processing s)) s.transfers
+  pub each : AllByRecursion (λ t. is_in BeingProcessed t.header
+      ≡ some_passes (λ id. id == t.header.id) (id_in_processing s)) s.transfers
   pub status : is_some (id_in_processing s) ≡ has_status Processing s
   pub unfinished : IfSome s.session (λ x. IfSome x.processing (λ id.
       IsSomeAnd (transfer_of s x.owner id) (λ t. x.units_done < all_units t.parts)))
@@ -99,7 +101,8 @@ VerdictsAreDue s = IfSome s.session (λ x. LeavesOneToVerify x s.status × (is_s
 -- from phase Transferred on a transfer's bytes are whole and are a package; before there are no parts
 abbrev pub IsWholeFromTransferred : Transfer → Phase → Type 0
 IsWholeFromTransferred t Transferring = t.parts ≡ []
-IsWholeFromTransferred t _ = (t.header.received ≡ t.header.size) × (0 < length t.parts) × IsTrue (all_differ (map cluster_of t.parts))
+IsWholeFromTransferred t _ = (t.header.received ≡ t.header.size) × (0 < length t.parts)
+    × IsTrue (all_differ (map cluster_of t.parts))
 
 pub record IsSound (next_id : ℕ) (t : Transfer) : Type 0 where
   pub bytes : t.header.received ≡ length t.bytes

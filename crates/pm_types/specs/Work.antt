@@ -18,7 +18,8 @@ parts_of_id s x id = parts_of (transfer_of s x.owner id)
 abbrev pub processed : NodeState → Session → ℕ → List (Part Bytes) → NodeState
 processed s x id parts = record (with_phase id Processed s) {
   status = Ready;
-  session = Some (record x { changes = x.changes ++ changes_of id parts; processing = None; units_done = x.units_done + 1 });
+  session =
+      Some (record x { changes = x.changes ++ changes_of id parts; processing = None; units_done = x.units_done + 1 });
 }
 
 -- 4,096 bytes more

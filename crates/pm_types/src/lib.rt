@@ -1,6 +1,7 @@
 //! The data of a node's calls, replies, entries and state, and what they mean.
 //!
-//! Layer: stands on `ucm_base` and the kit's `circular_buffer`; every crate that speaks of a node's events stands on it.
+//! Layer: stands on `ucm_base` and the kit's `circular_buffer`; every crate that speaks of a node's events stands on
+//! it.
 //! Its one contract: the definitions in `specs/`. They say what a node's state is and when it is valid, the tables of
 //! refusals, the transfer, status and work tables, one step, legal histories, and the answers to queries.
 #![tactic(auto)]

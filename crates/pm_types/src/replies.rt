@@ -94,7 +94,10 @@ impl Model for IdList {
 
     ghost inverse = { λ xs. record { ids = padded transfer_limit xs; len = length xs } };
 
-    ghost inverse_ok = { λ s h i. record { ids = padded-again transfer_limit s.ids s.len h i; len = h.0 i } };
+    ghost inverse_ok = { λ s h i. record {
+      ids = padded-again transfer_limit s.ids s.len h i;
+      len = h.0 i;
+    } };
 }
 
 impl IdList {

@@ -25,5 +25,7 @@ pub first-line : (text line : List ℕ) (left : Option (Bor (List ℕ))) (none :
 first-line text line (Some rest) none e some split size =
     let more : 0 < length (pieces 10 rest.now) = rw length-slice_split (omega arith) in
     (ap without_end split ∙ before line (pieces 10 rest.now) more, omega (arith, size))
-first-line text line None none e some split size =
-    (ap without_end split ∙ alone line (omega (arith, size)) ∙ ap (λ (xs : List ℕ). line ∷ lines_in xs) (sym e), rw e some)
+first-line text line None none e some split size = (
+  ap without_end split ∙ alone line (omega (arith, size)) ∙ ap (λ (xs : List ℕ). line ∷ lines_in xs) (sym e),
+  rw e some,
+)

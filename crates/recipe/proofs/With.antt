@@ -33,7 +33,9 @@ module _ (parts : List (Part Bytes)) (part : Part Bytes) where
   is-full none full why e = rw (none, le-ltb (length parts) part_limit full) (ap (λ w. Err w) (same_why Limit why e))
 
 -- a reading that goes on from a value
-pub becomes-then : {R A B : Type 0} (result : Result R WordError) (value : A) (reading : Result A Why) (next : A → Result B Why) (last : B) → next value ≡ Ok last → Becomes result value reading → Becomes result last (reading >>= next)
+pub becomes-then : {R A B : Type 0} (result : Result R WordError) (value : A) (reading : Result A Why) (next : A
+    → Result B Why) (last : B) → next value ≡ Ok last → Becomes result value reading
+    → Becomes result last (reading >>= next)
 becomes-then (Ok r) value reading next last is before = (rw before.0 is, tt)
 becomes-then (Err e) value reading next last is before = (tt, λ why same. rw (before.1 why same) refl)
 
@@ -51,8 +53,11 @@ module _ (made : List NamedPackage) (name : List ℕ) (part : Part Bytes) where
   is-unknown none why e = rw none (ap (λ w. Err w) (same_why Unknown why e))
 
   -- the package of the name has one part more
-  pub is-joined : (place : ℕ) (owner : NamedPackage) (parts : List (Part Bytes)) (result : Result (Unit {0}) WordError) → place_of made name ≡ Some place → slice_get made place ≡ Some owner
-      → Becomes result parts (with_part owner.parts part) → Becomes result (slice_set made place (record owner { parts = parts })) (joined made name part)
+  pub is-joined : (place : ℕ) (owner : NamedPackage) (parts : List (Part Bytes)) (result : Result (Unit {0}) WordError)
+      → place_of made name ≡ Some place → slice_get made place ≡ Some owner
+      → Becomes result parts (with_part owner.parts part)
+      → Becomes result (slice_set made place (record owner { parts = parts })) (joined made name part)
   is-joined place owner parts result at there before =
-      let next = becomes-then result parts (with_part owner.parts part) (λ ps. Ok (slice_set made place (record owner { parts = ps }))) _ refl before in
+      let next = becomes-then result parts (with_part owner.parts part) (λ ps.
+      Ok (slice_set made place (record owner { parts = ps }))) _ refl before in
       rw (at, there) next

@@ -15,12 +15,15 @@ cut_by at text found = option_map (λ i. (take i text, drop (i + 1) text)) (cond
 
 -- the first part, and the parts of what stands behind it
 abbrev pub IsCut : ℕ → List ℕ → List ℕ → List ℕ → Type 0
-IsCut at text first rest = (slice_split (λ b. b == at) text ≡ first ∷ slice_split (λ b. b == at) rest) × (length first + (length rest + 1) ≡ length text)
+IsCut at text first rest = (slice_split (λ b. b == at) text ≡ first ∷ slice_split (λ b. b == at) rest)
+    × (length first + (length rest + 1) ≡ length text)
 
-cut-at : (at : ℕ) (text first rest : List ℕ) (found : Bool) → nat_lt (place at text) (length text) ≡ found → Some (first, rest) ≡ cut_by at text found → IsCut at text first rest
+cut-at : (at : ℕ) (text first rest : List ℕ) (found : Bool) → nat_lt (place at text) (length text) ≡ found
+    → Some (first, rest) ≡ cut_by at text found → IsCut at text first rest
 cut-at at text first rest true e is =
     let lt : place at text < length text = grind (arith, nat_tests) in
-    let parts : ◌≡◌ {A = List ℕ × List ℕ} (first, rest) (take (place at text) text, drop (place at text + 1) text) = cc in
+    let parts : ◌≡◌ {A = List ℕ × List ℕ} (first, rest) (take (place at text) text, drop (place at text + 1) text) =
+    cc in
     let f : first ≡ take (place at text) text = ap (λ p. p.0) parts in
     let r : rest ≡ drop (place at text + 1) text = ap (λ p. p.1) parts in
     (rw (f, r) (slice_split_first (λ b. b == at) text 0 lt), rw (f, r) (simp (length-take, length-drop) (omega arith)))
@@ -30,7 +33,8 @@ pub cut-Some : (at : ℕ) (text first rest : List ℕ) → Some (first, rest) �
 unfolding cut
 cut-Some at text first rest is = cut-at at text first rest (nat_lt (place at text) (length text)) refl is
 
-whole-at : (at : ℕ) (text : List ℕ) (found : Bool) → nat_lt (place at text) (length text) ≡ found → None ≡ cut_by at text found → slice_split (λ b. b == at) text ≡ text ∷ []
+whole-at : (at : ℕ) (text : List ℕ) (found : Bool) → nat_lt (place at text) (length text) ≡ found
+    → None ≡ cut_by at text found → slice_split (λ b. b == at) text ≡ text ∷ []
 whole-at at text true e is = absurd (cc)
 whole-at at text false e is =
     let all : length text ≤ place at text = grind (arith, nat_tests) in

@@ -14,7 +14,10 @@ take-step : (k j : ℕ) (word : List ℕ) (words : List (List ℕ)) → k ≡ j 
 take-step k j word words e = rw (e, add-one) refl
 
 -- one word more
-pub next-word : (all : List (List ℕ)) (words : List (Bor (List ℕ))) (most i : ℕ) (text : List ℕ) (word : Bor (List ℕ)) (rest : Option (List ℕ)) → all ≡ map (λ w. w.now) words ++ take (most - i) (pieces 32 text) → i < most → pieces 32 text ≡ word.now ∷ pieces_left 32 rest → all ≡ map (λ w. w.now) (words ++ word ∷ []) ++ take (most - (i + 1)) (pieces_left 32 rest)
+pub next-word : (all : List (List ℕ)) (words : List (Bor (List ℕ))) (most i : ℕ) (text : List ℕ) (word : Bor (List ℕ))
+    (rest : Option (List ℕ)) → all ≡ map (λ w. w.now) words ++ take (most - i) (pieces 32 text) → i < most
+    → pieces 32 text ≡ word.now ∷ pieces_left 32 rest
+    → all ≡ map (λ w. w.now) (words ++ word ∷ []) ++ take (most - (i + 1)) (pieces_left 32 rest)
 next-word all words most i text word rest so_far lt split =
     let one : most - i ≡ most - (i + 1) + 1 = omega arith in
     let now = λ (w : Bor (List ℕ)). w.now in
@@ -27,7 +30,8 @@ next-word all words most i text word rest so_far lt split =
 abbrev IsForm : Result ScriptLine Why → Type 0
 IsForm r = r ≡ Err Form
 
-many : (n most : ℕ) (line : Result ScriptLine Why) → most < n → IsForm (if nat_le 1 n && nat_le n most then line else Err Form)
+many : (n most : ℕ) (line : Result ScriptLine Why) → most < n
+    → IsForm (if nat_le 1 n && nat_le n most then line else Err Form)
 many n most line h =
     let e : (nat_le 1 n && nat_le n most) ≡ false = grind (arith, nat_tests) in rw e refl
 
@@ -40,7 +44,8 @@ long-time [] h = absurd (omega arith)
 long-time (a ∷ []) h = absurd (omega arith)
 long-time (a ∷ b ∷ words) h = refl
 
-long-pair : (words : List (List ℕ)) → 20 < length words → IsForm (work_line words) × IsForm (fails_line words) × IsForm (attach_line words)
+long-pair : (words : List (List ℕ)) → 20 < length words
+    → IsForm (work_line words) × IsForm (fails_line words) × IsForm (attach_line words)
 long-pair [] h = absurd (omega arith)
 long-pair (a ∷ []) h = absurd (omega arith)
 long-pair (a ∷ b ∷ []) h = absurd (omega arith)
@@ -71,15 +76,18 @@ choice false one other e f = f
 long-short : (word : List ℕ) (words : List (List ℕ)) → 20 < length words → IsForm (short_line word words)
 long-short word words h =
     let p = long-pair words h in
-    choice _ _ _ (long-time words h) (choice _ _ _ p.0 (choice _ _ _ (long-ask words h) (choice _ _ _ p.1 (choice _ _ _ p.2 refl))))
+    choice _ _ _ (long-time words h)
+    (choice _ _ _ p.0 (choice _ _ _ (long-ask words h) (choice _ _ _ p.1 (choice _ _ _ p.2 refl))))
 
 -- it is later or out of form, by its first word alone
-long-line : (places : Places) (word : List ℕ) (words : List (List ℕ)) → 20 < length words → line_named places word words ≡ (if is_later word then Err Later else Err Form)
+long-line : (places : Places) (word : List ℕ) (words : List (List ℕ)) → 20 < length words
+    → line_named places word words ≡ (if is_later word then Err Later else Err Form)
 long-line places word words h =
     ap (λ r. if is_later word then Err Later else r)
     (choice _ _ _ (long-installed places words h) (choice _ _ _ (long-call places words h) (long-short word words h)))
 
-named-by : (places : Places) (word : List ℕ) (words : List (List ℕ)) (short : Bool) → nat_le (length words) 21 ≡ short → line_named places word (take 21 words) ≡ line_named places word words
+named-by : (places : Places) (word : List ℕ) (words : List (List ℕ)) (short : Bool) → nat_le (length words) 21 ≡ short
+    → line_named places word (take 21 words) ≡ line_named places word words
 named-by places word words true e =
     let few : length words ≤ 21 = grind (arith, nat_tests) in ap (line_named places word) (take_all 21 words few)
 named-by places word words false e =
@@ -93,6 +101,8 @@ pub first-words : (places : Places) (words : List (List ℕ)) → line_in places
 first-words places [] = refl
 first-words places (word ∷ words) = named-by places word words (nat_le (length words) 21) refl
 
-pub same-line : (places : Places) (all : List (List ℕ)) (words slice : List (Bor (List ℕ))) → map (λ w. w.now) words ≡ take 22 all → slice ≡ words → line_in places all ≡ line_in places (map (λ w. w.now) slice)
+pub same-line : (places : Places) (all : List (List ℕ)) (words slice : List (Bor (List ℕ)))
+    → map (λ w. w.now) words ≡ take 22 all → slice ≡ words
+    → line_in places all ≡ line_in places (map (λ w. w.now) slice)
 same-line places all words slice e f =
     sym (first-words places all) ∙ ap (line_in places) (sym e ∙ ap (map (λ (w : Bor (List ℕ)). w.now)) (sym f))

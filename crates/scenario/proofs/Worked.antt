@@ -94,5 +94,13 @@ too_few_bytes = refl
 no_end : reads (codes "attach p 3") ≡ refused 0 Bytes
 no_end = refl
 
-whole : reads (codes "# p\n\nattach p 3\nfails 1 app\nfails 1 app\nwork 1 0\nend\nabc") ≡ Ok (record { time = 0; installed = []; fails = codes "app" ∷ codes "app" ∷ []; events = record { line = 6; event = Work 0 } ∷ []; attached_at = 53 })
+whole : reads (codes "# p\n\nattach p 3\nfails 1 app\nfails 1 app\nwork 1 0\nend\nabc")
+    ≡ Ok (record {
+      time = 0;
+      installed = [];
+      fails = codes "app" ∷ codes "app" ∷ [];
+      events =
+          record { line = 6; event = Work 0 } ∷ [];
+      attached_at = 53;
+    })
 whole = refl

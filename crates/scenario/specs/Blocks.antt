@@ -34,7 +34,8 @@ fill_in rest = do
 
 -- an even number of digits, at most 8,192
 abbrev pub hex_in : List ℕ → Result BlockSource Why
-hex_in digits = if nat_le (length digits) hex_limit then ok_or (option_map Bytes (bytes_of_word digits)) Value else Err Value
+hex_in digits = if nat_le (length digits) hex_limit then ok_or (option_map Bytes (bytes_of_word digits)) Value
+    else Err Value
 
 -- a block that needs no attachment, by what stands before its first colon and behind it
 abbrev pub plain_block : List ℕ → List ℕ → Result BlockSource Why

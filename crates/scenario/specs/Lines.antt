@@ -29,7 +29,8 @@ cluster_line places name version block needs = do
 -- `<node> <cluster> <version> <block> <need>*`, with at most 16 needs
 abbrev pub installed_line : Places → List (List ℕ) → Result ScriptLine Why
 installed_line places (node ∷ name ∷ version ∷ block ∷ needs) =
-    if nat_le (length needs) need_limit then (node_in node >>= λ _. cluster_line places name version block needs) else Err Form
+    if nat_le (length needs) need_limit then (node_in node >>= λ _. cluster_line places name version block needs)
+    else Err Form
 installed_line places _ = Err Form
 
 -- a call has one to four words

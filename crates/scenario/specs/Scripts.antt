@@ -70,12 +70,16 @@ attached_with attached len = if nat_le (attached + len) input_limit then Some (a
 -- what is known below an attachment, where this many bytes are attached then
 abbrev pub attached_to : Above → List ℕ → ℕ → Option ℕ → Result Above Why
 attached_to above name len (Some all) =
-    Ok (record above { attachments = with_attached above.attachments name (record { at = above.attached; len = len }); attached = all })
+    Ok (record above {
+      attachments = with_attached above.attachments name (record { at = above.attached; len = len });
+      attached = all;
+    })
 attached_to above name len None = Err Limit
 
 abbrev pub attach_added : Above → List ℕ → ℕ → Result Above Why
 attach_added above name len =
-    if is_some (attached_by above.attachments name) then Err Twice else attached_to above name len (attached_with above.attached len)
+    if is_some (attached_by above.attachments name) then Err Twice
+    else attached_to above name len (attached_with above.attached len)
 
 -- what is known below a line, unless it stands twice or passes a limit
 abbrev pub added : ℕ → Above → ScriptLine → Result Above Why
@@ -87,16 +91,24 @@ added n above (Attach name len) = attach_added above name len
 
 -- what is known below a line that isn't `end`
 abbrev pub line_read : ℕ → Above → List ℕ → Result Above Why
-line_read n above line = if is_passed_over line then Ok above else (line_in above.attachments (words_of line) >>= added n above)
+line_read n above line = if is_passed_over line then Ok above
+    else (line_in above.attachments (words_of line) >>= added n above)
 
 -- the script of all lines, whose attached bytes begin at a place of the input
 abbrev pub script : Above → ℕ → Script
 script above at =
-    record { time = unwrap_or above.time 0; installed = above.installed; fails = above.fails; events = above.events; attached_at = at }
+    record {
+      time = unwrap_or above.time 0;
+      installed = above.installed;
+      fails = above.fails;
+      events = above.events;
+      attached_at = at;
+    }
 
 -- the script, where the bytes from that place on are as many as the attached ones
 abbrev pub finished : ℕ → Above → ℕ → Result Script Refused
-finished size above at = if above.attached == size - at then Ok (script above at) else Err (record { line = 0; why = Bytes })
+finished size above at = if above.attached == size - at then Ok (script above at)
+    else Err (record { line = 0; why = Bytes })
 
 -- a reading of lines that goes on below the n-th, unless that is refused
 abbrev pub followed : {A B : Type 0} → ℕ → (A → Result B Refused) → Result A Why → Result B Refused

@@ -81,7 +81,8 @@ action_in word =
 
 -- the value of a lower-case hexadecimal digit
 abbrev pub digit_value : ℕ → Option ℕ
-digit_value b = if nat_le 48 b && nat_le b 57 then Some (b - 48) else if nat_le 97 b && nat_le b 102 then Some (b - 87) else None
+digit_value b = if nat_le 48 b && nat_le b 57 then Some (b - 48) else if nat_le 97 b && nat_le b 102 then Some (b - 87)
+    else None
 
 -- two lower-case hexadecimal digits
 abbrev pub byte_in : List ℕ → Result ℕ Why

@@ -14,10 +14,17 @@ module _ (at : ℕ) (bytes content : Bytes) (le : at ≤ length content) where
 
   pub length-overwritten : length (overwritten at bytes content) ≡ max (length content) (at + length bytes)
   length-overwritten =
-      omega (arith, to_end, length-append (take at content ++ bytes) (drop (at + length bytes) content), length-drop (at + length bytes) content, le)
+      omega (
+        arith,
+        to_end,
+        length-append (take at content ++ bytes) (drop (at + length bytes) content),
+        length-drop (at + length bytes) content,
+        le,
+      )
 
   -- up to the end of what was put
-  pub take-overwritten : (n : ℕ) → n ≡ at + length bytes → take n (overwritten at bytes content) ≡ take at content ++ bytes
+  pub take-overwritten : (n : ℕ) → n ≡ at + length bytes
+      → take n (overwritten at bytes content) ≡ take at content ++ bytes
   take-overwritten n is = take_at (take at content ++ bytes) (drop (at + length bytes) content) n (to_end ∙ sym is)
 
   -- before it
@@ -34,12 +41,18 @@ module _ (at : ℕ) (bytes content : Bytes) (le : at ≤ length content) where
   -- what was put itself
   pub slice-overwritten : slice_range (overwritten at bytes content) at (at + length bytes) ≡ bytes
   slice-overwritten =
-      ap (λ (xs : Bytes). take (at + length bytes - at) (drop at xs)) (append_assoc (take at content) bytes (drop (at + length bytes) content))
-      ∙ ap (take (at + length bytes - at)) (drop_at (take at content) (bytes ++ drop (at + length bytes) content) at front)
+      ap (λ (xs : Bytes). take (at + length bytes - at) (drop at xs))
+      (append_assoc (take at content) bytes (drop (at + length bytes) content))
+      ∙ ap (take (at + length bytes - at))
+      (drop_at (take at content) (bytes ++ drop (at + length bytes) content) at front)
       ∙ take_at bytes (drop (at + length bytes) content) (at + length bytes - at) (omega arith)
 
   pub agrees : AgreesOutside at (length bytes) content (overwritten at bytes content)
-  agrees = record { no_shorter = omega (arith, length-overwritten); before = before-overwritten at (omega arith); behind = behind-overwritten }
+  agrees = record {
+    no_shorter = omega (arith, length-overwritten);
+    before = before-overwritten at (omega arith);
+    behind = behind-overwritten;
+  }
 
 -- the bytes before the place stand
 pub before-stands : (at n : ℕ) (old new : Bytes) (k : ℕ) → k ≤ at → AgreesOutside at n old new → take k new ≡ take k old

@@ -38,26 +38,33 @@ pub fewer-filter : {X : Type 0} (p : X → Bool) (xs : List X) → length (filte
 fewer-filter p [] = omega arith
 fewer-filter p (x ∷ xs) = by-test (p x) (fewer-filter p xs)
   where
-    by-test : (b : Bool) → length (filter p xs) ≤ length xs → length (cond b (x ∷ filter p xs) (filter p xs)) ≤ length (x ∷ xs)
+    by-test : (b : Bool) → length (filter p xs) ≤ length xs
+        → length (cond b (x ∷ filter p xs) (filter p xs)) ≤ length (x ∷ xs)
     by-test true le = omega (arith, le)
     by-test false le = omega (arith, le)
 
 -- what a search finds stands at the place that it finds
-pub position-find : {X : Type 0} (p : X → Bool) (xs : List X) (o : Option ℕ) → o ≡ position p xs → IfSome o (λ i. (d : X) → find p xs ≡ Some (get_or xs i d))
-position-find {X} p xs o is = subst (λ (o : Option ℕ). IfSome o (λ i. (d : X) → find p xs ≡ Some (get_or xs i d))) (sym is) (by-test (nat_lt (position_or_len p xs) (length xs)) refl)
+pub position-find : {X : Type 0} (p : X → Bool) (xs : List X) (o : Option ℕ) → o ≡ position p xs
+    → IfSome o (λ i. (d : X) → find p xs ≡ Some (get_or xs i d))
+position-find {X} p xs o is =
+    subst (λ (o : Option ℕ). IfSome o (λ i. (d : X) → find p xs ≡ Some (get_or xs i d))) (sym is)
+    (by-test (nat_lt (position_or_len p xs) (length xs)) refl)
   where
-    by-test : (b : Bool) → nat_lt (position_or_len p xs) (length xs) ≡ b → IfSome (cond b (Some (position_or_len p xs)) None) (λ i. (d : X) → find p xs ≡ Some (get_or xs i d))
+    by-test : (b : Bool) → nat_lt (position_or_len p xs) (length xs) ≡ b
+        → IfSome (cond b (Some (position_or_len p xs)) None) (λ i. (d : X) → find p xs ≡ Some (get_or xs i d))
     by-test true lt = λ d. find_at p xs ∙ slice_get-get_or xs _ d (ltb-true _ _ lt)
     by-test false lt = tt
 
 pub position-none : {X : Type 0} (p : X → Bool) (xs : List X) → position p xs ≡ None → find p xs ≡ None
 position-none {X} p xs none = by-test (nat_lt (position_or_len p xs) (length xs)) refl none
   where
-    by-test : (b : Bool) → nat_lt (position_or_len p xs) (length xs) ≡ b → cond b (Some (position_or_len p xs)) None ≡ None → find p xs ≡ None
+    by-test : (b : Bool) → nat_lt (position_or_len p xs) (length xs) ≡ b
+        → cond b (Some (position_or_len p xs)) None ≡ None → find p xs ≡ None
     by-test true lt some = absurd (cc some)
     by-test false lt some = find_at p xs ∙ slice_get_past xs _ (ltb-false _ _ lt)
 
-pub position-passes : {X : Type 0} (p : X → Bool) (xs : List X) (o : Option ℕ) → o ≡ position p xs → IfSome o (λ i. (d : X) → p (get_or xs i d) ≡ true)
+pub position-passes : {X : Type 0} (p : X → Bool) (xs : List X) (o : Option ℕ) → o ≡ position p xs
+    → IfSome o (λ i. (d : X) → p (get_or xs i d) ≡ true)
 position-passes p xs None is = tt
 position-passes p xs (Some i) is = λ d. (position-Some p xs i d (sym is)).1
 
@@ -66,6 +73,7 @@ pub none-passes : {X : Type 0} (p : X → Bool) (xs : List X) → find p xs ≡ 
 none-passes p [] e = tt
 none-passes {X} p (x ∷ xs) e = by-test (p x) refl e (none-passes p xs)
   where
-    by-test : (b : Bool) → p x ≡ b → cond b (Some x) (find p xs) ≡ None → (find p xs ≡ None → AllByRecursion (λ y. p y ≡ false) xs) → AllByRecursion (λ y. p y ≡ false) (x ∷ xs)
+    by-test : (b : Bool) → p x ≡ b → cond b (Some x) (find p xs) ≡ None
+        → (find p xs ≡ None → AllByRecursion (λ y. p y ≡ false) xs) → AllByRecursion (λ y. p y ≡ false) (x ∷ xs)
     by-test true q some rest = absurd (cc some)
     by-test false q none rest = (q, rest none)

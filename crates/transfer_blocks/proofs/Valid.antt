@@ -20,17 +20,20 @@ all-above a x [] le rise = refl
 all-above a x (y ∷ ys) le rise =
     let parts = and_parts (nat_lt x y) (numbers_rise (y ∷ ys)) rise in
     let lt = ltb-true x y parts.0 in
-    both_true (ap not (ne_eqb y a (λ e. absurd (omega (arith, e, le, lt))))) (all-above a y ys (omega (arith, le, lt)) parts.1)
+    both_true (ap not (ne_eqb y a (λ e. absurd (omega (arith, e, le, lt)))))
+    (all-above a y ys (omega (arith, le, lt)) parts.1)
 
 rise-differ : (xs : List ℕ) → numbers_rise xs ≡ true → slots_differ xs ≡ true
 rise-differ [] rise = refl
 rise-differ (x ∷ []) rise = refl
 rise-differ (x ∷ y ∷ ys) rise =
-    both_true (all-above x x (y ∷ ys) (omega arith) rise) (rise-differ (y ∷ ys) (and_parts (nat_lt x y) (numbers_rise (y ∷ ys)) rise).1)
+    both_true (all-above x x (y ∷ ys) (omega arith) rise)
+    (rise-differ (y ∷ ys) (and_parts (nat_lt x y) (numbers_rise (y ∷ ys)) rise).1)
 
 module _ (read : Reading) (areas : Areas) where
   bounded : (next : ℕ) (ts : List StoredTransfer) → AllByRecursion (IsSound next) (map (transfer_meaning read areas) ts)
-      → AllByRecursion (λ t. (t.header.size ≤ package_limit) × (t.header.client < client_limit)) (map (transfer_meaning read areas) ts)
+      → AllByRecursion (λ t. (t.header.size ≤ package_limit)
+      × (t.header.client < client_limit)) (map (transfer_meaning read areas) ts)
       → AllByRecursion (IsPlaced read areas) ts → AllByRecursion (IsBounded next) ts
   bounded next [] sound small placed = tt
   bounded next (t ∷ ts) sound small placed = (
@@ -44,13 +47,16 @@ module _ (read : Reading) (areas : Areas) where
     bounded next ts sound.1 small.1 placed.1,
   )
 
-  pub table-valid : (s : State) → IsValidStored read areas s → IsTable (record { next_id = s.next_id; transfers = s.transfers })
+  pub table-valid : (s : State) → IsValidStored read areas s
+      → IsTable (record { next_id = s.next_id; transfers = s.transfers })
   table-valid s valid =
       let sound = valid.0.consistent.transfers in
       let limits = valid.0.consistent.limits in
       record {
         few = omega (arith, limits.transfers, length-map s.transfers (transfer_meaning read areas));
         each = bounded s.next_id s.transfers sound.each limits.sizes valid.1.transfers;
-        ids = rise-differ (map (λ (t : StoredTransfer). t.header.id) s.transfers) (ap numbers_rise (sym (map-map (λ (t : Transfer). t.header.id) (transfer_meaning read areas) s.transfers)) ∙ sound.rise);
+        ids = rise-differ (map (λ (t : StoredTransfer). t.header.id) s.transfers)
+            (ap numbers_rise (sym (map-map (λ (t : Transfer). t.header.id) (transfer_meaning read areas) s.transfers))
+            ∙ sound.rise);
         slots = valid.1.slots;
       }

@@ -27,7 +27,10 @@ content_of (Side place side) areas = on_pair side (slice_index_or areas.sides pl
 abbrev pub with_content : Area → Bytes → Areas → Areas
 with_content (Transfer slot) content areas = record areas { slots = slice_set areas.slots slot content }
 with_content (Side place side) content areas =
-    record areas { sides = slice_set areas.sides place (with_side side content (slice_index_or areas.sides place ([], []))) }
+    record areas {
+      sides =
+          slice_set areas.sides place (with_side side content (slice_index_or areas.sides place ([], [])));
+    }
 
 -- the content with these bytes at this place
 abbrev pub overwritten : ℕ → Bytes → Bytes → Bytes

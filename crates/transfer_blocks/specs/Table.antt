@@ -31,7 +31,8 @@ stored_header transfers client id = option_map (λ t. t.header) (stored_of trans
 
 -- its header, and its slot
 abbrev pub found_of : List StoredTransfer → ℕ → ℕ → Option Found
-found_of transfers client id = option_map (λ t. record { header = t.header; slot = t.slot }) (stored_of transfers client id)
+found_of transfers client id =
+    option_map (λ t. record { header = t.header; slot = t.slot }) (stored_of transfers client id)
 
 -- the ids of the client's transfers
 abbrev pub stored_ids : List StoredTransfer → ℕ → List ℕ
@@ -61,7 +62,12 @@ good_parts (Bad refusal) = []
 abbrev pub with_fresh : ℕ → ℕ → Table → Table
 with_fresh client size s = record {
   next_id = s.next_id + 1;
-  transfers = s.transfers ++ record { header = fresh s.next_id client size; slot = lowest_free transfer_limit (slots_of s.transfers); contents = [] } ∷ [];
+  transfers = s.transfers ++ record {
+    header = fresh s.next_id client size;
+    slot =
+        lowest_free transfer_limit (slots_of s.transfers);
+    contents = [];
+  } ∷ [];
 }
 
 -- the transfer of this id changed
@@ -85,7 +91,8 @@ without id s = record s { transfers = filter (λ t. not (t.header.id == id)) s.t
 
 -- the transfers that a session leaves: those that weren't processed, and aren't in processing
 abbrev pub cleaned : Table → Table
-cleaned s = record s { transfers = filter (λ t. not (is_in Processing t.header || is_in Processed t.header)) s.transfers }
+cleaned s =
+    record s { transfers = filter (λ t. not (is_in Processing t.header || is_in Processed t.header)) s.transfers }
 
 -- a refusal leaves the table
 abbrev pub unless_refused : Reply → Table → Table → Table

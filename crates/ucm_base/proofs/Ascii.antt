@@ -8,7 +8,8 @@ use Rattle.semver.proofs.Segments.{and-left, and-right}
 use Rattle.ucm_base.specs.Name.{is_cluster_name, is_name_byte}
 use Rattle.ucm_base.specs.Short.{is_short, is_visible}
 
-ascii : (p : ℕ → Bool) → ((x : ℕ) → p x ≡ true → x < 128) → (xs : List ℕ) → list_all p xs ≡ true → (i : ℕ) → slice_index xs i < 128
+ascii : (p : ℕ → Bool) → ((x : ℕ) → p x ≡ true → x < 128) → (xs : List ℕ) → list_all p xs ≡ true → (i : ℕ)
+    → slice_index xs i < 128
 ascii p small [] h i = omega arith
 ascii p small (x ∷ xs) h zero = small x (and-left (p x) (list_all p xs) h)
 ascii p small (x ∷ xs) h (suc i) = ascii p small xs (and-right (p x) (list_all p xs) h) i

@@ -29,7 +29,9 @@ comparators_of text = value_or [] (req_of text)
 
 -- by major, minor and patch number, then by pre-release
 abbrev pub parts_cmp : Parts → Parts → Ordering
-parts_cmp a b = ordering_then (nat_cmp a.0 b.0) (ordering_then (nat_cmp a.1 b.1) (ordering_then (nat_cmp a.2 b.2) (pre_cmp a.3 b.3)))
+parts_cmp a b =
+    ordering_then (nat_cmp a.0 b.0)
+    (ordering_then (nat_cmp a.1 b.1) (ordering_then (nat_cmp a.2 b.2) (pre_cmp a.3 b.3)))
 
 -- the precedence of two versions, by their texts
 abbrev pub precedence_of : List ℕ → List ℕ → Ordering

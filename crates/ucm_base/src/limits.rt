@@ -66,7 +66,7 @@ pub const LINE_LIMIT: u64 = 256;
 /// Attempts at one call.
 pub const ATTEMPT_LIMIT: u64 = 8;
 
-/// Campaigns before the current one.
+/// Campaigns of a vehicle, the current one among them.
 pub const CAMPAIGN_LIMIT: usize = 4_096;
 
 /// Bytes of the input of a program.

@@ -25,7 +25,8 @@ impl Model for ShortText {
 
     ghost view = { λ s. take s.len s.bytes };
 
-    ghost invariant = { λ s. IsPadded text_limit s.bytes s.len × (is_short (take s.len s.bytes) ≡ true) };
+    ghost invariant = { λ s.
+        IsPadded text_limit s.bytes s.len × (is_short (take s.len s.bytes) ≡ true) };
 
     ghost inverse = { λ xs. record { bytes = padded text_limit xs; len = length xs } };
 

@@ -23,7 +23,8 @@ need_line need = codes "need " ++ need.name ++ codes "@" ++ need.req ++ 10 ∷ [
 -- a part's cluster, version, action and payload's length
 abbrev pub package_line : Manifest → ℕ → List ℕ
 package_line m size =
-    codes "package " ++ m.name ++ codes " " ++ m.version ++ codes " " ++ action_word m.action ++ codes " payload " ++ decimal size ++ 10 ∷ []
+    codes "package " ++ m.name ++ codes " " ++ m.version ++ codes " " ++ action_word m.action ++ codes " payload "
+    ++ decimal size ++ 10 ∷ []
 
 -- and a line for each of its needs
 abbrev pub shown : Part Span → List ℕ

@@ -12,5 +12,8 @@ use Rattle.dependency_check.proofs.unmet.is_met.Goals as goal
 pub returns : goal.returns
 returns c =
     let need = c.args.need.now in
-    any_from_yields_List (λ (t : List ℕ × List ℕ × List Need). bytes_eq t.0 need.name && accepts need.req t.1) _ _ _ c.any.ensures.ran (YieldsList-from_slice c.args.clusters.now cc) (λ x b q k. search (rules, tests))
-    ∙ sym (list_any-map (λ (d : Needing). bytes_eq d.name need.name && accepts need.req d.version) needing c.args.clusters.now)
+    any_from_yields_List (λ (t : List ℕ × List ℕ × List Need). bytes_eq t.0 need.name
+    && accepts need.req t.1) _ _ _ c.any.ensures.ran (YieldsList-from_slice c.args.clusters.now cc) (λ x b q k.
+    search (rules, tests))
+    ∙ sym (list_any-map (λ (d : Needing). bytes_eq d.name need.name
+    && accepts need.req d.version) needing c.args.clusters.now)

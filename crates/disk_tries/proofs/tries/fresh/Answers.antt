@@ -8,4 +8,5 @@ pub returns-clause-ready : goal.returns-clause-ready
 returns-clause-ready c x now =
     let is = c.in_ok-disk.ensures.nothing_pending x now ∙ c.in_ok-disk.ensures.zeros in
     subst (λ (p : Area × ℕ). IsReady p.0 p.1 x) (λ i. (sym c.fresh.ensures.area i, sym c.fresh.ensures.used i))
-    (ready_on_zeros c.of.result c.args.size x c.of.ensures.at (omega (arith, c.of.ensures.len, c.requires.some)) (omega (arith, c.of.ensures.len, c.requires.inside)) is)
+    (ready_on_zeros c.of.result c.args.size x c.of.ensures.at (omega (arith, c.of.ensures.len, c.requires.some))
+    (omega (arith, c.of.ensures.len, c.requires.inside)) is)

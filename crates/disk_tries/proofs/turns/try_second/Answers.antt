@@ -10,7 +10,8 @@ turn-requires-clause-half c = other_below c.args.half _ c.requires.half c.other.
 
 pub turn-requires-clause-pair : goal.turn-requires-clause-pair
 turn-requires-clause-pair c =
-    subst (λ (l : Layout). HasPair l c.in_ok-disk.disk.medium.pages.bytes) (sym (other_layout c.args.half _ c.requires.half c.other.ensures)) c.in_ok-disk.ensures.pair
+    subst (λ (l : Layout). HasPair l c.in_ok-disk.disk.medium.pages.bytes)
+    (sym (other_layout c.args.half _ c.requires.half c.other.ensures)) c.in_ok-disk.ensures.pair
 
 pub turn-requires-clause-short : goal.turn-requires-clause-short
 turn-requires-clause-short c = each_takes c.other.result (length c.args.state.now) c.requires.short

@@ -10,7 +10,9 @@ turn-requires-2-clause-half c = other_below c.args.half _ c.requires.half c.othe
 
 pub turn-requires-2-clause-pair : goal.turn-requires-2-clause-pair
 turn-requires-2-clause-pair c =
-    subst (λ (l : Layout). HasPair l c.turn.new.disk.medium.pages.bytes) (sym (other_layout c.args.half _ c.requires.half c.other.ensures)) (omega (arith, c.in_ok-disk.ensures.pair, c.turn.ensures.size))
+    subst (λ (l : Layout). HasPair l c.turn.new.disk.medium.pages.bytes)
+    (sym (other_layout c.args.half _ c.requires.half c.other.ensures))
+    (omega (arith, c.in_ok-disk.ensures.pair, c.turn.ensures.size))
 
 pub turn-requires-2-clause-short : goal.turn-requires-2-clause-short
 turn-requires-2-clause-short c = each_takes c.other.result (length c.args.state.now) c.requires.short

@@ -14,10 +14,13 @@ needs-preserved c =
     let needs = c.args.needs.now in
     let need = c.need-item.result in
     let i = c.needs.need-index in
-    let same = mapped-more need_tree needs i need c.needs.list.items c.in_ok-value.value c.needs-test.true c.need-item.is c.needs.invariant.trees c.in_ok-value.ensures.tree in
+    let same =
+    mapped-more need_tree needs i need c.needs.list.items c.in_ok-value.value c.needs-test.true c.need-item.is
+    c.needs.invariant.trees c.in_ok-value.ensures.tree in
     record {
       trees = rw c.in_ok-push.ensures.items same;
-      form = All-more IsNeed needs i need c.needs-test.true c.needs.invariant.form (subst IsNeed c.need-item.is c.in_ok-value.ensures.form);
+      form = All-more IsNeed needs i need c.needs-test.true c.needs.invariant.form
+          (subst IsNeed c.need-item.is c.in_ok-value.ensures.form);
     }
 
 pub returns-clause-tree : goal.returns-clause-tree

@@ -12,14 +12,16 @@ pub returns-clause-text : goal.returns-clause-text
 returns-clause-text c =
     let m = c.args.m.now in
     let is = c.in_ok-value.ensures.tree in
-    IfOk-weaker c.to_vec.result _ _ (λ b h. h (ap has_float is ∙ no_float m) ∙ ap compact_text is ∙ manifest_written m) c.to_vec.ensures.text
+    IfOk-weaker c.to_vec.result _ _ (λ b h. h (ap has_float is ∙ no_float m) ∙ ap compact_text is
+    ∙ manifest_written m) c.to_vec.ensures.text
 
 pub returns-clause-back : goal.returns-clause-back
 returns-clause-back c =
     let m = c.args.m.now in
     let is = c.in_ok-value.ensures.tree in
     let shallow : depth (view c.in_ok-value.value) ≤ 127 = rw is (low m) in
-    IfOk-weaker c.to_vec.result _ _ (λ b h. manifest_of-read b.items _ h.0 (h.1 shallow ∙ ap Some is) ∙ manifest_back m c.in_ok-value.ensures.form)
+    IfOk-weaker c.to_vec.result _ _ (λ b h. manifest_of-read b.items _ h.0 (h.1 shallow ∙ ap Some is)
+    ∙ manifest_back m c.in_ok-value.ensures.form)
     (both c.to_vec.result _ _ c.to_vec.ensures.utf8 c.to_vec.ensures.reads_back)
 
 pub returns-clause-short : goal.returns-clause-short
@@ -27,4 +29,6 @@ returns-clause-short c =
     let m = c.args.m.now in
     let is = c.in_ok-value.ensures.tree in
     let short = manifest_short m c.in_ok-value.ensures.form in
-    IfOk-weaker c.to_vec.result _ _ (λ b h. subst (λ t. length t ≤ 4096) (sym (h (ap has_float is ∙ no_float m) ∙ ap compact_text is ∙ manifest_written m)) short) c.to_vec.ensures.text
+    IfOk-weaker c.to_vec.result _ _ (λ b h.
+    subst (λ t. length t ≤ 4096) (sym (h (ap has_float is ∙ no_float m) ∙ ap compact_text is ∙ manifest_written m))
+    short) c.to_vec.ensures.text

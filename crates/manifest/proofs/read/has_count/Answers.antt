@@ -3,4 +3,8 @@ use Rattle.serde_json.proofs.Views.{members_len-members_view}
 use Rattle.manifest.proofs.read.has_count.Goals as goal
 
 pub returns-in-Some : goal.returns-in-Some
-returns-in-Some c = rw (← c.in-Some.ensures, members_len-members_view c.in-Some.members.now.entries, c.len.ensures.len) refl
+returns-in-Some c = rw (
+  ← c.in-Some.ensures,
+  members_len-members_view c.in-Some.members.now.entries,
+  c.len.ensures.len,
+) refl

@@ -13,9 +13,16 @@ pub returns-in_err-items : goal.returns-in_err-items
 returns-in_err-items c =
     let at = ap (λ vs. Some (items_view vs)) c.as_slice-values.ensures.value ∙ c.in-Some.ensures in
     let p = err_from_is_err_and c.from_residual.result c.from_residual.ensures.1 in
-    rw (p.1, p.2) (tt, λ bad. counted (view c.args.value.now) c.as_slice-values.result.now true at c.if-not-are_few.ensures ∙ c.in_err-items.ensures.invalid bad)
+    rw (p.1, p.2) (
+      tt,
+      λ bad. counted (view c.args.value.now) c.as_slice-values.result.now true at c.if-not-are_few.ensures
+          ∙ c.in_err-items.ensures.invalid bad,
+    )
 
 pub returns : goal.returns
 returns c =
-    let at = ap (λ vs. Some (items_view vs)) c.as_slice-values.ensures.value ∙ c.in-Some.ensures in
-    (counted (view c.args.value.now) c.as_slice-values.result.now true at c.if-not-are_few.ensures ∙ c.in_ok-items.ensures.ok ∙ ap Some (sym c.of.ensures), tt)
+    let at = ap (λ vs. Some (items_view vs)) c.as_slice-values.ensures.value ∙ c.in-Some.ensures in (
+      counted (view c.args.value.now) c.as_slice-values.result.now true at c.if-not-are_few.ensures
+          ∙ c.in_ok-items.ensures.ok ∙ ap Some (sym c.of.ensures),
+      tt,
+    )

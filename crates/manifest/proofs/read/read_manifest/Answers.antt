@@ -14,5 +14,6 @@ pub returns-in-Err-2 : goal.returns-in-Err-2
 returns-in-Err-2 c = (
   tt,
   λ _.
-      manifest_of-none c.args.bytes.now (c.in-Err.ensures.err (λ m. true≢false (sym (c.is_memory.ensures.1 m) ∙ c.if-is_memory.false))),
+      manifest_of-none c.args.bytes.now
+      (c.in-Err.ensures.err (λ m. true≢false (sym (c.is_memory.ensures.1 m) ∙ c.if-is_memory.false))),
 )

@@ -13,4 +13,6 @@ returns-clause-sound g c =
     let areas = g.S.Staging.areas c.install.new.staging in
     let faults = g.S.Staging.fault_count c.install.new.staging in
     subst (λ s. IsSound (holding areas faults s)) (sym c.in_ok-state.ensures)
-    (formatted-sound areas faults c.in_ok-running.running c.in_ok-ordered.ordered.items c.args.installed.items c.in_ok-running.ensures.installed c.in_ok-ordered.ensures.sorted c.in_ok-ordered.ensures.length c.requires.few c.requires.short)
+    (formatted-sound areas faults c.in_ok-running.running c.in_ok-ordered.ordered.items c.args.installed.items
+    c.in_ok-running.ensures.installed c.in_ok-ordered.ensures.sorted c.in_ok-ordered.ensures.length c.requires.few
+    c.requires.short)

@@ -5,7 +5,8 @@ use Rattle.package_reader.proofs.fields.parts_at.Given as goal
 
 abbrev pub invariant-loop : goal.invariant-loop
 invariant-loop l = record {
-  so_far : with_front l.places.items (parts_at (l.fn.head.count - l.counter) l.bytes l.room l.place) ≡ parts_at l.fn.head.count l.bytes (texts_limit l.fn.head.count) l.fn.head.place;
+  so_far : with_front l.places.items (parts_at (l.fn.head.count - l.counter) l.bytes l.room l.place)
+      ≡ parts_at l.fn.head.count l.bytes (texts_limit l.fn.head.count) l.fn.head.place;
   within : l.place ≤ length l.bytes;
   many : length l.places.items ≡ l.counter;
 }

@@ -7,4 +7,5 @@ use Rattle.transfer_blocks.proofs.lookup.lowest_free.Given as goal
 
 abbrev pub invariant-loop-slot : goal.invariant-loop-slot
 invariant-loop-slot l =
-    find (is_free (slots_of l.all)) (range_with_len 0 transfer_limit) ≡ find (is_free (slots_of l.all)) (range_with_len l.slot (transfer_limit - l.slot))
+    find (is_free (slots_of l.all)) (range_with_len 0 transfer_limit)
+    ≡ find (is_free (slots_of l.all)) (range_with_len l.slot (transfer_limit - l.slot))

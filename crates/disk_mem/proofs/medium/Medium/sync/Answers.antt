@@ -16,7 +16,9 @@ returns-else-not-self-clause-durable c = only_where _ _ (c.args.self.now.pending
 pub returns-then-not-self-clause-time : goal.returns-then-not-self-clause-time
 returns-then-not-self-clause-time c =
     let m = c.args.self.now in
-    elapses_push (length m.pages.bytes) m.events.items c.push_reserved.new.self.items Synced m.pieces.items [] m.pieces.items m.pages.bytes m.pages.bytes c.push_reserved.ensures.items (sym (append-nil m.pieces.items)) m.kept m.replayed
+    elapses_push (length m.pages.bytes) m.events.items c.push_reserved.new.self.items Synced m.pieces.items []
+    m.pieces.items m.pages.bytes m.pages.bytes c.push_reserved.ensures.items
+    (sym (append-nil m.pieces.items)) m.kept m.replayed
 
 pub invariant_of-self : goal.invariant_of-self
 invariant_of-self c =

@@ -38,7 +38,8 @@ returns-clause-time c =
     (Left (length m.pages.bytes) m.events.items m.pieces.items m.pages.bytes)
     (Left s c.push_reserved.new.self.items c.extend_from_slice.new.self.items next)
     (IsImage (ranges_from [] c.push_reserved.new.self.items) next)) (sym size)
-    (elapses_push (length m.pages.bytes) m.events.items c.push_reserved.new.self.items _ m.pieces.items piece c.extend_from_slice.new.self.items m.pages.bytes next c.push_reserved.ensures.items all m.kept m.replayed)
+    (elapses_push (length m.pages.bytes) m.events.items c.push_reserved.new.self.items _ m.pieces.items piece
+    c.extend_from_slice.new.self.items m.pages.bytes next c.push_reserved.ensures.items all m.kept m.replayed)
 
 pub invariant_of-self : goal.invariant_of-self
 invariant_of-self c =
@@ -58,7 +59,21 @@ invariant_of-self c =
           ∙ omega (arith, m.kept, ap length all, length-append m.pieces.items piece, long);
       pending = search rules;
       events_room = search (rules, arith);
-      pieces_room = omega (arith, c.extend_from_slice.ensures.len, ap length all, length-append m.pieces.items piece, long);
-      pages_room = omega (arith, m.pages_room, c.write.ensures.spare, long, c.requires.room.enough_writes, c.requires.room.enough_bytes, c.requires.kept);
+      pieces_room = omega (
+        arith,
+        c.extend_from_slice.ensures.len,
+        ap length all,
+        length-append m.pieces.items piece,
+        long,
+      );
+      pages_room = omega (
+        arith,
+        m.pages_room,
+        c.write.ensures.spare,
+        long,
+        c.requires.room.enough_writes,
+        c.requires.room.enough_bytes,
+        c.requires.kept,
+      );
       small = omega (arith, size, m.small);
     }

@@ -19,4 +19,5 @@ loop-index-preserved c =
     (omega (arith, to_is)) (omega arith) in
     c.in_ok-extend_from_slice.ensures.items
     ∙ ap (λ (xs : List ℕ). xs ++ slice_range c.page-page.result.now from to) c.loop-index.invariant
-    ∙ read_step start end index from to some low high from_is to_is c.args.self.now.bytes c.page-page.result.now c.requires range
+    ∙ read_step start end index from to some low high from_is to_is c.args.self.now.bytes c.page-page.result.now
+    c.requires range

@@ -3,5 +3,6 @@ use Rattle.node_core.proofs.held.Held.block.Goals as goal
 
 pub returns-clause-judged : goal.returns-clause-judged
 returns-clause-judged g c =
-    block-judged c.self.view_is c.requires.sound c.args.client c.args.id c.args.counter c.args.block.now c.block.result c.block.new.self
+    block-judged c.self.view_is c.requires.sound c.args.client c.args.id c.args.counter c.args.block.now c.block.result
+    c.block.new.self
     c.requires.ready c.block.ensures.form c.block.ensures.reply c.block.ensures.table

@@ -4,5 +4,7 @@ use Rattle.node_core.proofs.held.Held.clean_up_unit.Goals as goal
 
 pub returns-in-Some-clause-unit : goal.returns-in-Some-clause-unit
 returns-in-Some-clause-unit g c =
-    cleaned_up c.self.view_is _ c.self.inside.prepared (sym c.take.ensures.value ∙ c.in-Some.is ∙ ap Some (sym c.session.view_is)) c.requires.sound c.requires.status c.args.passed
-    c.clean.new.self c.take.new.self c.number.result c.end_mark.result c.clean.ensures.table c.clean.ensures.form c.take.ensures.after c.number.ensures.number c.end_mark.ensures
+    cleaned_up c.self.view_is _ c.self.inside.prepared (sym c.take.ensures.value ∙ c.in-Some.is
+    ∙ ap Some (sym c.session.view_is)) c.requires.sound c.requires.status c.args.passed
+    c.clean.new.self c.take.new.self c.number.result c.end_mark.result c.clean.ensures.table c.clean.ensures.form
+    c.take.ensures.after c.number.ensures.number c.end_mark.ensures

@@ -7,8 +7,11 @@ pub returns-clause-judged : goal.returns-clause-judged
 returns-clause-judged g c =
     let table = c.self.inside.transfers in
     let refusal = first_refusal (exit_refusals (stored_header table.transfers c.args.client c.args.id)) in
-    exit-judged c.self.view_is c.requires.sound c.args.client c.args.id c.exit.result c.exit.new.self c.requires.ready c.exit.ensures.form
-    (c.exit.ensures.reply ∙ ap (λ x. refused_or Done (option_or refusal (bad_refusal x))) c.take_verdict-verdict.ensures)
+    exit-judged c.self.view_is c.requires.sound c.args.client c.args.id c.exit.result c.exit.new.self c.requires.ready
+    c.exit.ensures.form
+    (c.exit.ensures.reply
+    ∙ ap (λ x. refused_or Done (option_or refusal (bad_refusal x))) c.take_verdict-verdict.ensures)
     (c.exit.ensures.table
-    ∙ ap (λ x. unless_refused c.exit.result table (with_stored c.args.id (whole (good_parts x)) table)) c.take_verdict-verdict.ensures)
+    ∙ ap (λ x. unless_refused c.exit.result table (with_stored c.args.id (whole (good_parts x)) table))
+    c.take_verdict-verdict.ensures)
     c.take_verdict-verdict.new.self

@@ -4,5 +4,6 @@ use Rattle.node_core.proofs.held.Held.next_unit.Goals as goal
 
 pub returns-in_default-stored : goal.returns-in_default-stored
 returns-in_default-stored g c =
-    not-lost c.self.view_is _ c.in-Some-processing.id c.in-Some-processing.is (c.in-Some.is ∙ ap Some (sym c.session.view_is))
+    not-lost c.self.view_is _ c.in-Some-processing.id c.in-Some-processing.is (c.in-Some.is
+    ∙ ap Some (sym c.session.view_is))
     c.requires.sound c.requires.status (sym c.stored.ensures ∙ ap (option_map _) c.in_default-stored.is)

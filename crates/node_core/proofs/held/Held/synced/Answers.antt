@@ -2,4 +2,6 @@ use Rattle.node_core.proofs.Sound.{synced-shown}
 use Rattle.node_core.proofs.held.Held.synced.Goals as goal
 
 pub returns : goal.returns
-returns g c = synced-shown c.self.view_is c.args.client c.number.result c.session_mark.result c.ids.result c.session_mark.ensures c.number.ensures.number c.ids.ensures
+returns g c =
+    synced-shown c.self.view_is c.args.client c.number.result c.session_mark.result c.ids.result c.session_mark.ensures
+    c.number.ensures.number c.ids.ensures

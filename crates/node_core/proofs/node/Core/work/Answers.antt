@@ -10,10 +10,12 @@ invariant_of-self g c = record {
 }
 
 pub returns-clause-answer : goal.returns-clause-answer
-returns-clause-answer g c = c.work.ensures.answer ∙ ap (λ (v : Holding). answer_to c.args.fails.now (node_of v)) c.self.view_is
+returns-clause-answer g c = c.work.ensures.answer
+    ∙ ap (λ (v : Holding). answer_to c.args.fails.now (node_of v)) c.self.view_is
 
 pub returns-clause-node : goal.returns-clause-node
-returns-clause-node g c = c.work.ensures.node ∙ ap (λ (v : Holding). after_work c.args.fails.now (node_of v)) c.self.view_is
+returns-clause-node g c = c.work.ensures.node
+    ∙ ap (λ (v : Holding). after_work c.args.fails.now (node_of v)) c.self.view_is
 
 pub returns-clause-valid : goal.returns-clause-valid
 returns-clause-valid g c = worked-fit _ c.work.new.self c.args.fails.now c.self.invariant c.work.ensures.node
