@@ -55,14 +55,15 @@ pub struct Need {
     pub req: ReqText,
 }
 
-impl Need {
-    /// The same need.
-    pub fn copied(&self, alloc: Global) -> Result<Need, AllocError>
-        ensures { IfOk result (λ need. need ≡ self.now) }
-    {
+impl Clone for Need {
+    ghost use Rattle.std.specs.Prelude.{◌≡◌};
+
+    ghost is_clone = { λ x y. y ≡ x };
+
+    fn clone(&self) -> Result<Need, AllocError> {
         Ok(Need {
             name: self.name,
-            req: self.req.copied(alloc)?,
+            req: self.req.clone()?,
         })
     }
 }
@@ -98,9 +99,9 @@ impl Needs {
     pub fn copied(&self, alloc: Global) -> Result<Needs, AllocError>
         ensures { IfOk result (λ needs. needs ≡ self.now) }
     {
-        let mut items = Vec::new(alloc);
+        let mut items = Vec::with_capacity(alloc, self.items.len())?;
         for need in &self.items {
-            items.push(need.copied(alloc)?)?;
+            items.push(need.clone()?)?;
         }
         Ok(Needs { items })
     }

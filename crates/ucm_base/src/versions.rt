@@ -151,18 +151,6 @@ impl ReqText {
         self.text
     }
 
-    /// The same requirement, read again from its text.
-    pub fn copied(&self, alloc: Global) -> Result<ReqText, AllocError>
-        ensures { IfOk result (λ v. v ≡ self.now) }
-    {
-        let text = self.text();
-        match ReqText::of(alloc, text.as_bytes()) {
-            Ok(copy) => Ok(copy),
-            Err(TextError::OutOfMemory) => Err(AllocError),
-            Err(TextError::BadText) => unreachable!(),
-        }
-    }
-
     /// Whether the version is accepted.
     pub fn accepts(&self, version: &VersionText) -> bool
         ensures { result ≡ accepts self.now version.now }
@@ -178,6 +166,17 @@ impl Clone for VersionText {
         Ok(VersionText {
             text: self.text,
             version: self.version.clone()?,
+        })
+    }
+}
+
+impl Clone for ReqText {
+    ghost is_clone = { λ x y. y ≡ x };
+
+    fn clone(&self) -> Result<ReqText, AllocError> {
+        Ok(ReqText {
+            text: self.text,
+            req: self.req.clone()?,
         })
     }
 }
