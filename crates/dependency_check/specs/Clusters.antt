@@ -3,10 +3,11 @@ use Rattle.std.specs.Prelude.{ℕ, List}
 use Rattle.std.specs.Borrow.{Bor}
 use Rattle.ucm_base.specs.declared.parts.Need.{Need}
 use Rattle.ucm_base.specs.Needs.{Needing, Unmet}
+use Rattle.dependency_check.specs.declared.unmet.Needing.{Needing as Lent}
 
--- a cluster by its name, its version and its needs
-abbrev pub needing : List ℕ × List ℕ × List Need → Needing
-needing c = record { name = c.0; version = c.1; needs = c.2 }
+-- a cluster whose parts lie elsewhere
+abbrev pub needing : Lent → Needing
+needing c = record { name = c.name.now; version = c.version.now; needs = c.needs.now }
 
 -- an unmet need, by the name of its cluster and itself
 abbrev pub unmet : List ℕ × Bor Need → Unmet

@@ -6,4 +6,4 @@
 
 mod unmet;
 
-pub use unmet::missing;
+pub use unmet::{Needing, missing};
