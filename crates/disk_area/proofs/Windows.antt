@@ -1,9 +1,9 @@
 -- What a step of the disk is within a window.
 use Rattle.std.proofs.Common.{◌≡◌, ◌⊎◌, inl, inr, ℕ, ◌+◌, ◌-◌, ◌≤◌, List, ◌++◌, length, take, drop, sym, ◌∙◌, ap, subst, arith, length-drop, take-append-drop}
-use Rattle.std.proofs.lemmas.List.{take-take, drop-take, drop-drop, drop_at, length-take-le}
+use Rattle.std.proofs.lemmas.List.{take-take, drop-take, drop-drop, drop_at, drop-append-le, length-take-le}
 use Rattle.std.specs.List.{slice_range}
 use Rattle.disk_core.specs.Bytes.{put_at, Puts, Torn}
-use Rattle.disk_core.proofs.Pieces.{put_torn, put_back, put_take, range_take}
+use Rattle.disk_core.proofs.Pieces.{put_torn, put_back, put_take, range_take, take_past}
 use Rattle.disk_area.specs.declared.area.Area.{Area}
 use Rattle.disk_area.specs.Windows.{window, IsInside, InArea}
 
@@ -55,6 +55,39 @@ window_torn area k n old new fits inside torn = record {
 
     rest : (xs : List ℕ) → drop (k + n) (window area xs) ≡ take (area.len - (k + n)) (drop (area.at + k + n) xs)
     rest xs = window_rest area (k + n) xs fits ∙ ap (λ (m : ℕ). take (area.len - (k + n)) (drop m xs)) (omega arith)
+
+-- a torn range of the window is one of the disk
+pub torn_window : (area : Area) (k n : ℕ) (old new : List ℕ) → k + n ≤ area.len → IsInside area old
+    → InArea area (Torn k n) old new → Torn (area.at + k) n old new
+torn_window area k n old new fits inside changed = record {
+  size = changed.outside.size;
+  before = fronts new here ∙ (λ i. changed.outside.before i ++ changed.inside.before i) ∙ sym (fronts old inside);
+  after = rests new here ∙ (λ i. changed.inside.after i ++ changed.outside.after i) ∙ sym (rests old inside);
+}
+  where
+    here : IsInside area new
+    here = omega (arith, inside, changed.outside.size)
+
+    whole : (xs : List ℕ) → drop area.at xs ≡ window area xs ++ drop (area.at + area.len) xs
+    whole xs = sym (take-append-drop area.len (drop area.at xs))
+        ∙ ap (λ (ys : List ℕ). window area xs ++ ys) (drop-drop area.len area.at xs)
+
+    fronts : (xs : List ℕ) → IsInside area xs → take (area.at + k) xs ≡ take area.at xs ++ take k (window area xs)
+    fronts xs inside =
+        let front : length (take area.at xs) ≡ area.at = length-take-le area.at xs (omega (arith, inside)) in
+        ap (λ (ys : List ℕ). take (area.at + k) ys) (sym (take-append-drop area.at xs))
+        ∙ take_past (take area.at xs) (drop area.at xs) (area.at + k) k (omega (arith, front))
+        ∙ ap (λ (ys : List ℕ). take area.at xs ++ ys)
+        (sym (take-take k area.len (drop area.at xs) (omega (arith, fits))))
+
+    rests : (xs : List ℕ) → IsInside area xs
+        → drop (area.at + k + n) xs ≡ drop (k + n) (window area xs) ++ drop (area.at + area.len) xs
+    rests xs inside =
+        ap (λ (m : ℕ). drop m xs) (omega arith)
+        ∙ sym (drop-drop (k + n) area.at xs)
+        ∙ ap (λ (ys : List ℕ). drop (k + n) ys) (whole xs)
+        ∙ drop-append-le (k + n) (window area xs) (drop (area.at + area.len) xs)
+        (omega (arith, fits, length-window area xs inside))
 
 -- a piece that is put within the window
 pub window_put : (area : Area) (k : ℕ) (piece old new : List ℕ) → k + length piece ≤ area.len → IsInside area old

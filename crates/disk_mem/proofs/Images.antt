@@ -1,18 +1,15 @@
 -- What a write and a sync do to the images.
-use Rattle.std.proofs.Common.{◌≡◌, ◌⊎◌, inl, inr, ℕ, ◌+◌, ◌-◌, ◌<◌, ◌≤◌, List, [], ◌∷◌, length, take, drop, get_or, sym, ◌∙◌, ap, subst, arith, length-drop}
+use Rattle.std.proofs.Common.{◌≡◌, ◌⊎◌, inl, inr, ℕ, ◌+◌, ◌-◌, ◌<◌, ◌≤◌, List, [], ◌∷◌, ◌++◌, length, take, drop, get_or, refl, sym, ◌∙◌, ap, subst, arith, length-drop}
 use Rattle.std.proofs.lemmas.List.{length-take-le, get_or-take, get_or-drop, ext_get_or, drop-drop}
 use Rattle.std.proofs.lemmas.Bool.{cases_lt}
 use Rattle.disk_core.specs.Bytes.{put_at, Torn}
 use Rattle.disk_core.specs.Images.{Follows, Only, Allows}
 use Rattle.disk_core.proofs.Pieces.{length-put_at, put-before, put-after, put-within}
-use Rattle.disk_mem.specs.Events.{IsOutside, IsImage}
+use Rattle.disk_mem.specs.Events.{Course, settled_at, wrote, IsOutside, IsImage, MayLeave}
 
 -- with nothing pending there is one image
 pub only_one : (content image : List ℕ) → IsImage [] content image → image ≡ content
 only_one content image is = ext_get_or 0 image content is.size (λ i lt. is.same i tt)
-
-pub only_where : (ranges : List (ℕ × ℕ)) (content : List ℕ) → ranges ≡ [] → Only content (IsImage ranges content)
-only_where ranges content none image is = only_one content image (subst (λ rs. IsImage rs content image) none is)
 
 -- the two agree but in n bytes
 pub torn_elsewhere : (at n : ℕ) (old new : List ℕ) → Torn at n old new → at + n ≤ length old → (i : ℕ)
@@ -96,6 +93,15 @@ widened at k n old new le t = record {
     further : (xs : List ℕ) → drop (at + n) xs ≡ drop (n - k) (drop (at + k) xs)
     further xs = ap (λ (m : ℕ). drop m xs) (omega (arith, le)) ∙ sym (drop-drop (n - k) (at + k) xs)
 
+-- a range more, as the last or as the first
+outside_push : (rs : List (ℕ × ℕ)) (r : ℕ × ℕ) (i : ℕ) → IsOutside (r ∷ rs) i → IsOutside (rs ++ r ∷ []) i
+outside_push [] r i out = out
+outside_push (s ∷ rs) r i out = (out.1.0, outside_push rs r i (out.0, out.1.1))
+
+outside_front : (rs : List (ℕ × ℕ)) (r : ℕ × ℕ) (i : ℕ) → IsOutside (rs ++ r ∷ []) i → IsOutside (r ∷ rs) i
+outside_front [] r i out = out
+outside_front (s ∷ rs) r i out = let rest = outside_front rs r i out.1 in (rest.0, (out.0, rest.1))
+
 -- a write of n bytes of which a piece stands
 module _ (at n : ℕ) (piece old next : List ℕ) (short : length piece ≤ n) (fits : at + n ≤ length old)
     (is : next ≡ put_at old at piece) where
@@ -107,12 +113,19 @@ module _ (at n : ℕ) (piece old next : List ℕ) (short : length piece ≤ n) (
   pub wrote_size : length next ≡ length old
   wrote_size = wrote_torn.size
 
-  pub wrote_follows : (ranges later : List (ℕ × ℕ)) → later ≡ (at, n) ∷ ranges
-      → Follows (Torn at n) (IsImage ranges old) (IsImage later next)
-  wrote_follows ranges later later_is = subst (λ rs. Follows (Torn at n) (IsImage ranges old) (IsImage rs next))
-      (sym later_is) (follows at n ranges old next fits wrote_torn)
+-- what a crash may leave behind it
+module _ (at n : ℕ) (piece : List ℕ) (c : Course) (short : length piece ≤ n) (fits : at + n ≤ length c.now) where
+  pub wrote_follows : Follows (Torn at n) (MayLeave c) (MayLeave (wrote at n piece c))
+  wrote_follows image is = follows at n c.ranges c.now (put_at c.now at piece) fits
+      (wrote_torn at n piece c.now (put_at c.now at piece) short fits refl) image
+      (record { size = is.size; same = λ i out. is.same i (outside_push c.ranges (at, n) i out) })
 
-  pub wrote_allows : (ranges later : List (ℕ × ℕ)) → later ≡ (at, n) ∷ ranges
-      → Allows (Torn at n) (IsImage ranges old) (IsImage later next)
-  wrote_allows ranges later later_is = subst (λ rs. Allows (Torn at n) (IsImage ranges old) (IsImage rs next))
-      (sym later_is) (allows at n ranges old next fits wrote_torn)
+  pub wrote_allows : Allows (Torn at n) (MayLeave c) (MayLeave (wrote at n piece c))
+  wrote_allows d x was cut =
+      let here = allows at n c.ranges c.now (put_at c.now at piece) fits
+      (wrote_torn at n piece c.now (put_at c.now at piece) short fits refl) d x was cut in
+      record { size = here.size; same = λ i out. here.same i (outside_front c.ranges (at, n) i out) }
+
+-- with nothing pending a crash leaves the content
+pub only_settled : (c : Course) (content : List ℕ) → c ≡ settled_at content → Only content (MayLeave c)
+only_settled c content is image here = only_one content image (subst (λ (k : Course). MayLeave k image) is here)

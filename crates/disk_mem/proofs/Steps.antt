@@ -10,7 +10,7 @@ abbrev pub reached : ℕ → ℕ → ℕ → ℕ
 reached start end index = min end (max start (4096 * index))
 
 -- a front and the range behind it
-take_range : (xs : List ℕ) (j k : ℕ) → j ≤ k → take j xs ++ slice_range xs j k ≡ take k xs
+pub take_range : (xs : List ℕ) (j k : ℕ) → j ≤ k → take j xs ++ slice_range xs j k ≡ take k xs
 take_range xs j k le =
     let back : drop j (take k xs) ≡ slice_range xs j k = ap (λ (m : ℕ). drop j (take m xs)) (same j k le)
     ∙ drop-take j (k - j) xs in
@@ -33,9 +33,9 @@ module _ (start end index from to : ℕ) (some : start < end) (low : start / 409
   in_order = omega (arith, some, low, high, from_is, to_is)
 
   pub read_step : (bytes page : List ℕ) → end ≤ length bytes
-      → slice_range page from to ≡ slice_range bytes (4096 * index + from) (4096 * index + to)
+      → page ≡ slice_range bytes (4096 * index + from) (4096 * index + to)
       → slice_range bytes start (reached start end index)
-      ++ slice_range page from to ≡ slice_range bytes start (reached start end (index + 1))
+      ++ page ≡ slice_range bytes start (reached start end (index + 1))
   read_step bytes page le is =
       (λ i. slice_range bytes start (here i) ++ is i)
       ∙ range_range bytes start (4096 * index + from) (4096 * index + to) (omega (arith, here, some))

@@ -4,3 +4,4 @@ pub mod Medium
 pub mod Strikes
 pub mod Obeys
 pub mod Laws
+pub mod Tears

@@ -2,11 +2,11 @@
 ghost use Rattle.std.specs.Prelude.{◌≡◌, replicate, IfOk};
 ghost use Rattle.disk_core.specs.Images.{Only};
 ghost use Rattle.disk_core.specs.Plans.{no_faults};
-ghost use Rattle.disk_mem.specs.Obeys.{IsNew};
+ghost use Rattle.disk_mem.specs.Obeys.{IsNew, IsFresh};
 
 use crate::medium::Medium;
-use crate::pages::Pages;
 use crate::strikes::{Fate, Strikes};
+use crate::tear::Tear;
 use disk_core::{DeviceError, Disk, FailKind, FaultPlan, ReadError};
 use fault_count::one_more;
 use std::alloc::{AllocError, Global};
@@ -28,24 +28,31 @@ impl MemDisk {
     ghost use Rattle.disk_mem.specs.Strikes.{fate_of, numbers_of, counted, is_stop, is_bad};
     ghost use Rattle.fault_count.specs.Faults.{one_more};
 
-    /// A disk of `size` zeros.
+    /// A disk of `size` zeros that keeps the bytes as they stand when it restarts.
     pub fn new(alloc: Global, size: u64) -> Result<MemDisk, AllocError>
         ensures zeros { IfOk result (λ d. ⟦<MemDisk as Disk>⟧.seen d ≡ replicate size 0) }
         ensures nothing_pending { IfOk result (λ d.
             Only (⟦<MemDisk as Disk>⟧.seen d) (⟦<MemDisk as Disk>⟧.images d)) }
         ensures no_plan { IfOk result (λ d. ⟦<MemDisk as Disk>⟧.armed d ≡ no_faults) }
         ensures calm { IfOk result IsNew }
+        ensures tears { IfOk result (IsFresh Tear.Keep size) }
+    {
+        MemDisk::torn(alloc, size, Tear::Keep)
+    }
+
+    /// A disk of `size` zeros. When it restarts, each range that was written since the last sync that succeeded, also by
+    /// a write that failed, holds what the tear says.
+    pub fn torn(alloc: Global, size: u64, tear: Tear) -> Result<MemDisk, AllocError>
+        ensures zeros { IfOk result (λ d. ⟦<MemDisk as Disk>⟧.seen d ≡ replicate size 0) }
+        ensures nothing_pending { IfOk result (λ d.
+            Only (⟦<MemDisk as Disk>⟧.seen d) (⟦<MemDisk as Disk>⟧.images d)) }
+        ensures no_plan { IfOk result (λ d. ⟦<MemDisk as Disk>⟧.armed d ≡ no_faults) }
+        ensures calm { IfOk result IsNew }
+        ensures tears { IfOk result (IsFresh tear size) }
     {
         Ok(MemDisk {
             alloc,
-            medium: Medium {
-                pages: Pages::new(alloc, size)?,
-                events: Vec::new(alloc),
-                pieces: Vec::new(alloc),
-                clean: true,
-                room_writes: 0,
-                room_bytes: 0,
-            },
+            medium: Medium::new(alloc, size, tear),
             strikes: Strikes {
                 plan: FaultPlan::none(alloc),
                 stopped: false,
@@ -77,11 +84,10 @@ impl MemDisk {
 }
 
 impl Disk for MemDisk {
-    ghost use Rattle.std.specs.Prelude.{length, [], ℕ};
+    ghost use Rattle.std.specs.Prelude.{length, ℕ};
     ghost use Rattle.std.proofs.Common.{inl};
-    ghost use Rattle.disk_mem.specs.Medium.{images, left, room_of};
-    ghost use Rattle.disk_mem.specs.Events.{ranges_from};
-    ghost use Rattle.disk_mem.specs.Laws.{only_now, reads_as_image};
+    ghost use Rattle.disk_mem.specs.Medium.{course, images, left, room_of};
+    ghost use Rattle.disk_mem.specs.Laws.{only_now, reads_as_image, image_size};
     ghost use Rattle.disk_mem.specs.Obeys.{Obeys};
 
     ghost seen = { λ d. d.medium.pages.bytes };
@@ -138,7 +144,7 @@ impl Disk for MemDisk {
 
     fn restart(&mut self) -> Result<(), DeviceError> {
         self.strikes.stopped = false;
-        self.medium.sync();
+        self.medium.restart();
         Ok(())
     }
 
@@ -154,14 +160,15 @@ impl Disk for MemDisk {
     }
 
     ghost reads_as_image = { λ d.
-        reads_as_image (ranges_from [] d.medium.events.items) d.medium.pages.bytes };
+        reads_as_image (course d.medium) d.medium.pages.bytes d.medium.replayed };
 
-    ghost image_size = { λ d c here. here.size };
+    ghost image_size = { λ d c here.
+        image_size (course d.medium) d.medium.pages.bytes c d.medium.replayed here };
 
     ghost size_fits = { λ d. d.medium.small };
 
     ghost counts_now = { λ d t c le here. inl here };
 
-    ghost only_now = { λ d c left. only_now (length d.medium.pages.bytes) d.medium.events.items
-        d.medium.pages.bytes d.medium.pieces.items c left };
+    ghost only_now = { λ d c left. only_now d.medium.tear (length d.medium.pages.bytes)
+        d.medium.events.items d.medium.pieces.items c left };
 }

@@ -1,10 +1,9 @@
-use Rattle.std.proofs.Common.{List, Option, take, ap, ◌∙◌, arith}
-use Rattle.disk_mem.specs.declared.page.Page.{Page}
-use Rattle.disk_mem.specs.Pages.{content}
+use Rattle.std.proofs.Common.{List, Option, ap, ◌∙◌}
+use Rattle.disk_mem.specs.declared.leaf.Leaf.{Leaf}
+use Rattle.disk_mem.specs.Pages.{shown}
 use Rattle.disk_mem.proofs.Content.{shown_unmade}
 use Rattle.disk_mem.proofs.pages.Pages.new.Goals as goal
 
 pub returns : goal.returns
 returns c =
-    ap (λ (pages : List (Option Page)). take c.args.size (content pages)) c.loop-page.invariant.0
-    ∙ shown_unmade c.args.size c.loop-page._page (omega (arith, c.loop-page.auto._page-end, c.loop-page-test.false))
+    ap (λ (leaves : List (Option Leaf)). shown c.args.size leaves) c.new.ensures.items ∙ shown_unmade c.args.size

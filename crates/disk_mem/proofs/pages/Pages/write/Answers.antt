@@ -32,4 +32,6 @@ loop-index-preserved c =
       size = ap length c.put.ensures.bytes ∙ length-put_at (4096 * index + from) part c.loop-index.self.bytes within
           ∙ c.loop-index.invariant.size;
       stock = omega (arith, c.put.ensures.spare, c.loop-index.invariant.stock);
+      leaves = c.put.ensures.leaves ∙ c.loop-index.invariant.leaves;
+      made = λ k low lt. c.put.ensures.kept k (c.loop-index.invariant.made k low lt);
     }
