@@ -2,3 +2,4 @@ pub mod Lists
 pub mod Appends
 pub mod Moments
 pub mod Firsts
+pub mod Grammars

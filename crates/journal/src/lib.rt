@@ -9,10 +9,12 @@
 
 mod append;
 mod fault;
+mod grammar;
 mod reading;
 mod records;
 
 pub use append::Journal;
 pub use fault::JournalError;
+pub use grammar::a_shut_gate_ends_the_list;
 pub use reading::list;
 pub use records::{Payload, Records};
