@@ -82,6 +82,23 @@ mine_counts false low (Some b) (Some a) body is = elim (cases_Bool (ltb a.genera
       (sym (cond-false (ltb a.generation b.generation) (Some (low + 1, b)) (Some (low, a)) not) ∙ is)))
 ]
 
+-- where none counts there is none
+pub none_counts : (low : ℕ) (a b : Option Body) → newest low a b ≡ None → (a ≡ None) × (b ≡ None)
+none_counts low None None is = (refl, refl)
+none_counts low None (Some b) is = cc
+none_counts low (Some a) None is = cc
+none_counts low (Some a) (Some b) is = elim (cases_Bool (ltb a.generation b.generation)) [
+  | inl less ↦
+      absurd (something (sym (cond-true (ltb a.generation b.generation) (Some (low + 1, b)) (Some (low, a)) less)
+      ∙ is))
+  | inr not ↦
+      absurd (something (sym (cond-false (ltb a.generation b.generation) (Some (low + 1, b)) (Some (low, a)) not)
+      ∙ is))
+]
+  where
+    something : {A : Type 0} {a : A} → Some a ≡ None → ⊥
+    something is = cc
+
 module _ (tells : List ℕ → Bool) where
   told_reads : (o : Option Body) (body : Body) → told tells o ≡ Some body → o ≡ Some body
   told_reads None body is = cc
@@ -142,12 +159,17 @@ module _ (tells : List ℕ → Bool) where
         (told tells (half_of half image)) (told tells (half_of (other half) image))) (sym second.0))
         in_order
 
+    -- the half that counts passes
+    pub counting_told : (body : Body) (image : List ℕ)
+        → counting tells (layout_of half).low image ≡ Some (half, body) → told tells (half_of half image) ≡ Some body
+    counting_told body image is =
+        mine_counts lower low (told tells (half_of half image)) (told tells (half_of (other half) image)) body
+        (sym (counting_is image) ∙ is ∙ ap (λ (h : ℕ). Some (h, body)) (sym number_is))
+
     -- the half that counts reads as its body
     pub counting_reads : (body : Body) (image : List ℕ)
         → counting tells (layout_of half).low image ≡ Some (half, body) → half_of half image ≡ Some body
-    counting_reads body image is = told_reads (half_of half image) body
-        (mine_counts lower low (told tells (half_of half image)) (told tells (half_of (other half) image)) body
-        (sym (counting_is image) ∙ is ∙ ap (λ (h : ℕ). Some (h, body)) (sym number_is)))
+    counting_reads body image is = told_reads (half_of half image) body (counting_told body image is)
 
     module _ (old new : List ℕ) where
       -- where both halves read as before, the same one counts

@@ -1,14 +1,16 @@
 -- From steps in a head to what the halves read as.
-use Rattle.std.proofs.Common.{◌≡◌, inl, inr, ℕ, ◌+◌, ◌<◌, ◌≤◌, ◌^◌, List, [], ◌∷◌, length, take, drop, get_or, Option, Some, sym, ◌∙◌, ap, subst, arith}
+use Rattle.std.proofs.Common.{◌≡◌, inl, inr, ℕ, ◌+◌, ◌<◌, ◌≤◌, ◌^◌, List, [], ◌∷◌, length, take, drop, get_or, Option, Some, None, refl, sym, ◌∙◌, ap, subst, arith}
 use Rattle.disk_core.specs.Bytes.{Puts, Torn}
+use Rattle.disk_core.proofs.Pieces.{put_torn, torn_none}
 use Rattle.disk_area.specs.declared.area.Area.{Area}
 use Rattle.disk_area.specs.Windows.{window, IsInside, InArea}
-use Rattle.disk_area.proofs.Windows.{length-window}
-use Rattle.checkpoint.specs.Halves.{Body, HasHalf, layout_of, other, head_area, half_of, stored_in, padded}
-use Rattle.checkpoint.specs.Counting.{IsNewer, IsAbove, CanOpen, Opens, MayOpen, MayClose}
+use Rattle.disk_area.proofs.Windows.{length-window, torn_window}
+use Rattle.disk_area.proofs.Steps.{as_step, torn_wider}
+use Rattle.checkpoint.specs.Halves.{Body, HasHalf, begins, layout_of, other, head_area, half_of, stored_in, padded}
+use Rattle.checkpoint.specs.Counting.{IsNewer, IsAbove, CanOpen, GateAlone, StaysShut, Opens, MayOpen, MayClose}
 use Rattle.checkpoint.specs.Quiet.{Quiet, Rewritten}
 use Rattle.checkpoint.proofs.Places.{sound}
-use Rattle.checkpoint.proofs.Gates.{gate_torn, gate_opened, torn_rest, put_rest}
+use Rattle.checkpoint.proofs.Gates.{shut_none, gate_torn, gate_opened, torn_rest, put_rest}
 use Rattle.checkpoint.proofs.Bodies.{padded_reads, padded_last, gate_of}
 use Rattle.checkpoint.proofs.Fronts.{head_beside}
 
@@ -60,32 +62,68 @@ module _ (half : ℕ) (old new : List ℕ) (lt : half < 4) where
               (omega (arith, (sound half).fits)) rewritten.inside.behind;
         }
 
-  pub may_open : CanOpen half old → InArea (head_area half) (Torn 0 1) old new → MayOpen half old new
-  may_open can torn = elim (gate_torn most (window (head_area half) old) (window (head_area half) new) torn.inside) [
-    | inl reads ↦ inr (record {
-      outside = torn.outside;
-      reads = reads;
-      beside = head_beside half old new lt torn.outside;
-      journal = torn_rest (window (head_area half) old) (window (head_area half) new) end torn.inside behind_gate
-          ∙ can.journal;
-    })
-    | inr none ↦ inl (record {
-      outside = torn.outside;
-      reads = inr none;
-      beside = head_beside half old new lt torn.outside;
-    })
-  ]
+  -- the first byte of a head is its half's gate
+  gate_alone : HasHalf half old → InArea (head_area half) (Torn 0 1) old new → GateAlone half old new
+  gate_alone has changed = subst (λ (at : ℕ). Torn at 1 old new) (omega arith)
+      (torn_window (head_area half) 0 1 old new (omega arith) (has_head half old has) changed)
+
+  put_gate : HasHalf half old → InArea (head_area half) (Puts 0 (1 ∷ [])) old new
+      → InArea (head_area half) (Torn 0 1) old new
+  put_gate has put = as_step (head_area half) (Puts 0 (1 ∷ [])) (Torn 0 1) old new put
+      (λ is. subst (λ (y : List ℕ). Torn 0 1 (window (head_area half) old) y) (sym is)
+      (put_torn 0 (1 ∷ []) (window (head_area half) old) (omega (arith, some_head half old has))))
+
+  -- before its gate is opened
+  pub still_shut : CanOpen half old → StaysShut half old old
+  still_shut can = record {
+    gate = torn_none (begins half) 1 old;
+    reads = shut_none most (window (head_area half) old) can.shut;
+    beside = refl;
+  }
+
+  pub may_open : HasHalf half old → CanOpen half old → InArea (head_area half) (Torn 0 1) old new → MayOpen half old new
+  may_open has can torn =
+      let gate = gate_alone has torn in
+      elim (gate_torn most (window (head_area half) old) (window (head_area half) new) torn.inside) [
+        | inl reads ↦ inr (record {
+          gate = gate;
+          reads = reads;
+          beside = head_beside half old new lt torn.outside;
+          journal = torn_rest (window (head_area half) old) (window (head_area half) new) end torn.inside behind_gate
+              ∙ can.journal;
+        })
+        | inr none ↦ inl (record {
+          gate = gate;
+          reads = none;
+          beside = head_beside half old new lt torn.outside;
+        })
+      ]
 
   pub opens : HasHalf half old → CanOpen half old → InArea (head_area half) (Puts 0 (1 ∷ [])) old new
       → Opens half old new
-  opens has can put = record {
-    outside = put.outside;
-    reads = gate_opened most (window (head_area half) old) (window (head_area half) new)
-        (some_head half old has) put.inside;
-    beside = head_beside half old new lt put.outside;
-    journal = put_rest 1 (window (head_area half) old) (window (head_area half) new) end
-        (some_head half old has) put.inside behind_gate ∙ can.journal;
-  }
+  opens has can put =
+      let some = some_head half old has in
+      record {
+        gate = gate_alone has (put_gate has put);
+        reads = gate_opened most (window (head_area half) old) (window (head_area half) new) some put.inside;
+        beside = head_beside half old new lt put.outside;
+        journal = put_rest 1 (window (head_area half) old) (window (head_area half) new) end some put.inside behind_gate
+            ∙ can.journal;
+      }
+
+-- a gate lies in its head
+pub gate_in_head : (half : ℕ) (old new : List ℕ) → GateAlone half old new
+    → Torn (head_area half).at (head_area half).len old new
+gate_in_head half old new gate =
+    torn_wider (begins half) 1 (head_area half).at (head_area half).len old new (omega arith) (omega arith) gate
+
+-- what a half that stays shut leaves is what `prepare` may
+pub shut_closes : (half : ℕ) (old new : List ℕ) → StaysShut half old new → MayClose half old new
+shut_closes half old new shut = record {
+  outside = gate_in_head half old new shut.gate;
+  reads = inr shut.reads;
+  beside = shut.beside;
+}
 
 -- the gate of a head, as it is read
 pub head_gate : (half : ℕ) (bytes : List ℕ) (area : Area) → area ≡ head_area half → HasHalf half bytes

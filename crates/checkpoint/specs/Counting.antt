@@ -2,7 +2,7 @@
 use Rattle.std.specs.Prelude.{◌≡◌, ◌≢◌, ◌⊎◌, ℕ, ◌+◌, ◌<◌, nat_lt, Bool, if◌then◌else◌, List, slice_index, Option, Some, None, IfSome}
 use Rattle.disk_core.specs.Bytes.{Torn}
 use Rattle.disk_area.specs.Windows.{window}
-use Rattle.checkpoint.specs.Halves.{Body, layout_of, other, head_area, half_of, stored_in}
+use Rattle.checkpoint.specs.Halves.{Body, begins, layout_of, other, head_area, half_of, stored_in}
 
 -- the body of a half that reads, where its state passes the test
 abbrev pub told : (List ℕ → Bool) → Option Body → Option Body
@@ -46,14 +46,23 @@ pub record CanOpen (half : ℕ) (image : List ℕ) : Type 0 where
   pub above : IsAbove (stored_in half image) (half_of (other half) image)
   pub journal : slice_index (window (head_area half) image) (layout_of half).journal_at ≡ 0
 
--- this half reads as what was stored in it, behind which its journal is empty; the other one as before, and no byte
--- outside the head of this half changed
+-- no byte changed but the gate of this half
+abbrev pub GateAlone : ℕ → List ℕ → List ℕ → Type 0
+GateAlone half old new = Torn (begins half) 1 old new
+
+-- this half reads as nothing, and the other one as before
+pub record StaysShut (half : ℕ) (old new : List ℕ) : Type 0 where
+  pub gate : GateAlone half old new
+  pub reads : half_of half new ≡ None
+  pub beside : half_of (other half) new ≡ half_of (other half) old
+
+-- this half reads as what was stored in it, behind which its journal is empty; the other one as before
 pub record Opens (half : ℕ) (old new : List ℕ) : Type 0 where
-  pub outside : Torn (head_area half).at (head_area half).len old new
+  pub gate : GateAlone half old new
   pub reads : half_of half new ≡ stored_in half old
   pub beside : half_of (other half) new ≡ half_of (other half) old
   pub journal : slice_index (window (head_area half) new) (layout_of half).journal_at ≡ 0
 
--- the half as it was, or closed, or open
+-- the half stays shut, or opens
 abbrev pub MayOpen : ℕ → List ℕ → List ℕ → Type 0
-MayOpen half old new = MayClose half old new ⊎ Opens half old new
+MayOpen half old new = StaysShut half old new ⊎ Opens half old new

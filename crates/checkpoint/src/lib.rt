@@ -7,14 +7,16 @@
 //! zeros; and the half's journal. Where the four halves begin and how long their parts are is the table in `layout`.
 #![tactic(auto)]
 
+mod counting;
 mod fault;
 mod layout;
 mod open;
 mod read;
 mod writing;
 
+pub use counting::the_half_that_counts;
 pub use fault::StoreError;
 pub use layout::{Layout, journal_area, layout_of, other};
-pub use open::open_half;
+pub use open::{open_half, open_reserved};
 pub use read::{HalfBytes, read_half};
 pub use writing::prepare;

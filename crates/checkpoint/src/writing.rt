@@ -39,8 +39,13 @@ pub fn prepare<D: Disk>(
     ensures stored { OnOk result (stored_in half (D.seen disk.new)
         ≡ Some (record { generation = generation; state = state.now })) }
     ensures durable { OnOk result (Only (D.seen disk.new) (D.images disk.new)) }
+
+    // There is room to open the half.
+    ensures room { OnOk result (HasRoom 1 1 (D.room disk.new)) }
     ensures memory { IsErrOf result StoreError.OutOfMemory
         → IsUntouched D.seen D.images disk.old disk.new }
+    ensures memory_moment { IsErrOf result StoreError.OutOfMemory
+        → LeavesOnly D.moment D.left_since disk.old disk.new (D.images disk.old) }
     ensures served { IsServed D.seen D.fault_count D.armed (IsErrOf result StoreError.Failed)
         disk.old disk.new }
 {
@@ -50,7 +55,7 @@ pub fn prepare<D: Disk>(
         generation,
         state,
     )?;
-    disk.reserve(2, body.len() as u64 + 1)?;
+    disk.reserve(3, body.len() as u64 + 2)?;
     rewrite(disk, head_area(half), &body)
 }
 
@@ -81,9 +86,14 @@ fn rewrite<D: Disk>(disk: &mut D, area: Area, body: &[u8]) -> Result<(), StoreEr
         (InArea area Quiet (D.seen disk.old)) }
     ensures written { OnOk result
         (InArea area (Rewritten body.now) (D.seen disk.old) (D.seen disk.new)) }
+    ensures writes { OnOk result ((D.room disk.old).writes ≤ (D.room disk.new).writes + 2) }
+    ensures bytes { OnOk result ((D.room disk.old).bytes
+        ≤ (D.room disk.new).bytes + (length body.now + 1)) }
     ensures durable { OnOk result (Only (D.seen disk.new) (D.images disk.new)) }
     ensures memory { IsErrOf result StoreError.OutOfMemory
         → IsUntouched D.seen D.images disk.old disk.new }
+    ensures memory_moment { IsErrOf result StoreError.OutOfMemory
+        → LeavesOnly D.moment D.left_since disk.old disk.new (D.images disk.old) }
     ensures served { IsServed D.seen D.fault_count D.armed (IsErrOf result StoreError.Failed)
         disk.old disk.new }
 {
@@ -103,6 +113,8 @@ fn close<D: Disk>(disk: &mut D, area: Area) -> Result<(), StoreError>
     ensures durable { OnOk result (Only (D.seen disk.new) (D.images disk.new)) }
     ensures memory { IsErrOf result StoreError.OutOfMemory
         → IsUntouched D.seen D.images disk.old disk.new }
+    ensures memory_moment { IsErrOf result StoreError.OutOfMemory
+        → LeavesOnly D.moment D.left_since disk.old disk.new (D.images disk.old) }
     ensures writes { (D.room disk.old).writes ≤ (D.room disk.new).writes + 1 }
     ensures bytes { (D.room disk.old).bytes ≤ (D.room disk.new).bytes + 1 }
     ensures served { IsServed D.seen D.fault_count D.armed (IsErrOf result StoreError.Failed)

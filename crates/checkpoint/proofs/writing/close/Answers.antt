@@ -1,5 +1,6 @@
 use Rattle.std.proofs.Common.{◌≡◌, ℕ, List, [], ◌∷◌, length, get_or, inl, refl, sym, ◌∙◌, subst, arith}
 use Rattle.disk_core.specs.Bytes.{Puts, Torn}
+use Rattle.disk_core.proofs.Runs.{first_run}
 use Rattle.disk_area.specs.Windows.{window, InArea}
 use Rattle.disk_area.proofs.Windows.{length-window}
 use Rattle.disk_area.proofs.Steps.{stays, as_step}
@@ -17,6 +18,12 @@ returns-in_err-gate-clause-any_moment g c =
     (g.met.D.Disk.only_now old) (InArea c.args.area Quiet (d.seen old))
     (stays c.args.area Quiet (d.seen old) (λ most. inl refl)) c.read.new.disk c.read.ensures.images
     c.read.ensures.time
+
+pub returns-in_err-gate-clause-memory_moment : goal.returns-in_err-gate-clause-memory_moment
+returns-in_err-gate-clause-memory_moment g c failed =
+    let d = g.D.Disk in
+    first_run d.moment d.left_since d.images c.args.disk.now c.read.new.disk
+    (g.met.D.Disk.only_now c.args.disk.now) c.read.ensures.images.none_new c.read.ensures.time
 
 pub returns-then-index-ne1-clause-any_moment : goal.returns-then-index-ne1-clause-any_moment
 returns-then-index-ne1-clause-any_moment g c =

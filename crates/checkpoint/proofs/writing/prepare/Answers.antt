@@ -1,7 +1,9 @@
 use Rattle.std.proofs.Common.{◌≡◌, ℕ, List, length, inl, refl, ◌∙◌, ap, subst, arith, rules}
+use Rattle.std.specs.Prelude.{Result, Ok, Err, OnOk}
 use Rattle.std.proofs.lemmas.Result.{on_ok_weaker}
 use Rattle.disk_core.proofs.Pieces.{torn_none}
-use Rattle.disk_core.proofs.Moments.{settled, joined}
+use Rattle.disk_core.proofs.Moments.{started, settled, joined}
+use Rattle.disk_core.proofs.Runs.{first_run, then_run}
 use Rattle.disk_area.specs.declared.area.Area.{Area}
 use Rattle.disk_area.specs.Windows.{InArea}
 use Rattle.checkpoint.specs.declared.layout.Layout.{Layout}
@@ -51,6 +53,27 @@ returns-in_err-body-clause-any_moment g c =
     settled d.moment d.left_since old (d.seen old) (d.images old)
     (MayClose c.args.half (d.seen old)) c.requires.nothing_pending (g.met.D.Disk.only_now old)
     (record { outside = torn_none _ _ _; reads = inl refl; beside = refl })
+
+pub returns-in_err-body-clause-memory_moment : goal.returns-in_err-body-clause-memory_moment
+returns-in_err-body-clause-memory_moment g c failed =
+    let d = g.D.Disk in
+    started d.moment d.left_since c.args.disk.now (d.images c.args.disk.now) (g.met.D.Disk.only_now c.args.disk.now)
+
+pub returns-in_err-reserve-clause-memory_moment : goal.returns-in_err-reserve-clause-memory_moment
+returns-in_err-reserve-clause-memory_moment g c failed =
+    let d = g.D.Disk in
+    first_run d.moment d.left_since d.images c.args.disk.now c.reserve.new.self
+    (g.met.D.Disk.only_now c.args.disk.now) c.reserve.ensures.images.none_new c.reserve.ensures.time
+
+pub returns-clause-memory_moment : goal.returns-clause-memory_moment
+returns-clause-memory_moment g c failed =
+    let d = g.D.Disk in
+    let old = c.args.disk.now in
+    let mid = c.reserve.new.self in
+    let first = first_run d.moment d.left_since d.images old mid
+    (g.met.D.Disk.only_now old) c.reserve.ensures.images.none_new c.reserve.ensures.time in
+    then_run d.moment d.left_since d.images old mid c.rewrite.new.disk first c.reserve.ensures.images.none_new
+    (c.rewrite.ensures.memory_moment failed)
 
 -- the body goes up to the journal's first byte
 body_is : (half generation : ℕ) (state piece body : List ℕ) (layout : Layout) → layout ≡ layout_of half
@@ -119,3 +142,15 @@ returns-clause-prepared g c = on_ok_weaker c.rewrite.result
     can_open c.args.half (g.D.Disk.seen c.args.disk.now) _ c.requires.half c.args.generation c.args.state.now
     (search rules) c.requires.short written c.requires.newer)
     c.rewrite.ensures.written
+
+-- two facts of a success
+both_ok : {T E A B C : Type 0} (result : Result T E) → OnOk result A → OnOk result B → (A → B → C) → OnOk result C
+both_ok (Ok t) a b both = both a b
+both_ok (Err e) a b both = tt
+
+pub returns-clause-room : goal.returns-clause-room
+returns-clause-room g c = both_ok c.rewrite.result c.rewrite.ensures.writes c.rewrite.ensures.bytes
+    (λ writes bytes. record {
+      enough_writes = omega (arith, writes, c.in_ok-reserve.ensures.made.enough_writes);
+      enough_bytes = omega (arith, bytes, c.in_ok-reserve.ensures.made.enough_bytes, c.deref.ensures.len);
+    })
