@@ -6,27 +6,14 @@ use Rattle.disk_core.specs.Images.{EachImage, Only, From}
 use Rattle.disk_core.specs.Moments.{LeavesOnly}
 use Rattle.disk_core.proofs.Pieces.{torn_none}
 use Rattle.disk_core.proofs.Moments.{settled, joined}
-use Rattle.disk_area.proofs.Steps.{torn_both}
+use Rattle.disk_area.proofs.Steps.{torn_both, torn_wider}
 use Rattle.disk_area.specs.Windows.{InArea}
 use Rattle.checkpoint.specs.Halves.{layout_of, begins, other, head_area, journal_area}
 use Rattle.checkpoint.specs.Counting.{MayClose, MayOpen}
 use Rattle.checkpoint.specs.declared.layout.Layout.{Layout}
 use Rattle.checkpoint.proofs.Places.{sound, placed_in, same_layout}
+use Rattle.checkpoint.proofs.Switches.{gate_in_head}
 use Rattle.event_log.specs.Beside.{InHalves}
-
--- a torn range within a wider one
-wider : (at n a m : ℕ) (x y : List ℕ) → a ≤ at → at + n ≤ a + m → Torn at n x y → Torn a m x y
-wider at n a m x y low high torn = record {
-  size = torn.size;
-  before = sym (take-take a at y low) ∙ ap (λ (xs : List ℕ). take a xs) torn.before ∙ take-take a at x low;
-  after = further y ∙ ap (λ (xs : List ℕ). drop (a + m - (at + n)) xs) torn.after ∙ sym (further x);
-}
-  where
-    place : a + m ≡ at + n + (a + m - (at + n))
-    place = omega (arith, high)
-
-    further : (xs : List ℕ) → drop (a + m) xs ≡ drop (a + m - (at + n)) (drop (at + n) xs)
-    further xs = ap (λ (k : ℕ). drop k xs) place ∙ sym (drop-drop (a + m - (at + n)) (at + n) xs)
 
 -- where a half lies in its pair
 module _ (half : ℕ) where
@@ -40,13 +27,13 @@ module _ (half : ℕ) where
       (placed_in half)
 
   pub by_head : (x y : List ℕ) → Torn (head_area half).at (head_area half).len x y → InHalves (layout_of half) x y
-  by_head x y torn = wider (begins half) ((layout_of half).journal_at + 1) (layout_of half).lower
+  by_head x y torn = torn_wider (begins half) ((layout_of half).journal_at + 1) (layout_of half).lower
       ((layout_of half).upper + (layout_of half).journal_at + (layout_of half).journal_len -
       (layout_of half).lower) x y not_before
       (omega (arith, not_before, not_behind, (sound half).some)) torn
 
   in_journal : (x y : List ℕ) → Torn (journal_area half).at (journal_area half).len x y → InHalves (layout_of half) x y
-  in_journal x y torn = wider (begins half + (layout_of half).journal_at) (layout_of half).journal_len
+  in_journal x y torn = torn_wider (begins half + (layout_of half).journal_at) (layout_of half).journal_len
       (layout_of half).lower ((layout_of half).upper + (layout_of half).journal_at + (layout_of half).journal_len -
       (layout_of half).lower) x y
       (omega (arith, not_before)) (omega (arith, not_before, not_behind)) torn
@@ -66,7 +53,10 @@ module _ (half : ℕ) where
   by_closing x y may = by_other x y may.outside
 
   pub by_opening : (x y : List ℕ) → MayOpen (other half) x y → InHalves (layout_of half) x y
-  by_opening x y may = ⊎_elim (λ closes. by_other x y closes.outside) (λ opens. by_other x y opens.outside) may
+  by_opening x y may = ⊎_elim
+      (λ shut. by_other x y (gate_in_head (other half) x y shut.gate))
+      (λ opens. by_other x y (gate_in_head (other half) x y opens.gate))
+      may
 
 module _ {D : Type 0} (moment : D → ℕ) (left_since : D → ℕ → List ℕ → Type 0) (images : D → List ℕ
     → Type 0) (layout : Layout) (old : D) (s : List ℕ) (only : Only s (images old)) (here : EachImage

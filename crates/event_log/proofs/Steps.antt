@@ -15,6 +15,7 @@ use Rattle.checkpoint.specs.Counting.{counting, IsSpare, IsNewer, MayClose, Open
 use Rattle.checkpoint.specs.declared.layout.Layout.{Layout}
 use Rattle.checkpoint.proofs.Places.{sound, paired, same_layout, pair_has}
 use Rattle.checkpoint.proofs.Counts.{counting_reads, same_counting, closing_counting, opening_counting}
+use Rattle.checkpoint.proofs.Switches.{shut_closes}
 use Rattle.checkpoint.proofs.Fronts.{journal_mine, journal_beside, journal_kept}
 use Rattle.event_log.specs.Meaning.{after_one, after_all, state_of, events_of, tells, means_by}
 use Rattle.event_log.specs.Holds.{Stands, Holds, CanOpen, StandsFor}
@@ -104,7 +105,7 @@ module _ {S : Type 0} (start : List ℕ → Option S) (step : S → List ℕ →
       → start text ≡ Some state → now ≡ Some state → Opens half d c
       → Holds start step (record { half = half; generation = generation; used = 0 }) now c
   opened half generation state now text d c lt size above stored told is opens =
-      let big : HasPair (layout_of half) c = omega (arith, size, opens.outside.size) in
+      let big : HasPair (layout_of half) c = omega (arith, size, opens.gate.size) in
       let some : 0 < length (window (journal_area half) c) =
       omega (arith, journal_long half c big, (sound half).some) in
       let first = sym (journal_first half c) ∙ opens.journal in
@@ -232,7 +233,7 @@ module _ {S : Type 0} (start : List ℕ → Option S) (step : S → List ℕ →
         → start text ≡ Some state → now ≡ Some state → MayOpen (other log.half) d c
         → MaySwitch start step log now c
     may_switch state text d c held stored told is = ⊎_elim
-        (λ may. inl (kept d c held may))
+        (λ shut. inl (kept d c held (shut_closes (other log.half) d c shut)))
         (λ opens. inr (opened (other log.half) (log.generation + 1) state now text d c
         (paired log.half held.stands.half).below
         (subst (λ (l : Layout). HasPair l d) (sym (same_layout log.half)) held.stands.size)

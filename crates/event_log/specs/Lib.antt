@@ -4,3 +4,4 @@ pub mod Doubts
 pub mod Finds
 pub mod Settles
 pub mod Beside
+pub mod Runs

@@ -1,6 +1,7 @@
 //! Making a log.
 ghost use Rattle.std.specs.Prelude.{◌≡◌, ◌≤◌, ◌<◌, Some, None, IfOk, OnOk, OnErr, IsErrOf};
-ghost use Rattle.disk_core.specs.Images.{EachImage, Only};
+ghost use Rattle.disk_core.specs.Images.{EachImage, Only, Within, From};
+ghost use Rattle.disk_core.specs.Moments.{LeavesOnly};
 ghost use Rattle.disk_core.specs.Served.{IsServed};
 ghost use Rattle.checkpoint.specs.Halves as halves;
 ghost use Rattle.event_log.specs.Beside.{InHalves};
@@ -8,7 +9,7 @@ ghost use Rattle.event_log.specs.Holds.{Holds};
 
 use crate::log::Log;
 use crate::stored::Stored;
-use checkpoint::{StoreError, open_half, prepare};
+use checkpoint::{StoreError, open_reserved, prepare};
 use disk_core::Disk;
 use std::alloc::Global;
 
@@ -34,16 +35,26 @@ impl Log {
         ensures durable { OnOk result (Only (D.seen disk.new) (D.images disk.new)) }
         ensures other { OnErr result (EachImage (D.images disk.new)
             (λ image. halves.half_of (halves.other half) image ≡ None)) }
-        // No byte outside the halves changes.
-        ensures elsewhere { OnOk result (EachImage (D.images disk.new)
+        // A crash at any moment of the call leaves the other half as nothing, and no byte outside the halves changed.
+        ensures any_moment { LeavesOnly D.moment D.left_since disk.old disk.new
+            (λ image. halves.half_of (halves.other half) image ≡ None) }
+        ensures elsewhere { LeavesOnly D.moment D.left_since disk.old disk.new
+            (From (D.images disk.old) (InHalves (halves.layout_of half))) }
+        ensures beside { OnOk result (EachImage (D.images disk.new)
             (InHalves (halves.layout_of half) (D.seen disk.old))) }
+
+        // At want of memory nothing was written.
+        ensures memory_reads { IsErrOf result StoreError.OutOfMemory
+            → D.seen disk.new ≡ D.seen disk.old }
+        ensures memory_images { IsErrOf result StoreError.OutOfMemory
+            → Within (D.images disk.old) (D.images disk.new) }
         ensures served { IsServed D.seen D.fault_count D.armed (IsErrOf result StoreError.Failed)
             disk.old disk.new }
     {
         let text = state.text(alloc)?;
         disk.sync()?;
         prepare(alloc, disk, half, 1, &text)?;
-        open_half(disk, half)?;
+        open_reserved(disk, half)?;
         Ok(Log {
             half,
             generation: 1,

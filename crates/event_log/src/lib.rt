@@ -13,10 +13,12 @@ mod format;
 mod frames;
 mod log;
 mod revive;
+mod runs;
 mod stored;
 
 pub use find::{Found, open};
 pub use frames::writes_elsewhere_leave_the_log;
 pub use log::Log;
 pub use revive::Revived;
+pub use runs::a_run_stands_for_its_events;
 pub use stored::Stored;

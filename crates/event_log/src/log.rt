@@ -7,9 +7,10 @@ ghost use Rattle.checkpoint.specs.Halves as halves;
 ghost use Rattle.event_log.specs.Beside.{InHalves};
 ghost use Rattle.event_log.specs.Holds.{Holds, StandsFor};
 ghost use Rattle.event_log.specs.Doubts.{Either, InDoubt, MaySwitch, switched, of_event};
+ghost use Rattle.event_log.specs.Runs.{KnowsAfter, settled, append_turn};
 
 use crate::stored::Stored;
-use checkpoint::{StoreError, journal_area, layout_of, open_half, other, prepare};
+use checkpoint::{StoreError, journal_area, layout_of, open_reserved, other, prepare};
 use disk_core::Disk;
 use journal::{Journal, JournalError};
 use std::alloc::Global;
@@ -51,6 +52,11 @@ impl Log {
         ensures in_doubt { IsErrOf result StoreError.Failed → EachImage (D.images disk.new)
             (InDoubt S.start S.step self.new (of_event S.step present.now event.now)) }
 
+        // Where the last generation has no room, nothing is written.
+        ensures last { self.old.generation ≡ 18446744073709551615
+            → (halves.layout_of self.old.half).journal_len < self.old.used + 6 + length event.now
+            → IsErrOf result StoreError.OutOfMemory }
+
         // Where a switch failed, `revive` will find the event lost.
         ensures switching { IsErrOf result StoreError.Failed → self.new ≡ self.old
             → (halves.layout_of self.old.half).journal_len < self.old.used + 6 + length event.now
@@ -64,6 +70,9 @@ impl Log {
             → LeavesOnly D.moment D.left_since disk.old disk.new
             (StandsFor S.start S.step (halves.layout_of self.old.half) (Some present.now)) }
         ensures pair { halves.layout_of self.new.half ≡ halves.layout_of self.old.half }
+        // What is known then, for runs of calls.
+        ensures known { KnowsAfter S.start S.step self.new (settled present.now)
+            (append_turn event.now result) (D.images disk.new) }
         // No byte outside the halves changes.
         ensures elsewhere { LeavesOnly D.moment D.left_since disk.old disk.new
             (InHalves (halves.layout_of self.old.half) (D.seen disk.old)) }
@@ -103,6 +112,9 @@ impl Log {
         requires long { S.longest ≤ (halves.layout_of self.old.half).state_max }
         ensures stays { self.old.used + 6 + length event.now
             ≤ (halves.layout_of self.old.half).journal_len → self.new ≡ self.old }
+        ensures last { self.old.generation ≡ 18446744073709551615
+            → (halves.layout_of self.old.half).journal_len < self.old.used + 6 + length event.now
+            → IsErrOf result StoreError.OutOfMemory }
         ensures room { OnOk result (self.new.used + 6 + length event.now
             ≤ (halves.layout_of self.new.half).journal_len) }
         ensures holds { OnOk result (EachImage (D.images disk.new)
@@ -128,7 +140,7 @@ impl Log {
     }
 
     /// Writes the present state to the other half, with the next generation, and goes on there, behind no record.
-    pub fn switch<D: Disk, S: Stored>(
+    fn switch<D: Disk, S: Stored>(
         &mut self,
         alloc: Global,
         disk: &mut D,
@@ -140,6 +152,9 @@ impl Log {
         requires storable { S.storable present.now }
         requires long { S.longest ≤ (halves.layout_of self.old.half).state_max }
         ensures switched { OnOk result (self.new ≡ switched self.old) }
+        // No generation is above the last u64.
+        ensures last { self.old.generation ≡ 18446744073709551615
+            → IsErrOf result StoreError.OutOfMemory }
         ensures holds { OnOk result (EachImage (D.images disk.new)
             (Holds S.start S.step self.new (Some present.now))) }
         ensures durable { OnOk result (Only (D.seen disk.new) (D.images disk.new)) }
@@ -165,7 +180,7 @@ impl Log {
         let generation = self.generation + 1;
         let text = present.text(alloc)?;
         prepare(alloc, disk, half, generation, &text)?;
-        open_half(disk, half)?;
+        open_reserved(disk, half)?;
         *self = Log {
             half,
             generation,

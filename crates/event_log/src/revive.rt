@@ -7,6 +7,7 @@ ghost use Rattle.checkpoint.specs.Halves.{layout_of};
 ghost use Rattle.event_log.specs.Holds.{Holds};
 ghost use Rattle.event_log.specs.Doubts.{Either, InDoubt, MaySwitch, ended, of_event};
 ghost use Rattle.event_log.specs.Settles.{settles};
+ghost use Rattle.event_log.specs.Runs.{KnowsAfter, in_doubt, revive_turn};
 
 use crate::find::find;
 use crate::log::Log;
@@ -54,6 +55,9 @@ impl Log {
         ensures in_doubt { OnErr result (EachImage (D.images disk.new)
             (InDoubt S.start S.step self.new (of_event S.step present.now event.now))) }
         ensures same { OnErr result (self.new ≡ self.old) }
+        // What is known then, for runs of calls.
+        ensures known { KnowsAfter S.start S.step self.new (in_doubt present.now event.now)
+            (revive_turn result) (D.images disk.new) }
         ensures served { IsServed D.seen D.fault_count D.armed (IsErrOf result StoreError.Failed)
             disk.old disk.new }
     {

@@ -8,7 +8,7 @@ use Rattle.checkpoint.specs.declared.layout.Layout.{Layout}
 use Rattle.event_log.specs.Meaning.{current}
 use Rattle.event_log.specs.Meaning.{events_of}
 use Rattle.event_log.specs.Finds.{IsFound}
-use Rattle.event_log.proofs.Runs.{then_run, same_both}
+use Rattle.disk_core.proofs.Runs.{then_run, same_both}
 use Rattle.event_log.proofs.OneLog.{can_go_on}
 use Rattle.event_log.proofs.find.find.Goals as goal
 

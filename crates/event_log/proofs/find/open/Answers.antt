@@ -9,7 +9,7 @@ use Rattle.event_log.specs.Finds.{IsFound, found_state}
 use Rattle.event_log.specs.declared.find.Found.{Found}
 use Rattle.event_log.proofs.Steps.{stands_for}
 use Rattle.event_log.proofs.OneLog.{found_holds}
-use Rattle.event_log.proofs.Runs.{first_run, then_run}
+use Rattle.disk_core.proofs.Runs.{first_run, then_run}
 use Rattle.event_log.proofs.find.open.Goals as goal
 
 pub returns-in_err-sync-clause-any_moment : goal.returns-in_err-sync-clause-any_moment

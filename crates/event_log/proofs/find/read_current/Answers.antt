@@ -1,7 +1,7 @@
 use Rattle.std.proofs.Common.{◌≡◌, ◌⊎◌, ◌+◌, ◌<◌, ℕ, List, subst, sym, arith}
 use Rattle.checkpoint.specs.Halves.{Body, HasHalf, layout_of}
 use Rattle.event_log.proofs.Pairs.{next_below, low_below, low_has, next_has, in_pair, if_some}
-use Rattle.event_log.proofs.Runs.{then_run}
+use Rattle.disk_core.proofs.Runs.{then_run}
 use Rattle.event_log.proofs.find.read_current.Goals as goal
 
 pub read_told-requires-clause-half : goal.read_told-requires-clause-half

@@ -3,7 +3,7 @@ use Rattle.disk_area.specs.declared.area.Area.{Area}
 use Rattle.disk_area.specs.Windows.{window, IsInside}
 use Rattle.journal.specs.Records.{journal_list}
 use Rattle.checkpoint.specs.Halves.{Body}
-use Rattle.event_log.proofs.Runs.{first_run}
+use Rattle.disk_core.proofs.Runs.{first_run}
 use Rattle.event_log.proofs.Steps.{journal_inside}
 use Rattle.event_log.proofs.OneLog.{few_taken, found_is}
 use Rattle.event_log.proofs.find.with_records.Goals as goal

@@ -12,6 +12,7 @@ use Rattle.checkpoint.specs.Halves.{layout_of}
 use Rattle.event_log.specs.Beside.{InHalves}
 use Rattle.event_log.proofs.Elsewhere.{then_elsewhere}
 use Rattle.event_log.proofs.Switches.{at_end}
+use Rattle.event_log.proofs.Histories.{append_known}
 use Rattle.event_log.proofs.log.Log.append.Goals as goal
 
 pub returns-in_err-make_room-clause-any_moment : goal.returns-in_err-make_room-clause-any_moment
@@ -119,3 +120,20 @@ returns-in_err-make_room-clause-switching g c failed same full =
     (MaySwitch s.start s.step c.args.self.now (Some c.args.present.now))
     (λ y. g.met.D.Disk.counts_now new (d.moment old) y c.make_room.ensures.any_moment.later)
     c.make_room.ensures.any_moment
+
+pub returns-in_err-make_room-clause-known : goal.returns-in_err-make_room-clause-known
+returns-in_err-make_room-clause-known g c =
+    let s = g.S.Stored in
+    let result = c.from_residual.result in
+    append_known s.start s.step c.make_room.new.self c.args.present.now c.args.event.now
+    (g.D.Disk.images c.make_room.new.disk) result
+    (let p = err_from_is_err_and result c.from_residual.ensures.1 in rw p.1 tt)
+    (returns-in_err-make_room-clause-in_doubt g c)
+    (λ failed. (returns-in_err-make_room-clause-memory g c failed).0)
+
+pub returns-clause-known : goal.returns-clause-known
+returns-clause-known g c =
+    let s = g.S.Stored in
+    append_known s.start s.step c.append_here.new.self c.args.present.now c.args.event.now
+    (g.D.Disk.images c.append_here.new.disk) c.append_here.result c.append_here.ensures.acknowledged
+    c.append_here.ensures.in_doubt (λ failed. (c.append_here.ensures.memory failed).0)

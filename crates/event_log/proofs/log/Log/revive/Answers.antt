@@ -1,13 +1,14 @@
-use Rattle.std.proofs.Common.{ℕ, List, Some, sym, ◌∙◌, subst}
+use Rattle.std.proofs.Common.{ℕ, List, Some, Ok, sym, ◌∙◌, subst}
 use Rattle.std.proofs.lemmas.Result.{err_from_is_err_and}
 use Rattle.disk_core.proofs.Moments.{weaker}
 use Rattle.checkpoint.specs.Halves.{layout_of}
 use Rattle.event_log.specs.Holds.{Holds}
 use Rattle.event_log.specs.Doubts.{Either, ended, of_event}
 use Rattle.event_log.specs.declared.revive.Revived.{Revived}
-use Rattle.event_log.proofs.Runs.{first_run, then_run}
+use Rattle.disk_core.proofs.Runs.{first_run, then_run}
 use Rattle.event_log.proofs.Steps.{either}
 use Rattle.event_log.proofs.Reviving.{doubt_size, doubt_opens, doubt_reads, settled, lost}
+use Rattle.event_log.proofs.Histories.{revive_known}
 use Rattle.event_log.proofs.log.Log.revive.Goals as goal
 
 pub returns-in_err-restart-clause-any_moment : goal.returns-in_err-restart-clause-any_moment
@@ -152,3 +153,26 @@ returns-clause-no_writes g c =
 
 pub returns-clause-images : goal.returns-clause-images
 returns-clause-images g c x now = c.restart.ensures.images x (c.find.ensures.images.none_new x now)
+
+pub returns-in_err-restart-clause-known : goal.returns-in_err-restart-clause-known
+returns-in_err-restart-clause-known g c =
+    let s = g.S.Stored in
+    revive_known s.start s.step c.args.self.now c.args.present.now c.args.event.now
+    (g.D.Disk.images c.restart.new.self) c.from_residual.result
+    (let p = err_from_is_err_and c.from_residual.result c.from_residual.ensures.1 in rw p.1 tt)
+    (returns-in_err-restart-clause-in_doubt g c)
+
+pub returns-in_err-found-clause-known : goal.returns-in_err-found-clause-known
+returns-in_err-found-clause-known g c =
+    let s = g.S.Stored in
+    let result = c.from_residual-in_err-found.result in
+    revive_known s.start s.step c.args.self.now c.args.present.now c.args.event.now
+    (g.D.Disk.images c.find.new.disk) result
+    (let p = err_from_is_err_and result c.from_residual-in_err-found.ensures.1 in rw p.1 tt)
+    (returns-in_err-found-clause-in_doubt g c)
+
+pub returns-clause-known : goal.returns-clause-known
+returns-clause-known g c =
+    let s = g.S.Stored in
+    revive_known s.start s.step c.in-Some.found.log c.args.present.now c.args.event.now
+    (g.D.Disk.images c.find.new.disk) (Ok c.settle-revived.result) (returns-clause-decided g c) tt

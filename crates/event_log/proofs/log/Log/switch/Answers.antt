@@ -103,26 +103,26 @@ returns-in_err-prepare-clause-elsewhere g c =
     weaker d.moment d.left_since old mid (MayClose (other log.half) (d.seen old))
     (InHalves (layout_of log.half) (d.seen old)) (by_closing log.half (d.seen old)) closing
 
-pub open_half-requires-clause-half : goal.open_half-requires-clause-half
-open_half-requires-clause-half g c =
+pub open_reserved-requires-clause-half : goal.open_reserved-requires-clause-half
+open_reserved-requires-clause-half g c =
     other_below c.args.self.now.half _ (c.requires.holds _
     (g.met.D.Disk.reads_as_image c.args.disk.now)).stands.half c.other-half.ensures
 
-pub open_half-requires-clause-inside : goal.open_half-requires-clause-inside
-open_half-requires-clause-inside g c =
+pub open_reserved-requires-clause-inside : goal.open_reserved-requires-clause-inside
+open_reserved-requires-clause-inside g c =
     let held = c.requires.holds _ (g.met.D.Disk.reads_as_image c.args.disk.now) in
     other_has c.args.self.now.half _ (g.D.Disk.seen c.prepare.new.disk) held.stands.half c.other-half.ensures
     (omega (arith, c.prepare.ensures.served.same_size, held.stands.size))
 
-pub returns-in_err-open_half-clause-any_moment : goal.returns-in_err-open_half-clause-any_moment
-returns-in_err-open_half-clause-any_moment g c =
+pub returns-in_err-open_reserved-clause-any_moment : goal.returns-in_err-open_reserved-clause-any_moment
+returns-in_err-open_reserved-clause-any_moment g c =
     let d = g.D.Disk in
     let m = g.met.D.Disk in
     let s = g.S.Stored in
     let log = c.args.self.now in
     let old = c.args.disk.now in
     let mid = c.prepare.new.disk in
-    let new = c.open_half.new.disk in
+    let new = c.open_reserved.new.disk in
     let state = Some c.args.present.now in
     let held = c.requires.holds _ (m.reads_as_image old) in
     let closing =
@@ -142,25 +142,25 @@ returns-in_err-open_half-clause-any_moment g c =
     })) c.other-half.ensures c.in_ok-prepare.ensures.stored in
     let opens =
     subst (λ (h : ℕ). LeavesOnly d.moment d.left_since mid new
-    (MayOpen h (d.seen mid))) c.other-half.ensures c.open_half.ensures.any_moment in
+    (MayOpen h (d.seen mid))) c.other-half.ensures c.open_reserved.ensures.any_moment in
     opening d.moment d.left_since d.images s.start s.step log state old c.requires.holds mid new c.args.present.now
     c.deref.result.now (d.seen mid) mid_held stored (ap s.start c.deref.ensures.value
     ∙ c.in_ok-text.ensures.text) refl first opens
 
-pub returns-in_err-open_half-clause-elsewhere : goal.returns-in_err-open_half-clause-elsewhere
-returns-in_err-open_half-clause-elsewhere g c =
+pub returns-in_err-open_reserved-clause-elsewhere : goal.returns-in_err-open_reserved-clause-elsewhere
+returns-in_err-open_reserved-clause-elsewhere g c =
     let d = g.D.Disk in
     let m = g.met.D.Disk in
     let log = c.args.self.now in
     let old = c.args.disk.now in
     let mid = c.prepare.new.disk in
-    let new = c.open_half.new.disk in
+    let new = c.open_reserved.new.disk in
     let closing =
     subst (λ (h : ℕ). LeavesOnly d.moment d.left_since old mid
     (MayClose h (d.seen old))) c.other-half.ensures c.prepare.ensures.any_moment in
     let opens =
     subst (λ (h : ℕ). LeavesOnly d.moment d.left_since mid new
-    (MayOpen h (d.seen mid))) c.other-half.ensures c.open_half.ensures.any_moment in
+    (MayOpen h (d.seen mid))) c.other-half.ensures c.open_reserved.ensures.any_moment in
     let first =
     weaker d.moment d.left_since old mid (MayClose (other log.half) (d.seen old))
     (InHalves (layout_of log.half) (d.seen old)) (by_closing log.half (d.seen old)) closing in
@@ -176,7 +176,7 @@ returns-clause-any_moment g c =
     let log = c.args.self.now in
     let old = c.args.disk.now in
     let mid = c.prepare.new.disk in
-    let new = c.open_half.new.disk in
+    let new = c.open_reserved.new.disk in
     let state = Some c.args.present.now in
     let held = c.requires.holds _ (m.reads_as_image old) in
     let closing =
@@ -196,7 +196,7 @@ returns-clause-any_moment g c =
     })) c.other-half.ensures c.in_ok-prepare.ensures.stored in
     let opens =
     subst (λ (h : ℕ). LeavesOnly d.moment d.left_since mid new
-    (MayOpen h (d.seen mid))) c.other-half.ensures c.open_half.ensures.any_moment in
+    (MayOpen h (d.seen mid))) c.other-half.ensures c.open_reserved.ensures.any_moment in
     opening d.moment d.left_since d.images s.start s.step log state old c.requires.holds mid new c.args.present.now
     c.deref.result.now (d.seen mid) mid_held stored (ap s.start c.deref.ensures.value
     ∙ c.in_ok-text.ensures.text) refl first opens
@@ -208,44 +208,19 @@ returns-clause-elsewhere g c =
     let log = c.args.self.now in
     let old = c.args.disk.now in
     let mid = c.prepare.new.disk in
-    let new = c.open_half.new.disk in
+    let new = c.open_reserved.new.disk in
     let closing =
     subst (λ (h : ℕ). LeavesOnly d.moment d.left_since old mid
     (MayClose h (d.seen old))) c.other-half.ensures c.prepare.ensures.any_moment in
     let opens =
     subst (λ (h : ℕ). LeavesOnly d.moment d.left_since mid new
-    (MayOpen h (d.seen mid))) c.other-half.ensures c.open_half.ensures.any_moment in
+    (MayOpen h (d.seen mid))) c.other-half.ensures c.open_reserved.ensures.any_moment in
     let first =
     weaker d.moment d.left_since old mid (MayClose (other log.half) (d.seen old))
     (InHalves (layout_of log.half) (d.seen old)) (by_closing log.half (d.seen old)) closing in
     let at_mid = first.each _ (m.counts_now mid (d.moment old) _ first.later (m.reads_as_image mid)) in
     then_elsewhere d.moment d.left_since (layout_of log.half) old mid new (d.seen old) (d.seen mid)
     (MayOpen (other log.half) (d.seen mid)) first at_mid (by_opening log.half (d.seen mid)) opens
-
-pub returns-in_err-open_half-clause-memory : goal.returns-in_err-open_half-clause-memory
-returns-in_err-open_half-clause-memory g c =
-    let d = g.D.Disk in
-    let m = g.met.D.Disk in
-    let s = g.S.Stored in
-    let log = c.args.self.now in
-    let old = c.args.disk.now in
-    let mid = c.prepare.new.disk in
-    let new = c.open_half.new.disk in
-    let state = Some c.args.present.now in
-    let held = c.requires.holds _ (m.reads_as_image old) in
-    let closing =
-    subst (λ (h : ℕ). LeavesOnly d.moment d.left_since old mid
-    (MayClose h (d.seen old))) c.other-half.ensures c.prepare.ensures.any_moment in
-    let mid_held =
-    kept s.start s.step log state (d.seen old) (d.seen mid) held
-    (closing.each _ (m.counts_now mid (d.moment old) _ closing.later (m.reads_as_image mid))) in
-    let p = err_from_is_err_and c.from_residual-in_err-open_half.result c.from_residual-in_err-open_half.ensures.1 in
-    rw (p.1, p.2) (λ failed.
-    let same = c.in_err-open_half.ensures.memory failed in (
-      λ x now. subst (λ (i : List ℕ). Holds s.start s.step log state i)
-          (sym (c.in_ok-prepare.ensures.durable x (same.same_images.none_new x now))) mid_held,
-      λ x now. c.in_ok-prepare.ensures.durable x (same.same_images.none_new x now) ∙ sym same.same_bytes,
-    ))
 
 pub returns-clause-holds : goal.returns-clause-holds
 returns-clause-holds g c x now =
@@ -255,7 +230,7 @@ returns-clause-holds g c x now =
     let log = c.args.self.now in
     let old = c.args.disk.now in
     let mid = c.prepare.new.disk in
-    let new = c.open_half.new.disk in
+    let new = c.open_reserved.new.disk in
     let state = Some c.args.present.now in
     let held = c.requires.holds _ (m.reads_as_image old) in
     let closing =
@@ -274,7 +249,7 @@ returns-clause-holds g c x now =
     (newer s.start s.step log mid_held.text (d.seen mid) mid_held.stands) in
     opened s.start s.step half (log.generation + 1) c.args.present.now state c.deref.result.now
     (d.seen mid) x lt size above c.in_ok-prepare.ensures.stored (ap s.start c.deref.ensures.value
-    ∙ c.in_ok-text.ensures.text) refl (c.in_ok-open_half.ensures.opened x now)
+    ∙ c.in_ok-text.ensures.text) refl (c.in_ok-open_reserved.ensures.opened x now)
 
 pub returns-clause-pair : goal.returns-clause-pair
 returns-clause-pair g c =
