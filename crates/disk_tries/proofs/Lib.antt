@@ -1,2 +1,3 @@
 mod Zeros
 pub mod FourHalves
+pub mod Folds
