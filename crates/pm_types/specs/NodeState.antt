@@ -1,5 +1,5 @@
 -- What a node is, apart from where its bytes lie.
-use Rattle.std.specs.Prelude.{ℕ, Bool, true, false, ◌==◌, List, [], ◌∷◌, Option, Some, None, slice_index_or}
+use Rattle.std.specs.Prelude.{ℕ, Bool, true, false, not, ◌||◌, ◌==◌, List, [], ◌∷◌, Option, Some, None, slice_index_or}
 use Rattle.ucm_base.specs.Parts.{Bytes}
 use Rattle.pm_types.specs.declared.clusters.Cluster.{Cluster}
 use Rattle.ucm_base.specs.declared.parts.Part.{Part}
@@ -68,6 +68,10 @@ phase_code Processed = 3
 
 abbrev pub is_in : Phase → Header → Bool
 is_in phase h = phase_code h.phase == phase_code phase
+
+-- whether a transfer stays where a session ends: it wasn't processed, and isn't in processing
+abbrev pub outlasts : Header → Bool
+outlasts h = not (is_in BeingProcessed h || is_in Processed h)
 
 abbrev pub status_code : Status → ℕ
 status_code Idle = 0

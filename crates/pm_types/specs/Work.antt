@@ -1,12 +1,12 @@
 -- The work table: what one unit of work does.
-use Rattle.std.specs.Prelude.{ℕ, ◌+◌, Bool, not, ◌||◌, nat_lt, if◌then◌else◌, List, ◌++◌, length, filter, slice_set, option_and_then, Option, Some, None}
+use Rattle.std.specs.Prelude.{ℕ, ◌+◌, Bool, nat_lt, if◌then◌else◌, List, ◌++◌, length, filter, slice_set, option_and_then, Option, Some, None}
 use Rattle.ucm_base.specs.Parts.{Bytes}
 use Rattle.ucm_base.specs.declared.parts.Part.{Part}
 use Rattle.pm_types.specs.declared.replies.EndMark.{EndMark}
 use Rattle.pm_types.specs.declared.status.Phase.TheVariants.{Processing as BeingProcessed, Processed}
 use Rattle.pm_types.specs.declared.status.Status.{Status}
 use Rattle.pm_types.specs.declared.status.Status.TheVariants.{Idle, Ready, Processing, Activating, Verifying, Activated, RollingBack, RolledBack, CleaningUp}
-use Rattle.pm_types.specs.NodeState.{NodeState, Session, is_in}
+use Rattle.pm_types.specs.NodeState.{NodeState, Session, outlasts}
 use Rattle.pm_types.specs.Clusters.{planned, changes_of, all_units}
 use Rattle.pm_types.specs.Transfers.{with_phase, transfer_of, parts_of}
 
@@ -59,7 +59,7 @@ end_mark x = elim x.outcome [ None ↦ None | Some outcome ↦ Some (record { ta
 abbrev pub clean_up_unit : NodeState → Session → NodeState
 clean_up_unit s x = record s {
   status = Idle;
-  transfers = filter (λ t. not (is_in BeingProcessed t.header || is_in Processed t.header)) s.transfers;
+  transfers = filter (λ t. outlasts t.header) s.transfers;
   session = None;
   ended = slice_set s.ended x.owner (end_mark x);
 }

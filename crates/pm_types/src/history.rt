@@ -1,5 +1,6 @@
 //! A node's history: its entries, and the lines that it keeps of the newest.
-ghost use Rattle.std.specs.Prelude.{◌≡◌, ◌∷◌, ◌++◌, [], IfOk};
+ghost use Rattle.std.specs.Prelude.{◌≡◌, ◌≤◌, ◌∷◌, ◌++◌, [], length, IfOk};
+ghost use Rattle.ucm_base.specs.Limits.{line_limit};
 ghost use Rattle.pm_types.specs.Steps.{newest};
 
 use crate::{Call, CallName, Reply, Status};
@@ -74,6 +75,14 @@ impl NewestLines {
     {
         let ring = HeapCircularBuffer::with_capacity(alloc, LINE_LIMIT as usize)?;
         Ok(NewestLines { ring })
+    }
+
+    /// How many lines there are.
+    pub fn len(&self) -> usize
+        ensures count { result ≡ length self.now }
+        ensures few { result ≤ line_limit }
+    {
+        self.ring.len()
     }
 
     /// The lines, in order, as two pieces.

@@ -25,6 +25,6 @@ pub use queries::{
     Answer, ChangeInfo, ChangeList, ClusterInfo, ClusterList, PackageInfo, PackageList, Query,
 };
 pub use replies::{EndMark, IdList, Reached, Refusal, Reply, SessionMark, Synced, Worked};
-pub use state::{Changes, Clusters, Kept, Session, State, StoredTransfer, TransferList};
+pub use state::{Changes, Clusters, Kept, Session, State, StoredTransfer, TransferList, Transfers};
 pub use status::{Outcome, Phase, Status};
 pub use transfers::{ExitVerdict, Header};

@@ -1,5 +1,7 @@
 //! A node's state as it is kept: where the bytes lie in place of the bytes.
-ghost use Rattle.std.specs.Prelude.{◌≡◌, ◌<◌, ◌≤◌, ◌+◌, ◌++◌, ◌∷◌, [], length, vec_capacity, IfOk};
+ghost use Rattle.std.specs.Prelude.{◌≡◌, ◌==◌, ◌<◌, ◌≤◌, ◌+◌, ◌++◌, ◌∷◌, [], not, filter, length, slice_index_or, slice_set, IfOk};
+ghost use Rattle.pm_types.specs.declared.state.StoredTransfer.{StoredTransfer as stored};
+ghost use Rattle.pm_types.specs.NodeState.{outlasts};
 ghost use Rattle.pm_types.specs.Stored.{fresh_state};
 ghost use Rattle.ucm_base.specs.Limits.{cluster_limit, transfer_limit};
 
@@ -56,22 +58,69 @@ impl TransferList {
         Ok(TransferList { items })
     }
 
-    /// The list of these transfers. It takes no memory.
-    pub fn of(items: Vec<StoredTransfer>) -> TransferList
-        requires few { length items.items ≤ transfer_limit }
-        requires room { transfer_limit ≤ vec_capacity items }
-        ensures { result ≡ items.items }
+    /// The list of these transfers, with room for eight.
+    pub fn of(mut items: Vec<StoredTransfer>) -> Result<TransferList, AllocError>
+        requires { length items.items ≤ transfer_limit }
+        ensures { IfOk result (λ list. list ≡ items.items) }
     {
-        TransferList { items }
+        items.reserve(TRANSFER_LIMIT as usize - items.len())?;
+        Ok(TransferList { items })
     }
 
-    /// The transfers, with room for eight.
-    pub fn into_vec(self) -> Vec<StoredTransfer>
-        ensures items { result.items ≡ self }
-        ensures few { length self ≤ transfer_limit }
-        ensures room { transfer_limit ≤ vec_capacity result }
+    /// Adds a transfer behind the others. It takes no memory.
+    pub fn push(&mut self, transfer: StoredTransfer)
+        requires { length self.old < transfer_limit }
+        ensures { self.new ≡ self.old ++ transfer ∷ [] }
     {
-        self.items
+        self.items.push_reserved(transfer);
+    }
+
+    /// Adds a transfer that begins, behind the others. It takes no memory.
+    pub fn begin(&mut self, header: Header, slot: u8)
+        requires { length self.old < transfer_limit }
+        ensures { self.new
+            ≡ self.old ++ record { header = header; slot = slot; contents = [] } ∷ [] }
+    {
+        let contents = Contents::none(*self.items.allocator());
+        self.push(StoredTransfer {
+            header,
+            slot,
+            contents,
+        });
+    }
+
+    /// Changes the header of the transfer at a place.
+    pub fn set_header(&mut self, place: usize, header: Header)
+        requires { place < length self.old }
+        ensures { (t : stored) → t ≡ slice_index_or self.old place t
+            → self.new ≡ slice_set self.old place (record t { header = header }) }
+    {
+        self.items[place].header = header;
+    }
+
+    /// Changes the header of the transfer at a place, and what its bytes are.
+    pub fn set_whole(&mut self, place: usize, header: Header, contents: Contents)
+        requires { place < length self.old }
+        ensures { (t : stored) → t ≡ slice_index_or self.old place t → self.new
+            ≡ slice_set self.old place (record t { header = header; contents = contents }) }
+    {
+        let transfer = &mut self.items[place];
+        transfer.header = header;
+        transfer.contents = contents;
+    }
+
+    /// Takes out the transfer of this id.
+    pub fn remove(&mut self, id: u32)
+        ensures { self.new ≡ filter (λ t. not (t.header.id == id)) self.old }
+    {
+        self.items.retain(|t| t.header.id != id);
+    }
+
+    /// Takes out the transfers that were processed or are in processing.
+    pub fn remove_processed(&mut self)
+        ensures { self.new ≡ filter (λ t. outlasts t.header) self.old }
+    {
+        self.items.retain(|t| t.header.outlasts());
     }
 
     /// The transfers, in order.
@@ -80,6 +129,32 @@ impl TransferList {
         ensures form { length self.now ≤ transfer_limit }
     {
         self.items.as_slice()
+    }
+}
+
+/// A node's transfers, and the id that the next one gets.
+#[derive(Drop)]
+pub struct Transfers {
+    pub next_id: u32,
+    pub list: TransferList,
+}
+
+impl Transfers {
+    /// These transfers, and the next id. It takes no memory.
+    pub fn of(next: u32, list: TransferList) -> Transfers
+        ensures { result ≡ record { next_id = next; list = list } }
+    {
+        Transfers {
+            next_id: next,
+            list,
+        }
+    }
+
+    /// The next id, and the transfers. It takes no memory.
+    pub fn into_parts(self) -> (u32, TransferList)
+        ensures { result ≡ (self.next_id, self.list) }
+    {
+        (self.next_id, self.list)
     }
 }
 
@@ -214,9 +289,8 @@ impl Model for Session {
 #[derive(Drop)]
 pub struct State {
     pub status: Status,
-    pub next_id: u32,
+    pub transfers: Transfers,
     pub running: Clusters,
-    pub transfers: TransferList,
     pub session: Option<Session>,
     /// For each client its last number and the reply to it.
     pub last: [Option<Kept>; CLIENT_LIMIT as usize],
@@ -236,9 +310,9 @@ impl Model for State {
 
     ghost view = { λ s. record {
       status = s.status;
-      next_id = s.next_id;
+      next_id = s.transfers.next_id;
       running = s.running;
-      transfers = s.transfers;
+      transfers = s.transfers.list;
       session = s.session;
       last = s.last;
       ended = s.ended;
@@ -254,9 +328,8 @@ impl State {
     {
         Ok(State {
             status: Status::Idle,
-            next_id: 1,
+            transfers: Transfers::of(1, TransferList::new(alloc)?),
             running,
-            transfers: TransferList::new(alloc)?,
             session: None,
             last: [None; CLIENT_LIMIT as usize],
             ended: [None; CLIENT_LIMIT as usize],

@@ -1,4 +1,6 @@
 //! Transfers of software packages, apart from their bytes.
+ghost use Rattle.std.specs.Prelude.{◌≡◌};
+ghost use Rattle.pm_types.specs.NodeState.{outlasts};
 
 use crate::{Contents, Phase, Refusal};
 use ucm_base::ClientId;
@@ -15,6 +17,18 @@ pub struct Header {
     /// The counter that the next block carries; the first is 1.
     pub next_counter: u64,
     pub phase: Phase,
+}
+
+impl Header {
+    /// Whether the transfer stays where a session ends.
+    pub fn outlasts(&self) -> bool
+        ensures { result ≡ outlasts self.now }
+    {
+        match self.phase {
+            Phase::Processing | Phase::Processed => false,
+            Phase::Transferring | Phase::Transferred => true,
+        }
+    }
 }
 
 /// What reading a transfer's bytes as a package says.
