@@ -20,7 +20,7 @@ pub fn consistency_is_kept()
 {}
 
 /// Over every list of calls and units, the entries of what was done are a legal history, in which
-/// just the clusters with the names that fail don't pass.
+/// just the clusters with the names that fail don't pass, and which leads to the state that they led to.
 pub fn histories_are_legal()
     ensures law { (read : Reading) → MakesLegal read }
 {}
