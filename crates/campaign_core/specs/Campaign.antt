@@ -16,7 +16,7 @@ use Rattle.campaign_core.specs.declared.events.CampaignRefusal.TheVariants.{Oper
 use Rattle.campaign_core.specs.declared.events.MasterEvent.{MasterEvent}
 use Rattle.campaign_core.specs.declared.events.MasterEvent.TheVariants.{Start, Begin, PhaseTo, VoteOf, CancelAsked, Decide, EndedAt, Enter}
 use Rattle.campaign_core.specs.declared.fold.Current.{Current}
-use Rattle.campaign_core.specs.declared.table.TheConstants.{CAMPAIGN_LIMIT}
+use Rattle.ucm_base.specs.Limits.{campaign_limit}
 use Rattle.campaign_core.specs.declared.fold.Fold.{Fold}
 use Rattle.campaign_core.specs.Nodes.{part_of, with_part, flag_of, any_flag, all_flagged}
 
@@ -140,10 +140,6 @@ meets c (Enter r) = all_ended c && is_result_of c.decision r
 -- every earlier campaign has a lower number
 abbrev pub all_below : ℕ → List (ℕ × CampaignResult) → Bool
 all_below k earlier = list_all (λ e. nat_lt e.0 k) earlier
-
--- earlier campaigns and a current one, together at most
-abbrev pub campaign_limit : ℕ
-campaign_limit = CAMPAIGN_LIMIT
 
 abbrev pub may_begin : Fold → ℕ → NodeSet → Bool
 may_begin f k named =

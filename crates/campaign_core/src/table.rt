@@ -9,10 +9,8 @@ use crate::{
     Phase, Vote,
 };
 use pm_types::Outcome;
+use ucm_base::limits::CAMPAIGN_LIMIT;
 use ucm_base::{NodeId, NodeSet};
-
-/// Earlier campaigns and a current one, together at most.
-pub const CAMPAIGN_LIMIT: usize = 4096;
 
 fn is_next(phase: Option<Phase>, next: Phase) -> bool
     ensures { result ≡ is_next phase next }
