@@ -4,4 +4,3 @@ pub mod Lists
 pub mod Meanings
 pub mod Slots
 pub mod Tables
-pub mod Valid

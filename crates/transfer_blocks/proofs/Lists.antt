@@ -4,7 +4,6 @@ use Rattle.std.specs.Prelude.{find, IfSome, nat_lt}
 use Rattle.std.specs.List.{position, position_or_len, AllByRecursion}
 use Rattle.std.proofs.lemmas.Bool.{ltb-true, ltb-false}
 use Rattle.std.proofs.lemmas.List.Folds.{find_at}
-use Rattle.std.proofs.lemmas.List.Quantifiers.{position-Some}
 use Rattle.std.proofs.lemmas.Option.{slice_get-get_or, slice_get_past}
 
 module _ {X : Type 0} (P : X → Type 0) where
@@ -62,11 +61,6 @@ position-none {X} p xs none = by-test (nat_lt (position_or_len p xs) (length xs)
         → cond b (Some (position_or_len p xs)) None ≡ None → find p xs ≡ None
     by-test true lt some = absurd (cc some)
     by-test false lt some = find_at p xs ∙ slice_get_past xs _ (ltb-false _ _ lt)
-
-pub position-passes : {X : Type 0} (p : X → Bool) (xs : List X) (o : Option ℕ) → o ≡ position p xs
-    → IfSome o (λ i. (d : X) → p (get_or xs i d) ≡ true)
-position-passes p xs None is = tt
-position-passes p xs (Some i) is = λ d. (position-Some p xs i d (sym is)).1
 
 -- where a search finds none, none passes
 pub none-passes : {X : Type 0} (p : X → Bool) (xs : List X) → find p xs ≡ None → AllByRecursion (λ x. p x ≡ false) xs

@@ -50,7 +50,7 @@ module _ (slot at n : ℕ) (old new : Areas) (is : slot < transfer_limit) (fit :
   pub side-stands : (e : Extent) → on_side new e ≡ on_side old e
   side-stands e = ap (λ a. on_side a e) left.elsewhere
 
--- a search, a list of ids and a filter look at headers alone, so that they say the same of transfers and of what they mean
+-- a search, a list of ids and a filter look at headers alone, so they say the same of transfers and of what they mean
 module _ (read : Reading) (areas : Areas) where
   pub header-means : (test : Header → Bool) (ts : List StoredTransfer)
       → header_of (find (λ t. test t.header) (map (transfer_meaning read areas) ts))

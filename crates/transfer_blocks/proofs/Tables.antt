@@ -1,17 +1,21 @@
 -- The transfers stay a table: their ids and their slots differ, their counts lie in their bounds.
-use Rattle.std.proofs.Common.{◌≡◌, refl, sym, ap, subst, ◌∙◌, ℕ, zero, suc, ◌+◌, ◌<◌, ◌≤◌, ◌==◌, Bool, true, false, not, cond, List, [], ◌∷◌, ◌++◌, length, get_or, set, map, filter, arith, length-append}
-use Rattle.std.specs.Prelude.{if◌then◌else◌}
-use Rattle.std.specs.List.{list_all, AllByRecursion}
+use Rattle.std.proofs.Common.{◌≡◌, refl, sym, ap, subst, ◌∙◌, ℕ, zero, suc, ◌+◌, ◌<◌, ◌≤◌, ◌==◌, Bool, true, false, not, cond, List, [], ◌∷◌, ◌++◌, length, get_or, set, map, filter, Option, Some, None, arith, length-append}
+use Rattle.std.specs.Prelude.{find, if◌then◌else◌}
+use Rattle.std.specs.List.{list_all, position, AllByRecursion}
 use Rattle.std.specs.Cmp.Derive.{both_true}
 use Rattle.std.proofs.Math.Seq.{map-set_same}
 use Rattle.std.proofs.lemmas.Bool.{and_parts, not-true, eqb-false, eq-eqb, ne_eqb}
-use Rattle.std.proofs.lemmas.List.{get_or_default, length-map, length-set, map-append}
+use Rattle.std.proofs.lemmas.List.Quantifiers.{position-Some}
+use Rattle.std.proofs.lemmas.List.{length-map, length-set, map-append}
 use Rattle.ucm_base.specs.Limits.{transfer_limit, package_limit}
 use Rattle.pm_types.specs.declared.state.StoredTransfer.{StoredTransfer}
+use Rattle.pm_types.specs.declared.state.Transfers.{Transfers as Table}
+use Rattle.pm_types.specs.declared.transfers.Header.{Header}
 use Rattle.pm_types.specs.Stored.{slots_differ}
 use Rattle.pm_types.specs.Transfers.{fresh}
-use Rattle.transfer_blocks.specs.Table.{Table, IsBounded, IsTable, is_free, lowest_free, slots_of, with_fresh, with_stored}
-use Rattle.transfer_blocks.proofs.Lists.{each-at, each-push, each-set, each-filter, each-imp, fewer-filter}
+use Rattle.transfer_blocks.specs.declared.lookup.Placed.{Placed}
+use Rattle.transfer_blocks.specs.Table.{IsAt, IsBounded, IsTable, is_free, lowest_free, slots_of, with_fresh, with_stored}
+use Rattle.transfer_blocks.proofs.Lists.{each-at, each-push, each-set, each-filter, each-imp, fewer-filter, none-passes, position-find, position-none}
 use Rattle.transfer_blocks.proofs.Slots.{lowest-is_free}
 
 abbrev id_of : StoredTransfer → ℕ
@@ -71,50 +75,49 @@ raised next t is = record {
 }
 
 -- a transfer more
-pub table-fresh : (client size : ℕ) (s : Table) → IsTable s → length s.transfers < transfer_limit
+pub table-fresh : (client size : ℕ) (s : Table) → IsTable s → length s.list < transfer_limit
     → size ≤ package_limit → IsTable (with_fresh client size s)
 table-fresh client size s is few small =
-    let free = lowest-is_free transfer_limit (slots_of s.transfers)
-    (omega (arith, few, length-map s.transfers (λ t. t.slot))) in
+    let free = lowest-is_free transfer_limit (slots_of s.list)
+    (omega (arith, few, length-map s.list (λ t. t.slot))) in
     record {
       few = omega (
         arith,
         few,
-        length-append s.transfers (record {
+        length-append s.list (record {
           header = fresh s.next_id client size;
-          slot =
-              lowest_free transfer_limit (slots_of s.transfers);
+          slot = lowest_free transfer_limit (slots_of s.list);
           contents = [];
         } ∷ []),
       );
-      each = each-push (IsBounded (s.next_id + 1)) s.transfers _
-          (each-imp (IsBounded s.next_id) (IsBounded (s.next_id + 1)) (raised s.next_id) s.transfers is.each)
+      each = each-push (IsBounded (s.next_id + 1)) s.list _
+          (each-imp (IsBounded s.next_id) (IsBounded (s.next_id + 1)) (raised s.next_id) s.list is.each)
           (record { id = omega arith; received = omega arith; size = small; counter = omega arith; slot = free.1 });
-      ids = ap slots_differ (map-append id_of s.transfers _)
-          ∙ differ-push (map id_of s.transfers) s.next_id is.ids (next-is_free s.next_id s.transfers is.each);
-      slots = ap slots_differ (map-append (λ (t : StoredTransfer). t.slot) s.transfers _)
-          ∙ differ-push (slots_of s.transfers) _ is.slots free.0;
+      ids = ap slots_differ (map-append id_of s.list _)
+          ∙ differ-push (map id_of s.list) s.next_id is.ids (next-is_free s.next_id s.list is.each);
+      slots = ap slots_differ (map-append (λ (t : StoredTransfer). t.slot) s.list _)
+          ∙ differ-push (slots_of s.list) _ is.slots free.0;
     }
 
 -- a transfer changed at its place, which keeps its id and its slot
 pub table-set : (s : Table) (i : ℕ) (y d : StoredTransfer) → IsTable s → IsBounded s.next_id y
-    → y.header.id ≡ (get_or s.transfers i d).header.id → y.slot ≡ (get_or s.transfers i d).slot
-    → IsTable (record s { transfers = set s.transfers i y })
+    → y.header.id ≡ (get_or s.list i d).header.id → y.slot ≡ (get_or s.list i d).slot
+    → IsTable (record s { list = set s.list i y })
 table-set s i y d is here id slot = record {
-  few = omega (arith, is.few, length-set s.transfers i y);
-  each = each-set (IsBounded s.next_id) s.transfers i y is.each here;
-  ids = ap slots_differ (map-set_same id_of s.transfers i y d id) ∙ is.ids;
-  slots = ap slots_differ (map-set_same (λ (t : StoredTransfer). t.slot) s.transfers i y d slot) ∙ is.slots;
+  few = omega (arith, is.few, length-set s.list i y);
+  each = each-set (IsBounded s.next_id) s.list i y is.each here;
+  ids = ap slots_differ (map-set_same id_of s.list i y d id) ∙ is.ids;
+  slots = ap slots_differ (map-set_same (λ (t : StoredTransfer). t.slot) s.list i y d slot) ∙ is.slots;
 }
 
 -- some of the transfers
 pub table-filter : (p : StoredTransfer → Bool) (s : Table) → IsTable s
-    → IsTable (record s { transfers = filter p s.transfers })
+    → IsTable (record s { list = filter p s.list })
 table-filter p s is = record {
-  few = omega (arith, is.few, fewer-filter p s.transfers);
-  each = each-filter (IsBounded s.next_id) p s.transfers is.each;
-  ids = differ-filter id_of p s.transfers is.ids;
-  slots = differ-filter (λ t. t.slot) p s.transfers is.slots;
+  few = omega (arith, is.few, fewer-filter p s.list);
+  each = each-filter (IsBounded s.next_id) p s.list is.each;
+  ids = differ-filter id_of p s.list is.ids;
+  slots = differ-filter (λ t. t.slot) p s.list is.slots;
 }
 
 -- a change of the transfer of an id is a change at its place
@@ -154,23 +157,64 @@ module _ (id : ℕ) (change : StoredTransfer → StoredTransfer) where
           apart-at us i (omega (arith, lt)) (and_parts (not (u.header.id == id)) (is_free (map id_of us) id) free).1
           here
 
--- two readings of one place
-pub same-place : (ts : List StoredTransfer) (i : ℕ) (x y : StoredTransfer) → i < length ts → x ≡ get_or ts i x
-    → y ≡ get_or ts i y → x ≡ y
-same-place ts i x y lt x_is y_is = x_is ∙ get_or_default ts i x y lt ∙ sym y_is
+-- the first transfer that passes, changed at its place with what its header becomes
+module _ {s : Table} {test : Header → Bool} {p : Placed} (is : IsTable s) (at : IsAt s.list test p)
+    (becomes : Header → Header) (with : Header → StoredTransfer
+    → StoredTransfer) (h : Header) (put : h ≡ becomes p.header)
+    (list : List StoredTransfer)
+    (puts : (t : StoredTransfer) → t ≡ get_or s.list p.place t → list ≡ set s.list p.place (with h t))
+    (keeps : (t : StoredTransfer) → ((with (becomes t.header) t).header.id ≡ t.header.id)
+    × ((with (becomes t.header) t).slot ≡ t.slot)) where
+  abbrev change : StoredTransfer → StoredTransfer
+  change t = with (becomes t.header) t
 
--- the transfer at a place, and what its change makes of the table
-module _ (s : Table) (i : ℕ) (x : StoredTransfer) (is : IsTable s) (lt : i < length s.transfers) (x_is : x
-    ≡ get_or s.transfers i x) where
-  pub bounded-at : IsBounded s.next_id x
-  bounded-at = subst (IsBounded s.next_id) (sym x_is) (each-at (IsBounded s.next_id) s.transfers i x lt is.each)
+  changed-list : list ≡ set s.list p.place (change at.transfer)
+  changed-list =
+      puts at.transfer at.here
+      ∙ ap (λ k. set s.list p.place (with k at.transfer)) (put ∙ ap becomes (sym at.header))
 
-  pub table-at : (y : StoredTransfer) → IsBounded s.next_id y → y.header.id ≡ x.header.id → y.slot ≡ x.slot
-      → IsTable (record s { transfers = set s.transfers i y })
-  table-at y here id slot = table-set s i y x is here (id ∙ ap id_of x_is) (slot ∙ ap (λ t. t.slot) x_is)
+  pub put-is : (id : ℕ) → p.header.id ≡ id → record s { list = list } ≡ with_stored id change s
+  put-is id here =
+      ap (λ ts. record s { list = ts }) (changed-list ∙ ap (λ t. set s.list p.place (change t)) at.here
+      ∙ set-at id change s.list p.place at.transfer at.lies (sym (ap id_of at.here) ∙ ap (λ k. k.id) at.header
+      ∙ here) is.ids)
 
-  pub stored-at : (id : ℕ) (change : StoredTransfer → StoredTransfer) → x.header.id ≡ id
-      → record s { transfers = set s.transfers i (change x) } ≡ with_stored id change s
-  stored-at id change here =
-      ap (λ ts. record s { transfers = ts }) (ap (λ t. set s.transfers i (change t)) x_is
-      ∙ set-at id change s.transfers i x lt (sym (ap id_of x_is) ∙ here) is.ids)
+  pub put-table : (IsBounded s.next_id at.transfer → IsBounded s.next_id (change at.transfer))
+      → IsTable (record s { list = list })
+  put-table bounds =
+      let own = subst (IsBounded s.next_id) (sym at.here)
+      (each-at (IsBounded s.next_id) s.list p.place at.transfer at.lies is.each) in
+      subst (λ ts. IsTable (record s { list = ts })) (sym changed-list)
+      (table-set s p.place (change at.transfer) at.transfer is (bounds own)
+      ((keeps at.transfer).0 ∙ ap id_of at.here) ((keeps at.transfer).1 ∙ ap (λ t. t.slot) at.here))
+
+-- where a search ends
+module _ {all list : List StoredTransfer} (same : all ≡ list) (test : Header → Bool) (o : Option ℕ)
+    (searched : o ≡ position (λ t. test t.header) all) where
+  pub place-is : (i : ℕ) (t : StoredTransfer) → o ≡ Some i → t ≡ get_or all i t
+      → IsAt list test (record { place = i; header = (get_or all i t).header })
+  place-is i t is here =
+      let found = sym is ∙ searched in
+      subst (λ l. IsAt l test (record { place = i; header = (get_or all i t).header })) same (record {
+        transfer = t;
+        found = position-find (λ (t : StoredTransfer). test t.header) all (Some i) found t ∙ ap Some (sym here);
+        here = here;
+        lies = (position-Some (λ (t : StoredTransfer). test t.header) all i t (sym found)).0;
+        header = ap (λ t. t.header) here;
+        passes = (position-Some (λ (t : StoredTransfer). test t.header) all i t (sym found)).1;
+      })
+
+  pub none-is : o ≡ None → find (λ t. test t.header) list ≡ None
+  none-is is =
+      ap (find (λ (t : StoredTransfer). test t.header)) (sym same)
+      ∙ position-none (λ (t : StoredTransfer). test t.header) all (sym searched ∙ is)
+
+-- an id that isn't found is free
+pub free-is : (id : ℕ) (ts : List StoredTransfer) → find (λ t. t.header.id == id) ts ≡ None
+    → is_free (map id_of ts) id ≡ true
+free-is id ts none = free ts (none-passes (λ (t : StoredTransfer). t.header.id == id) ts none)
+  where
+    free : (ts : List StoredTransfer) → AllByRecursion (λ t. (t.header.id == id) ≡ false) ts
+        → is_free (map id_of ts) id ≡ true
+    free [] each = refl
+    free (t ∷ ts) each = both_true (ap not each.0) (free ts each.1)

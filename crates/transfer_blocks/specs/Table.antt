@@ -1,5 +1,5 @@
 -- Transfers as they are stored, and what each call makes of them.
-use Rattle.std.specs.Prelude.{ℕ, ◌+◌, ◌<◌, ◌≤◌, Bool, not, ◌||◌, ◌==◌, IsTrue, if◌then◌else◌, List, [], ◌∷◌, ◌++◌, length, map, filter, find, Option, Some, None, option_map, unwrap_or}
+use Rattle.std.specs.Prelude.{◌≡◌, ℕ, ◌+◌, ◌<◌, ◌≤◌, Bool, not, ◌==◌, IsTrue, if◌then◌else◌, List, [], ◌∷◌, ◌++◌, length, map, filter, find, Option, Some, None, option_map, slice_index_or, unwrap_or}
 use Rattle.std.specs.List.{list_all, range_with_len, AllByRecursion}
 use Rattle.ucm_base.specs.Limits.{transfer_limit, package_limit}
 use Rattle.ucm_base.specs.declared.parts.Part.{Part}
@@ -7,20 +7,17 @@ use Rattle.pm_types.specs.declared.replies.Refusal.{Refusal}
 use Rattle.pm_types.specs.declared.replies.Reply.{Reply}
 use Rattle.pm_types.specs.declared.replies.Reply.TheVariants.{Refused}
 use Rattle.pm_types.specs.declared.state.StoredTransfer.{StoredTransfer}
+use Rattle.pm_types.specs.declared.state.Transfers.{Transfers as Table}
 use Rattle.pm_types.specs.declared.status.Phase.{Phase}
-use Rattle.pm_types.specs.declared.status.Phase.TheVariants.{Transferred, Processing, Processed}
+use Rattle.pm_types.specs.declared.status.Phase.TheVariants.{Transferred}
 use Rattle.pm_types.specs.declared.transfers.ExitVerdict.{ExitVerdict}
 use Rattle.pm_types.specs.declared.transfers.ExitVerdict.TheVariants.{Good, Bad}
 use Rattle.pm_types.specs.declared.transfers.Header.{Header}
-use Rattle.pm_types.specs.NodeState.{is_in}
+use Rattle.pm_types.specs.NodeState.{outlasts}
 use Rattle.pm_types.specs.Stored.{slots_differ}
 use Rattle.pm_types.specs.Transfers.{is_of, fresh, grown, in_phase}
 use Rattle.transfer_blocks.specs.declared.found.Found.{Found}
-
--- the next id, and the transfers by rising ids
-pub record Table : Type 0 where
-  pub next_id : ℕ
-  pub transfers : List StoredTransfer
+use Rattle.transfer_blocks.specs.declared.lookup.Placed.{Placed}
 
 -- the client's transfer of this id
 abbrev pub stored_of : List StoredTransfer → ℕ → ℕ → Option StoredTransfer
@@ -33,6 +30,15 @@ stored_header transfers client id = option_map (λ t. t.header) (stored_of trans
 abbrev pub found_of : List StoredTransfer → ℕ → ℕ → Option Found
 found_of transfers client id =
     option_map (λ t. record { header = t.header; slot = t.slot }) (stored_of transfers client id)
+
+-- the first transfer whose header passes, at its place
+pub record IsAt (transfers : List StoredTransfer) (test : Header → Bool) (at : Placed) : Type 0 where
+  pub transfer : StoredTransfer
+  pub found : find (λ t. test t.header) transfers ≡ Some transfer
+  pub here : transfer ≡ slice_index_or transfers at.place transfer
+  pub lies : at.place < length transfers
+  pub header : transfer.header ≡ at.header
+  pub passes : IsTrue (test at.header)
 
 -- the ids of the client's transfers
 abbrev pub stored_ids : List StoredTransfer → ℕ → List ℕ
@@ -62,17 +68,16 @@ good_parts (Bad refusal) = []
 abbrev pub with_fresh : ℕ → ℕ → Table → Table
 with_fresh client size s = record {
   next_id = s.next_id + 1;
-  transfers = s.transfers ++ record {
+  list = s.list ++ record {
     header = fresh s.next_id client size;
-    slot =
-        lowest_free transfer_limit (slots_of s.transfers);
+    slot = lowest_free transfer_limit (slots_of s.list);
     contents = [];
   } ∷ [];
 }
 
 -- the transfer of this id changed
 abbrev pub with_stored : ℕ → (StoredTransfer → StoredTransfer) → Table → Table
-with_stored id change s = record s { transfers = map (λ t. if t.header.id == id then change t else t) s.transfers }
+with_stored id change s = record s { list = map (λ t. if t.header.id == id then change t else t) s.list }
 
 -- after a block of this length, and after an exit
 abbrev pub received : ℕ → StoredTransfer → StoredTransfer
@@ -87,12 +92,11 @@ moved phase t = record t { header = in_phase phase t.header }
 
 -- the transfer of this id gone
 abbrev pub without : ℕ → Table → Table
-without id s = record s { transfers = filter (λ t. not (t.header.id == id)) s.transfers }
+without id s = record s { list = filter (λ t. not (t.header.id == id)) s.list }
 
--- the transfers that a session leaves: those that weren't processed, and aren't in processing
+-- the transfers that a session leaves
 abbrev pub cleaned : Table → Table
-cleaned s =
-    record s { transfers = filter (λ t. not (is_in Processing t.header || is_in Processed t.header)) s.transfers }
+cleaned s = record s { list = filter (λ t. outlasts t.header) s.list }
 
 -- a refusal leaves the table
 abbrev pub unless_refused : Reply → Table → Table → Table
@@ -109,7 +113,7 @@ pub record IsBounded (next_id : ℕ) (t : StoredTransfer) : Type 0 where
 
 -- at most eight transfers, with different ids and different slots
 pub record IsTable (s : Table) : Type 0 where
-  pub few : length s.transfers ≤ transfer_limit
-  pub each : AllByRecursion (IsBounded s.next_id) s.transfers
-  pub ids : IsTrue (slots_differ (map (λ t. t.header.id) s.transfers))
-  pub slots : IsTrue (slots_differ (slots_of s.transfers))
+  pub few : length s.list ≤ transfer_limit
+  pub each : AllByRecursion (IsBounded s.next_id) s.list
+  pub ids : IsTrue (slots_differ (map (λ t. t.header.id) s.list))
+  pub slots : IsTrue (slots_differ (slots_of s.list))

@@ -1,7 +1,6 @@
 //! The refusals of the transfer table, row by row; of a transfer that is there, from the second row on.
-ghost use Rattle.std.specs.Prelude.{◌≡◌, ◌+◌, ◌<◌, ◌≤◌, ◌||◌, not, None, Some};
+ghost use Rattle.std.specs.Prelude.{◌≡◌, ◌+◌, ◌<◌, ◌≤◌, None, Some};
 ghost use Rattle.ucm_base.specs.Limits.{transfer_limit, package_limit, last_id};
-ghost use Rattle.pm_types.specs.NodeState.{is_in};
 ghost use Rattle.pm_types.specs.Refusals.{first_refusal};
 ghost use Rattle.pm_types.specs.Transfers.{start_refusals, data_refusals, exit_refusals, delete_refusals};
 
@@ -25,10 +24,10 @@ pub(crate) fn start_refusal(next_id: u32, count: u64, size: u64) -> Option<Refus
 }
 
 /// Why a transfer doesn't take a block of this size.
-pub(crate) fn data_refusal(header: Header, counter: u64, size: u64) -> Option<Refusal>
-    ensures refusal { result ≡ first_refusal (data_refusals (Some header) counter size) }
+pub(crate) fn data_refusal(header: &Header, counter: u64, size: u64) -> Option<Refusal>
+    ensures refusal { result ≡ first_refusal (data_refusals (Some header.now) counter size) }
     ensures some { result ≡ None → 0 < size }
-    ensures fits { result ≡ None → header.received + size ≤ header.size }
+    ensures fits { result ≡ None → header.now.received + size ≤ header.now.size }
 {
     match header.phase {
         Phase::Transferring => {}
@@ -37,15 +36,16 @@ pub(crate) fn data_refusal(header: Header, counter: u64, size: u64) -> Option<Re
     if size == 0 || size > BLOCK_LIMIT || header.next_counter != counter {
         return Some(Refusal::IncorrectBlock);
     }
+    let whole = header.size;
     match header.received.checked_add(size) {
-        Some(received) if received <= header.size => None,
+        Some(received) if received <= whole => None,
         _ => Some(Refusal::IncorrectSize),
     }
 }
 
 /// Why a transfer doesn't end, before its bytes are read.
-pub(crate) fn exit_refusal(header: Header) -> Option<Refusal>
-    ensures { result ≡ first_refusal (exit_refusals (Some header)) }
+pub(crate) fn exit_refusal(header: &Header) -> Option<Refusal>
+    ensures { result ≡ first_refusal (exit_refusals (Some header.now)) }
 {
     match header.phase {
         Phase::Transferring => {}
@@ -58,21 +58,11 @@ pub(crate) fn exit_refusal(header: Header) -> Option<Refusal>
 }
 
 /// Why a transfer isn't deleted.
-pub(crate) fn delete_refusal(header: Header) -> Option<Refusal>
-    ensures { result ≡ first_refusal (delete_refusals (Some header)) }
+pub(crate) fn delete_refusal(header: &Header) -> Option<Refusal>
+    ensures { result ≡ first_refusal (delete_refusals (Some header.now)) }
 {
     match header.phase {
         Phase::Processing | Phase::Processed => Some(Refusal::OperationNotPermitted),
         Phase::Transferring | Phase::Transferred => None,
-    }
-}
-
-/// Whether a transfer stays where a session ends.
-pub(crate) fn outlasts(header: Header) -> bool
-    ensures { result ≡ not (is_in Phase.Processing header || is_in Phase.Processed header) }
-{
-    match header.phase {
-        Phase::Processing | Phase::Processed => false,
-        Phase::Transferring | Phase::Transferred => true,
     }
 }

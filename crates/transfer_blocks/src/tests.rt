@@ -1,7 +1,7 @@
 //! Rows over areas in memory, and over the transfer table. A put goes over bytes that lie there and past their end; a
 //! slot that becomes free is taken again; a whole transfer has the contents that were read, and goes no further.
-use crate::{Area, MemStaging, Staging, StagingError, Transfers};
-use pm_types::{Contents, ExitVerdict, Phase, Refusal, Reply, TransferList};
+use crate::{Area, MemStaging, Staging, StagingError, lookup, table};
+use pm_types::{Contents, ExitVerdict, Phase, Refusal, Reply, TransferList, Transfers};
 use std::alloc::{AllocError, Global};
 use ucm_base::{Action, ClientId, ClusterName, Manifest, Needs, Part, VersionText};
 
@@ -50,33 +50,58 @@ fn a_transfer_runs_to_its_end(rt: HostRuntime) -> Result<(), AllocError> {
         panic!(rt; "contents");
     };
     let mut transfers = Transfers::of(1, TransferList::new(alloc)?);
-    assert!(rt; matches!(transfers.start(client, 9), Reply::Started { id: 1 }));
-    assert!(rt; matches!(transfers.start(client, 4), Reply::Started { id: 2 }));
-    assert!(rt; matches!(transfers.delete(client, 1), Reply::Done));
-    assert!(rt; matches!(transfers.start(client, 9), Reply::Started { id: 3 }));
-    assert!(rt; transfers.ids(client).as_slice() == [2, 3].as_slice());
-    assert!(rt; matches!(transfers.find(client, 3), Some(found) if found.slot == 0));
-    assert!(rt; matches!(transfers.block(client, 3, 1, 8), Reply::Done));
     assert!(rt;
         matches!(
-            transfers.block(client, 3, 1, 1),
+            table::start(&mut transfers, client, 9),
+            Reply::Started { id: 1 }
+        )
+    );
+    assert!(rt;
+        matches!(
+            table::start(&mut transfers, client, 4),
+            Reply::Started { id: 2 }
+        )
+    );
+    assert!(rt; matches!(table::delete(&mut transfers, client, 1), Reply::Done));
+    assert!(rt;
+        matches!(
+            table::start(&mut transfers, client, 9),
+            Reply::Started { id: 3 }
+        )
+    );
+    assert!(rt; lookup::ids(&transfers.list, client).as_slice() == [2, 3].as_slice());
+    assert!(rt; matches!(lookup::find(&transfers.list, client, 3), Some(found) if found.slot == 0));
+    assert!(rt; matches!(table::block(&mut transfers, client, 3, 1, 8), Reply::Done));
+    assert!(rt;
+        matches!(
+            table::block(&mut transfers, client, 3, 1, 1),
             Reply::Refused(Refusal::IncorrectBlock)
         )
     );
-    let early = transfers.exit(client, 3, ExitVerdict::Bad(Refusal::InvalidManifest));
+    let early = table::exit(
+        &mut transfers,
+        client,
+        3,
+        ExitVerdict::Bad(Refusal::InvalidManifest),
+    );
     assert!(rt; matches!(early, Reply::Refused(Refusal::InsufficientData)));
-    assert!(rt; matches!(transfers.block(client, 3, 2, 1), Reply::Done));
-    let bad = transfers.exit(client, 3, ExitVerdict::Bad(Refusal::InvalidManifest));
+    assert!(rt; matches!(table::block(&mut transfers, client, 3, 2, 1), Reply::Done));
+    let bad = table::exit(
+        &mut transfers,
+        client,
+        3,
+        ExitVerdict::Bad(Refusal::InvalidManifest),
+    );
     assert!(rt; matches!(bad, Reply::Refused(Refusal::InvalidManifest)));
     assert!(rt;
         matches!(
-            transfers.exit(client, 3, ExitVerdict::Good(contents)),
+            table::exit(&mut transfers, client, 3, ExitVerdict::Good(contents)),
             Reply::Done
         )
     );
     assert!(rt;
         matches!(
-            transfers.block(client, 3, 3, 1),
+            table::block(&mut transfers, client, 3, 3, 1),
             Reply::Refused(Refusal::OperationNotPermitted)
         )
     );

@@ -1,6 +1,6 @@
 use Rattle.std.proofs.Common.{◌≡◌, ◌≤◌, length, take}
 use Rattle.transfer_blocks.specs.Table.{stored_ids}
-use Rattle.transfer_blocks.proofs.transfers.Transfers.ids.Given as goal
+use Rattle.transfer_blocks.proofs.lookup.ids.Given as goal
 
 abbrev pub invariant-loop-transfer : goal.invariant-loop-transfer
 invariant-loop-transfer l = record {

@@ -1,0 +1,12 @@
+use Rattle.std.proofs.Common.{◌==◌, not, subst, sym}
+use Rattle.pm_types.specs.declared.state.StoredTransfer.{StoredTransfer}
+use Rattle.pm_types.specs.declared.state.Transfers.{Transfers as Table}
+use Rattle.transfer_blocks.specs.Table.{IsTable}
+use Rattle.transfer_blocks.proofs.Tables.{table-filter}
+use Rattle.transfer_blocks.proofs.table.delete.Goals as goal
+
+pub returns-clause-form : goal.returns-clause-form
+returns-clause-form c =
+    let s : Table = c.args.transfers.now in
+    subst (λ ts. IsTable (record s { list = ts })) (sym c.remove.ensures)
+    (table-filter (λ (t : StoredTransfer). not (t.header.id == c.args.id)) s c.requires.table)
