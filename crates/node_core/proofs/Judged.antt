@@ -106,20 +106,20 @@ module _ {v w : Holding} (e : v ≡ w) (sound : IsSound w) (client : ℕ) where
   -- a table of such transfers is accepted
   accepts : (call : Call) (next : Table) (p : Prepared)
       → node_of (tabled next p v) ≡ accepted (node_of v) client call (verdict_on v client call)
-      → AllByRecursion (IsTended v) next.transfers → IsTable next → IsAccepted v client call (tabled next p v)
+      → AllByRecursion (IsTended v) next.list → IsTable next → IsAccepted v client call (tabled next p v)
   accepts call next p node each form = record {
     node = node;
     order = record {
       clusters = own.order.clusters;
       session = own.order.session;
       transfers =
-          each-both _ _ _ (λ t bounded kept. record { slot = bounded.slot; contents = kept.0 }) next.transfers
+          each-both _ _ _ (λ t bounded kept. record { slot = bounded.slot; contents = kept.0 }) next.list
           form.each each;
       slots = form.slots;
       places = own.order.places;
       running = own.order.running;
     };
-    copied = each-imp _ _ (λ t kept. kept.1) next.transfers each;
+    copied = each-imp _ _ (λ t kept. kept.1) next.list each;
   }
 
   -- one transfer changed

@@ -202,7 +202,7 @@ module _ (v : Holding) (x : SessionOf Extent) (id : ℕ) (sound : IsSound (at_pr
   was-whole : (phase_code h.transfer.header.phase == 0) ≡ false
   was-whole = ap (λ ph. phase_code ph == 0) h.phase
 
-  none-in-processing : AllByRecursion (λ t. is_in BeingProcessed t.header ≡ false) after.transfers
+  none-in-processing : AllByRecursion (λ t. is_in BeingProcessed t.header ≡ false) after.list
   none-in-processing =
       each-map (λ t. is_in BeingProcessed t.header ≡ false) (λ t. if t.header.id == id then moved_to Processed t
       else t) v.state.transfers

@@ -63,6 +63,10 @@ table-is v sound =
       slots = sound.order.slots;
     }
 
+-- the same, told of a node by its parts
+pub table-within : {v w : Holding} → v ≡ w → IsSound w → IsTable (table_of v.state)
+table-within {v = v} same sound = table-is v (subst IsSound (sym same) sound)
+
 -- a newer call is executed
 pub step-is : (s : NodeState) (client : ℕ) (at : CallNo) (call : Call) (w : Verdict)
     → repeat_of at (of_client s.last client) ≡ None

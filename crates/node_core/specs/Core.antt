@@ -18,7 +18,7 @@ use Rattle.pm_types.specs.Sessions.{activate_refusal, session_refusals}
 use Rattle.pm_types.specs.Steps.{refusal, repeat_of, reply_to, after_reply, step}
 use Rattle.pm_types.specs.Stored.{Areas, State, IsInOrder, meaning}
 use Rattle.pm_types.specs.Transfers.{Verdict, transfer_of, header_of, exit_refusals}
-use Rattle.transfer_blocks.specs.Table.{Table}
+use Rattle.pm_types.specs.declared.state.Transfers.{Transfers as Table}
 use Rattle.node_laws.specs.Fit.{IsFit}
 use Rattle.node_core.specs.declared.prepared.Prepared.{Prepared}
 use Rattle.node_core.specs.declared.prepared.Prepared.TheVariants.{Nothing}
@@ -83,10 +83,10 @@ mark_of status x = record { owner = x.owner; tag = x.tag; status = status }
 
 -- the node's table of transfers
 abbrev pub table_of : State → Table
-table_of s = record { next_id = s.next_id; transfers = s.transfers }
+table_of s = record { next_id = s.next_id; list = s.transfers }
 
 abbrev pub with_table : Table → State → State
-with_table table s = record s { next_id = table.next_id; transfers = table.transfers }
+with_table table s = record s { next_id = table.next_id; transfers = table.list }
 
 -- a block lies behind the bytes that came
 abbrev pub IsBehind : Areas → Bytes → StoredTransfer → Type 0

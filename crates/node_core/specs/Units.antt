@@ -26,8 +26,7 @@ use Rattle.package_reader.specs.Lies.{payload_at}
 use Rattle.node_core.specs.declared.copying.NextUnit.{NextUnit}
 use Rattle.node_core.specs.declared.copying.Piece.{Piece}
 use Rattle.pm_types.specs.Work.{unit}
-use Rattle.node_core.specs.declared.plan.Pick.{Pick}
-use Rattle.node_core.specs.declared.plan.Pick.TheVariants.{Before, Behind, Others}
+use Rattle.node_core.specs.declared.plan.Planned.{Planned as Lent}
 use Rattle.node_core.specs.declared.prepared.Prepared.{Prepared}
 use Rattle.node_core.specs.declared.prepared.Prepared.TheVariants.{Changes as Planned, Clusters}
 use Rattle.node_core.specs.Core.{Holding, node_of}
@@ -93,11 +92,9 @@ IsUnitReady _ v x = ⊤
 abbrev pub IsReservedWork : Holding → Type 0
 IsReservedWork v = IfSome v.state.session (IsUnitReady v.state.status v)
 
--- which clusters are taken over: those before a name, those behind it, or those of other names
-abbrev pub picks : Pick → List ℕ → List ℕ → Bool
-picks Before name other = name_lt other name
-picks Behind name other = name_lt name other
-picks Others name other = not (bytes_eq other name)
+-- the cluster that would run
+abbrev pub planned_of : Lent → Cluster Extent
+planned_of c = record { name = c.name.now; version = c.version.now; needs = c.needs.now; content = c.content }
 
 -- payloads that go to these extents lie in the bytes of a package, from a part's place on
 abbrev pub LieWithin : Bytes → ℕ → List Extent → Type 0

@@ -15,7 +15,7 @@ use crate::node::ReserveError;
 use crate::prepared::Prepared;
 use pm_types::{Change, Contents, Extent, units_of};
 use std::alloc::{AllocError, Global};
-use transfer_blocks::{Area, Staging};
+use transfer_blocks::{Area, Staging, lookup};
 use ucm_base::Part;
 use ucm_base::limits::BLOCK_LIMIT;
 
@@ -73,13 +73,14 @@ impl<S: Staging> Held<S> {
         requires sound { IsSound self.now }
         ensures { IfOk result (IsNextUnit self.now) }
     {
-        let Some(session) = &self.session else {
+        let state = &self.state;
+        let Some(session) = &state.session else {
             return Ok(None);
         };
         let Some(id) = session.processing else {
             return Ok(None);
         };
-        let Some(transfer) = self.transfers.stored(session.owner, id) else {
+        let Some(transfer) = lookup::stored(&state.transfers.list, session.owner, id) else {
             return Ok(None);
         };
         let done = session.units_done;

@@ -25,7 +25,7 @@ impl<S: Staging> Held<S> {
         let mut taken = self.taken(alloc)?;
         let mut extents = Vec::new(alloc);
         for part in parts {
-            let extent = extent_of(self.running.as_slice(), taken.as_slice(), part);
+            let extent = extent_of(self.state.running.as_slice(), taken.as_slice(), part);
             taken.push(extent.place)?;
             extents.push(extent)?;
         }
@@ -37,8 +37,9 @@ impl<S: Staging> Held<S> {
     fn taken(&self, alloc: Global) -> Result<Vec<u8>, AllocError>
         ensures { IfOk result (λ taken. taken.items ≡ taken_in self.now.state) }
     {
-        let mut taken = places(alloc, self.running.as_slice())?;
-        if let Some(session) = &self.session {
+        let state = &self.state;
+        let mut taken = places(alloc, state.running.as_slice())?;
+        if let Some(session) = &state.session {
             taken.append(&mut places(alloc, session.saved.as_slice())?)?;
             taken.append(&mut planned_places(alloc, session.changes.as_slice())?)?;
         }

@@ -8,27 +8,17 @@ ghost use Rattle.node_core.specs.Packages.{package_reading};
 ghost use Rattle.node_core.specs.Places.{IsCopied};
 
 use crate::prepared::Prepared;
-use pm_types::{
-    Call, CallName, Clusters, EndMark, Happened, Kept, NewestLines, Reached, Reply, Session,
-    SessionMark, Status, Synced,
-};
+use pm_types::{Call, CallName, Happened, Kept, Reached, Reply, SessionMark, State, Synced};
 use std::cmp::Ordering;
 use std::marker::Model;
-use transfer_blocks::{Staging, Transfers};
+use transfer_blocks::{Staging, lookup};
 use ucm_base::{CallNo, ClientId};
 
 /// A node's state in memory, its areas, and what is ready for the next call.
 #[derive(Drop)]
 pub(crate) struct Held<S: Staging> {
     pub(crate) staging: S,
-    pub(crate) status: Status,
-    pub(crate) transfers: Transfers,
-    pub(crate) running: Clusters,
-    pub(crate) session: Option<Session>,
-    pub(crate) last: [Option<Kept>; 32],
-    pub(crate) ended: [Option<EndMark>; 32],
-    pub(crate) entries: u64,
-    pub(crate) lines: NewestLines,
+    pub(crate) state: State,
     pub(crate) prepared: Prepared,
 }
 
@@ -40,17 +30,7 @@ impl<S: Staging> Model for Held<S> {
     ghost view = { λ h. record {
       areas = S.areas h.staging;
       faults = S.fault_count h.staging;
-      state = record {
-        status = h.status;
-        next_id = h.transfers.next_id;
-        running = h.running;
-        transfers = h.transfers.transfers;
-        session = h.session;
-        last = h.last;
-        ended = h.ended;
-        entries = h.entries;
-        lines = h.lines;
-      };
+      state = h.state;
       prepared = h.prepared;
     } };
 }
@@ -62,7 +42,8 @@ impl<S: Staging> Held<S> {
         ensures client { client < client_limit }
     {
         let place = client.number() as usize;
-        let kept = self.last[place]?;
+        let state = &self.state;
+        let kept = state.last[place]?;
         match no.cmp(&kept.no) {
             Ordering::Less => Some(Reached::Stale { last: kept.no }),
             Ordering::Equal => Some(Reached::Again(kept.reply)),
@@ -100,7 +81,8 @@ impl<S: Staging> Held<S> {
         ensures faults { self.new.faults ≡ self.old.faults }
         ensures entries { self.new.state.entries ≡ self.old.state.entries + 1 }
     {
-        self.last[client.number() as usize] = Some(Kept { no, reply: *reply });
+        let state = &mut self.state;
+        state.last[client.number() as usize] = Some(Kept { no, reply: *reply });
         let refusal = reply.code();
         let happened = Happened::Numbered {
             client,
@@ -108,8 +90,8 @@ impl<S: Staging> Held<S> {
             call,
             refusal,
         };
-        self.lines.push(self.entries, happened);
-        self.entries += 1;
+        state.lines.push(state.entries, happened);
+        state.entries += 1;
     }
 
     fn judge(&mut self, client: ClientId, call: &Call) -> Reply
@@ -138,21 +120,23 @@ impl<S: Staging> Held<S> {
     fn synced(&self, client: ClientId) -> Synced
         ensures { result ≡ synced (node_of self.now) client }
     {
+        let state = &self.state;
         Synced {
             session: self.session_mark(),
-            ended: self.ended[client.number() as usize],
-            transfers: self.transfers.ids(client),
+            ended: state.ended[client.number() as usize],
+            transfers: lookup::ids(&state.transfers.list, client),
         }
     }
 
     fn session_mark(&self) -> Option<SessionMark>
         ensures { result ≡ option_map (mark_of self.now.state.status) self.now.state.session }
     {
-        match &self.session {
+        let state = &self.state;
+        match &state.session {
             Some(session) => Some(SessionMark {
                 owner: session.owner,
                 tag: session.tag,
-                status: self.status,
+                status: state.status,
             }),
             None => None,
         }

@@ -5,7 +5,11 @@
 //! one `exec` is one step of the definition, and takes no memory; a query is answered as the definition says.
 #![tactic(auto)]
 
-ghost use Rattle.node_laws.specs.Fit.{IsReading};
+ghost use Rattle.node_laws.specs.Appends.{GoesOn};
+ghost use Rattle.node_laws.specs.Fit.{IsReading, KeepsFit};
+ghost use Rattle.node_laws.specs.NewestKept.{KeepsNewest};
+ghost use Rattle.node_laws.specs.Others.{LeavesSessions};
+ghost use Rattle.node_laws.specs.Runs.{MakesLegal};
 ghost use Rattle.node_core.specs.Packages.{package_reading};
 
 mod copying;
@@ -30,4 +34,13 @@ pub use prepared::Prepared;
 /// What the laws of nodes and campaigns ask of a reading holds of that of software packages.
 pub fn packages_have_parts()
     ensures law { IsReading package_reading }
+{}
+
+/// The laws of a node's definitions, where packages are read as they are here.
+pub fn nodes_keep_their_laws()
+    ensures consistent { KeepsFit package_reading }
+    ensures legal { MakesLegal package_reading }
+    ensures goes_on { GoesOn package_reading }
+    ensures newest { KeepsNewest package_reading }
+    ensures sessions { LeavesSessions package_reading }
 {}

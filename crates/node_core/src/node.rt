@@ -13,7 +13,7 @@ use crate::prepared::Prepared;
 use pm_types::{Call, Reached, State, Status, Worked};
 use std::alloc::{AllocError, Global};
 use std::marker::Model;
-use transfer_blocks::{Staging, StagingError, Transfers};
+use transfer_blocks::{Staging, StagingError};
 use ucm_base::{CallNo, ClientId, ClusterName};
 
 /// Why nothing was reserved.
@@ -71,28 +71,9 @@ impl<S: Staging> Core<S> {
         requires { IsSound (holding (S.areas staging) (S.fault_count staging) state) }
         ensures { result ≡ holding (S.areas staging) (S.fault_count staging) state }
     {
-        let State {
-            status,
-            next_id,
-            running,
-            transfers,
-            session,
-            last,
-            ended,
-            entries,
-            lines,
-        } = state;
-        let transfers = Transfers::of(next_id, transfers);
         let held = Held {
             staging,
-            status,
-            transfers,
-            running,
-            session,
-            last,
-            ended,
-            entries,
-            lines,
+            state,
             prepared: Prepared::Nothing,
         };
         Core { held }

@@ -6,7 +6,7 @@ ghost use Rattle.node_core.specs.Units.{IsReservedWork, IsUnit};
 
 use crate::held::Held;
 use pm_types::{Phase, Status};
-use transfer_blocks::Staging;
+use transfer_blocks::{Staging, lookup, table};
 
 impl<S: Staging> Held<S> {
     /// One unit more of the package in processing; with its last one the package is processed.
@@ -17,13 +17,14 @@ impl<S: Staging> Held<S> {
         ensures unit { IsUnit self.old passed self.new }
         ensures faults { self.new.faults ≡ self.old.faults }
     {
-        let Some(session) = &mut self.session else {
+        let state = &mut self.state;
+        let Some(session) = &mut state.session else {
             return;
         };
         let Some(id) = session.processing else {
             return;
         };
-        let Some(transfer) = self.transfers.stored(session.owner, id) else {
+        let Some(transfer) = lookup::stored(&state.transfers.list, session.owner, id) else {
             return;
         };
         let units = transfer.contents.units();
@@ -36,7 +37,7 @@ impl<S: Staging> Held<S> {
         };
         session.changes.append(changes);
         session.processing = None;
-        self.status = Status::Ready;
-        self.transfers.set_phase(id, Phase::Processed);
+        state.status = Status::Ready;
+        table::set_phase(&mut state.transfers, id, Phase::Processed);
     }
 }

@@ -38,7 +38,7 @@ impl<S: Staging> Core<S> {
     pub fn status(&self) -> Status
         ensures { result ≡ (node_of self.now).status }
     {
-        self.held.status
+        self.held.state.status
     }
 }
 
@@ -47,19 +47,20 @@ impl<S: Staging> Held<S> {
         requires sound { IsSound self.now }
         ensures { IfOk result (λ a. a ≡ answer (node_of self.now) client query.now) }
     {
+        let state = &self.state;
         match query {
-            Query::CurrentStatus => Ok(Answer::Status(self.status)),
-            Query::GetSwClusterInfo => Ok(Answer::Clusters(cluster_info(alloc, &self.running)?)),
+            Query::CurrentStatus => Ok(Answer::Status(state.status)),
+            Query::GetSwClusterInfo => Ok(Answer::Clusters(cluster_info(alloc, &state.running)?)),
             Query::GetSwClusterChangeInfo => {
-                Ok(Answer::Changes(change_info(alloc, self.session.as_ref())?))
+                Ok(Answer::Changes(change_info(alloc, state.session.as_ref())?))
             }
             Query::GetSwPackages => {
-                let transfers = self.transfers.as_slice();
+                let transfers = state.transfers.list.as_slice();
                 Ok(Answer::Packages(packages(alloc, transfers, client)?))
             }
             Query::GetSwProcessProgress { id } => Ok(shown(self.progress(client, *id))),
             Query::GetHistory { ge, lt } => {
-                Ok(Answer::History(history(alloc, &self.lines, *ge, *lt)?))
+                Ok(Answer::History(history(alloc, &state.lines, *ge, *lt)?))
             }
         }
     }
@@ -69,7 +70,9 @@ impl<S: Staging> Held<S> {
         ensures { progress_answer result
             ≡ answer (node_of self.now) client (GetSwProcessProgress id) }
     {
-        process_progress(self.transfers.as_slice(), self.session.as_ref(), client, id)
+        let state = &self.state;
+        let transfers = state.transfers.list.as_slice();
+        process_progress(transfers, state.session.as_ref(), client, id)
     }
 }
 

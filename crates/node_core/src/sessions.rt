@@ -5,17 +5,17 @@ ghost use Rattle.ucm_base.specs.Limits.{cluster_limit};
 ghost use Rattle.pm_types.specs.declared.calls.Call.TheVariants.{Activate, Cancel, ProcessSwPackage};
 ghost use Rattle.pm_types.specs.Refusals.{first_refusal};
 ghost use Rattle.pm_types.specs.Sessions.{parts_refusal, session_refusals, status_table};
-ghost use Rattle.node_core.specs.Core.{IsJudged, IsReady, IsSound, node_of, refusal_by};
+ghost use Rattle.node_core.specs.Core.{IsJudged, IsReady, IsSound, node_of, refusal_by, table_of};
 ghost use Rattle.node_core.specs.Prepared.{session_kept};
 ghost use Rattle.node_core.specs.Sessions.{OnlyLeads, arrived, begun, changes_kept, cleaning_up, contents_of, goal_of, stopped};
-ghost use Rattle.transfer_blocks.specs.Table.{stored_of};
+ghost use Rattle.transfer_blocks.specs.Table.{IsTable, stored_of};
 
 use crate::held::Held;
 use crate::session_rules::{
     Goal, cancel_refusal, goal_from, is_anothers, package_refusal, parts_refusal,
 };
 use pm_types::{Call, Change, Extent, Outcome, Phase, Refusal, Reply, Status};
-use transfer_blocks::Staging;
+use transfer_blocks::{Staging, lookup, table};
 use ucm_base::ClientId;
 
 impl<S: Staging> Held<S> {
@@ -46,8 +46,9 @@ impl<S: Staging> Held<S> {
             status_table self.now.state.status (ProcessSwPackage id tag) ≡ Some (goal_of goal)) }
     {
         let goal = self.goal(client, &Call::ProcessSwPackage { id, tag })?;
-        let found = self.transfers.find(client, id);
-        if let Some(refusal) = package_refusal(&self.session, client, tag, found) {
+        let state = &self.state;
+        let found = lookup::find(&state.transfers.list, client, id);
+        if let Some(refusal) = package_refusal(&state.session, client, tag, found) {
             return Err(refusal);
         }
         match self.contents_refusal(client, id) {
@@ -61,9 +62,10 @@ impl<S: Staging> Held<S> {
         ensures { result ≡ parts_refusal self.now.state.running (changes_kept self.now.state) []
             (contents_of (stored_of self.now.state.transfers client id)) }
     {
-        let transfer = self.transfers.stored(client, id)?;
+        let state = &self.state;
+        let transfer = lookup::stored(&state.transfers.list, client, id)?;
         parts_refusal(
-            self.running.as_slice(),
+            state.running.as_slice(),
             self.changes(),
             transfer.contents.as_slice(),
         )
@@ -74,7 +76,8 @@ impl<S: Staging> Held<S> {
         ensures changes { result.now ≡ changes_kept self.now.state }
         ensures few { length result.now ≤ cluster_limit }
     {
-        match &self.session {
+        let state = &self.state;
+        match &state.session {
             Some(session) => session.changes.as_slice(),
             None => &[],
         }
@@ -132,7 +135,8 @@ impl<S: Staging> Held<S> {
             status_table self.now.state.status (Cancel id) ≡ Some (goal_of goal)) }
     {
         let goal = self.goal(client, &Call::Cancel { id })?;
-        match cancel_refusal(self.transfers.find(client, id)) {
+        let state = &self.state;
+        match cancel_refusal(lookup::find(&state.transfers.list, client, id)) {
             Some(refusal) => Err(refusal),
             None => Ok(goal),
         }
@@ -147,10 +151,11 @@ impl<S: Staging> Held<S> {
         ensures goal { IfOk result (λ goal.
             status_table self.now.state.status call.now ≡ Some (goal_of goal)) }
     {
-        if is_anothers(&self.session, client) {
+        let state = &self.state;
+        if is_anothers(&state.session, client) {
             return Err(Refusal::ServiceBusy);
         }
-        goal_from(self.status, call).ok_or(Refusal::OperationNotPermitted)
+        goal_from(state.status, call).ok_or(Refusal::OperationNotPermitted)
     }
 
     /// Goes where an accepted call leads.
@@ -161,13 +166,13 @@ impl<S: Staging> Held<S> {
         } }
     {
         match goal {
-            Goal::To(status) => self.status = status,
+            Goal::To(status) => self.state.status = status,
             Goal::CleanUp(outcome) => self.clean_up(outcome),
             Goal::Resume => {
                 if self.changes().is_empty() {
                     self.clean_up(Outcome::Old);
                 } else {
-                    self.status = Status::Ready;
+                    self.state.status = Status::Ready;
                 }
             }
         }
@@ -176,27 +181,31 @@ impl<S: Staging> Held<S> {
 
     /// The package in processing is whole again.
     fn stop(&mut self, id: u32)
+        requires table { IsTable (table_of self.old.state) }
         ensures { self.new ≡ record self.old { state = stopped id self.old.state } }
     {
-        self.transfers.set_phase(id, Phase::Transferred);
-        if let Some(session) = &mut self.session {
+        let state = &mut self.state;
+        table::set_phase(&mut state.transfers, id, Phase::Transferred);
+        if let Some(session) = &mut state.session {
             session.processing = None;
         }
     }
 
     /// The session takes up the package, or the one that is ready begins with it.
     fn begin(&mut self, id: u32)
+        requires table { IsTable (table_of self.old.state) }
         ensures { self.new ≡ record self.old {
           state = begun id (option_or self.old.state.session (session_kept self.old.prepared))
               self.old.state;
           prepared = self.new.prepared;
         } }
     {
-        self.transfers.set_phase(id, Phase::Processing);
-        if self.session.is_none() {
-            self.session = self.prepared.take_session();
+        let state = &mut self.state;
+        table::set_phase(&mut state.transfers, id, Phase::Processing);
+        if state.session.is_none() {
+            state.session = self.prepared.take_session();
         }
-        if let Some(session) = &mut self.session {
+        if let Some(session) = &mut state.session {
             session.processing = Some(id);
             session.units_done = 0;
         }
@@ -205,8 +214,9 @@ impl<S: Staging> Held<S> {
     fn clean_up(&mut self, outcome: Outcome)
         ensures { self.new ≡ record self.old { state = cleaning_up outcome self.old.state } }
     {
-        self.status = Status::CleaningUp;
-        if let Some(session) = &mut self.session {
+        let state = &mut self.state;
+        state.status = Status::CleaningUp;
+        if let Some(session) = &mut state.session {
             session.outcome = Some(outcome);
         }
     }

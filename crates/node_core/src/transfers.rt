@@ -13,7 +13,7 @@ use crate::prepared::Prepared;
 use package_reader::{PackageError, Span, read_package};
 use pm_types::{Contents, ExitVerdict, Refusal, Reply};
 use std::alloc::{AllocError, Global};
-use transfer_blocks::{Area, Staging};
+use transfer_blocks::{Area, Staging, find_ending, find_taking, table};
 use ucm_base::{ClientId, Part};
 
 impl<S: Staging> Held<S> {
@@ -23,7 +23,8 @@ impl<S: Staging> Held<S> {
         ensures judged { IsJudged self.old client (TransferStart size) result self.new }
         ensures faults { self.new.faults ≡ self.old.faults }
     {
-        self.transfers.start(client, size)
+        let state = &mut self.state;
+        table::start(&mut state.transfers, client, size)
     }
 
     /// TransferData, of a block that lies behind the bytes that came.
@@ -34,8 +35,9 @@ impl<S: Staging> Held<S> {
             result self.new }
         ensures faults { self.new.faults ≡ self.old.faults }
     {
-        self.transfers
-            .block(client, id, counter, block.len() as u64)
+        let length = block.len() as u64;
+        let state = &mut self.state;
+        table::block(&mut state.transfers, client, id, counter, length)
     }
 
     /// TransferExit, by the verdict that is ready.
@@ -46,7 +48,8 @@ impl<S: Staging> Held<S> {
         ensures faults { self.new.faults ≡ self.old.faults }
     {
         let verdict = self.prepared.take_verdict();
-        self.transfers.exit(client, id, verdict)
+        let state = &mut self.state;
+        table::exit(&mut state.transfers, client, id, verdict)
     }
 
     /// DeleteTransfer.
@@ -55,7 +58,8 @@ impl<S: Staging> Held<S> {
         ensures judged { IsJudged self.old client (DeleteTransfer id) result self.new }
         ensures faults { self.new.faults ≡ self.old.faults }
     {
-        self.transfers.delete(client, id)
+        let state = &mut self.state;
+        table::delete(&mut state.transfers, client, id)
     }
 
     /// Stages a block that the table accepts behind the bytes that came.
@@ -74,7 +78,9 @@ impl<S: Staging> Held<S> {
             → HasRisen self.old.faults self.new.faults }
     {
         let length = block.len() as u64;
-        let Some(found) = self.transfers.taking_block(client, id, counter, length) else {
+        let state = &self.state;
+        let list = &state.transfers.list;
+        let Some(found) = find_taking(list, client, id, counter, length) else {
             return Ok(());
         };
         let area = Area::Transfer { slot: found.slot };
@@ -95,7 +101,8 @@ impl<S: Staging> Held<S> {
         ensures cause { IsErrOf result ReserveError.StagingFailed
             → HasRisen self.old.faults self.new.faults }
     {
-        let Some(found) = self.transfers.ending(client, id) else {
+        let state = &self.state;
+        let Some(found) = find_ending(&state.transfers.list, client, id) else {
             return Ok(());
         };
         let area = Area::Transfer { slot: found.slot };

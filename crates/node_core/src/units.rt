@@ -15,11 +15,11 @@ ghost use Rattle.node_core.specs.Units.{IsReservedWork, IsUnit, after_work, answ
 
 use crate::held::Held;
 use crate::node::ReserveError;
-use crate::plan::planned;
+use crate::plan::planned_clusters;
 use crate::prepared::Prepared;
 use pm_types::{EndMark, Happened, Outcome, Session, Status, Worked};
 use std::alloc::{AllocError, Global};
-use transfer_blocks::Staging;
+use transfer_blocks::{Staging, table};
 use ucm_base::ClusterName;
 
 impl<S: Staging> Held<S> {
@@ -31,7 +31,7 @@ impl<S: Staging> Held<S> {
         ensures cause { IsErrOf result ReserveError.StagingFailed
             → HasRisen self.old.faults self.new.faults }
     {
-        match self.status {
+        match self.state.status {
             Status::Processing => self.reserve_unit(alloc),
             _ => {
                 self.reserve_clusters(alloc)?;
@@ -48,11 +48,12 @@ impl<S: Staging> Held<S> {
             (self.old.state.status ≢ Processing → IsReservedWork self.new) }
         ensures faults { self.new.faults ≡ self.old.faults }
     {
-        let Some(session) = &self.session else {
+        let state = &self.state;
+        let Some(session) = &state.session else {
             return Ok(());
         };
-        let clusters = match self.status {
-            Status::Activating => planned(alloc, session)?,
+        let clusters = match state.status {
+            Status::Activating => planned_clusters(alloc, session)?,
             Status::RollingBack => session.saved.copied(alloc)?,
             _ => return Ok(()),
         };
@@ -75,13 +76,13 @@ impl<S: Staging> Held<S> {
         let passed = self.unit_passes(fails);
         if !self.unit(passed) {
             return Worked::Nothing {
-                status: self.status,
+                status: self.state.status,
             };
         }
         self.enter();
         Worked::Unit {
             passed,
-            after: self.status,
+            after: self.state.status,
         }
     }
 
@@ -94,7 +95,7 @@ impl<S: Staging> Held<S> {
         ensures same { result ≡ false → self.new ≡ self.old }
         ensures faults { self.new.faults ≡ self.old.faults }
     {
-        match self.status {
+        match self.state.status {
             Status::Processing => self.process_unit(passed),
             Status::Activating => self.activate_unit(passed),
             Status::Verifying => self.verify_unit(passed),
@@ -118,23 +119,25 @@ impl<S: Staging> Held<S> {
         ensures entries { self.new.state.entries ≡ self.old.state.entries + 1 }
         ensures status { self.new.state.status ≡ self.old.state.status }
     {
-        let after = self.status;
-        self.lines.push(self.entries, Happened::Unit { after });
-        self.entries += 1;
+        let state = &mut self.state;
+        let after = state.status;
+        state.lines.push(state.entries, Happened::Unit { after });
+        state.entries += 1;
     }
 
     /// The verdict of the next unit: true outside Verifying.
     fn unit_passes(&self, fails: &[ClusterName]) -> bool
         ensures { result ≡ unit_passes fails.now (node_of self.now) }
     {
-        self.status != Status::Verifying || self.passes(fails)
+        self.state.status != Status::Verifying || self.passes(fails)
     }
 
     /// Whether the change that is verified next is of a cluster that doesn't fail.
     fn passes(&self, fails: &[ClusterName]) -> bool
         ensures { result ≡ passes fails.now (node_of self.now) }
     {
-        let Some(session) = &self.session else {
+        let state = &self.state;
+        let Some(session) = &state.session else {
             return true;
         };
         match session.changes.as_slice().get(session.verified as usize) {
@@ -151,14 +154,16 @@ impl<S: Staging> Held<S> {
         ensures unit { IsUnit self.old passed self.new }
         ensures faults { self.new.faults ≡ self.old.faults }
     {
-        let Some(session) = &mut self.session else {
+        let state = &mut self.state;
+        let Some(session) = &mut state.session else {
+            return;
+        };
+        let Some(clusters) = self.prepared.take_clusters() else {
             return;
         };
         session.verified = 0;
-        self.status = Status::Verifying;
-        if let Some(clusters) = self.prepared.take_clusters() {
-            self.running = clusters;
-        }
+        state.status = Status::Verifying;
+        state.running = clusters;
     }
 
     /// One change more is verified, or the node turns back.
@@ -168,18 +173,20 @@ impl<S: Staging> Held<S> {
         ensures unit { IsUnit self.old passed self.new }
         ensures faults { self.new.faults ≡ self.old.faults }
     {
+        let state = &mut self.state;
         if !passed {
-            self.status = Status::RollingBack;
+            state.status = Status::RollingBack;
             return;
         }
-        let Some(session) = &mut self.session else {
+        let Some(session) = &mut state.session else {
             return;
         };
         let count = session.changes.as_slice().len();
         session.verified += 1;
-        if session.verified as usize >= count {
-            self.status = Status::Activated;
+        if (session.verified as usize) < count {
+            return;
         }
+        state.status = Status::Activated;
     }
 
     /// The saved clusters, which are ready, run again.
@@ -190,10 +197,12 @@ impl<S: Staging> Held<S> {
         ensures unit { IsUnit self.old passed self.new }
         ensures faults { self.new.faults ≡ self.old.faults }
     {
-        self.status = Status::RolledBack;
-        if let Some(clusters) = self.prepared.take_clusters() {
-            self.running = clusters;
-        }
+        let Some(clusters) = self.prepared.take_clusters() else {
+            return;
+        };
+        let state = &mut self.state;
+        state.status = Status::RolledBack;
+        state.running = clusters;
     }
 
     /// The session is over: its owner's end mark is kept, and the transfers that were processed are gone.
@@ -203,10 +212,11 @@ impl<S: Staging> Held<S> {
         ensures unit { IsUnit self.old passed self.new }
         ensures faults { self.new.faults ≡ self.old.faults }
     {
-        self.status = Status::Idle;
-        self.transfers.clean();
-        if let Some(session) = self.session.take() {
-            self.ended[session.owner.number() as usize] = end_mark(session.tag, session.outcome);
+        let state = &mut self.state;
+        state.status = Status::Idle;
+        table::clean(&mut state.transfers);
+        if let Some(session) = state.session.take() {
+            state.ended[session.owner.number() as usize] = end_mark(session.tag, session.outcome);
         }
     }
 }

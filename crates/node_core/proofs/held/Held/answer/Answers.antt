@@ -1,18 +1,20 @@
 use Rattle.node_core.proofs.Queried.{clusters-shown, changes-shown, packages-shown}
+use Rattle.node_core.proofs.Opened.{within}
 use Rattle.node_core.proofs.held.Held.answer.Goals as goal
 
 pub returns-in_ok-cluster_info-in-GetSwClusterInfo : goal.returns-in_ok-cluster_info-in-GetSwClusterInfo
 returns-in_ok-cluster_info-in-GetSwClusterInfo g c =
-    clusters-shown c.self.view_is c.args.client c.in-GetSwClusterInfo.is
+    clusters-shown (within c.state.view_is c.self.view_is) c.args.client c.in-GetSwClusterInfo.is
     c.in_ok-cluster_info-in-GetSwClusterInfo.field-0 c.in_ok-cluster_info-in-GetSwClusterInfo.ensures
 
 pub returns-in_ok-change_info-in-GetSwClusterChangeInfo : goal.returns-in_ok-change_info-in-GetSwClusterChangeInfo
 returns-in_ok-change_info-in-GetSwClusterChangeInfo g c =
-    changes-shown c.self.view_is c.args.client c.in-GetSwClusterChangeInfo.is
+    changes-shown (within c.state.view_is c.self.view_is) c.args.client c.in-GetSwClusterChangeInfo.is
     c.in_ok-change_info-in-GetSwClusterChangeInfo.field-0 _ c.in_ok-change_info-in-GetSwClusterChangeInfo.ensures
     c.as_ref.ensures.value
 
 pub returns-in_ok-packages-in-GetSwPackages : goal.returns-in_ok-packages-in-GetSwPackages
 returns-in_ok-packages-in-GetSwPackages g c =
-    packages-shown c.self.view_is c.args.client c.in-GetSwPackages.is c.in_ok-packages-in-GetSwPackages.field-0
+    packages-shown (within c.state.view_is c.self.view_is) c.args.client c.in-GetSwPackages.is
+    c.in_ok-packages-in-GetSwPackages.field-0
     c.as_slice-transfers.result.now c.in_ok-packages-in-GetSwPackages.ensures c.as_slice-transfers.ensures.transfers

@@ -1,10 +1,13 @@
 use Rattle.node_core.proofs.Names.{Holding, Some, ap, arith, option_map, sym, ◌∙◌}
 use Rattle.node_core.proofs.Lastly.{has-room, last-done, more-done, next-fits, not-lost, some-plan}
+use Rattle.node_core.proofs.Opened.{within}
+use Rattle.node_core.proofs.Sound.{table-within}
 use Rattle.node_core.proofs.held.Held.process_unit.Goals as goal
 
 pub overflow_add-session : goal.overflow_add-session
 overflow_add-session g c =
-    let left = next-fits c.self.view_is _ c.in-Some-processing.id c.in-Some-processing.is (c.in-Some.is
+    let left = next-fits (within c.state.view_is c.self.view_is) _ c.in-Some-processing.id c.in-Some-processing.is
+    (c.in-Some.is
     ∙ ap Some (sym c.session.view_is))
     c.requires.sound c.requires.status c.in-Some-stored.transfer.now (sym c.stored.ensures
     ∙ ap (option_map _) c.in-Some-stored.is) in
@@ -14,23 +17,26 @@ overflow_add-session g c =
 
 pub returns-in_default-stored-clause-unit : goal.returns-in_default-stored-clause-unit
 returns-in_default-stored-clause-unit g c =
-    absurd (not-lost c.self.view_is _ c.in-Some-processing.id c.in-Some-processing.is (c.in-Some.is
+    absurd (not-lost (within c.state.view_is c.self.view_is) _ c.in-Some-processing.id c.in-Some-processing.is
+    (c.in-Some.is
     ∙ ap Some (sym c.session.view_is))
     c.requires.sound c.requires.status (sym c.stored.ensures ∙ ap (option_map _) c.in_default-stored.is))
 
 pub returns-then-from-units-clause-unit : goal.returns-then-from-units-clause-unit
 returns-then-from-units-clause-unit g c =
-    more-done c.self.view_is _ c.in-Some-processing.id c.in-Some-processing.is (c.in-Some.is
+    more-done (within c.state.view_is c.self.view_is) _ c.in-Some-processing.id c.in-Some-processing.is (c.in-Some.is
     ∙ ap Some (sym c.session.view_is))
     c.requires.sound c.requires.status c.in-Some-stored.transfer.now (sym c.stored.ensures
     ∙ ap (option_map _) c.in-Some-stored.is)
     c.requires.reserved (omega (arith, c.if-from-units.true, c.from.ensures, c.units-units.ensures.units))
-    c.args.passed c.self.inside.prepared c.self.inside.status (ap (λ (h : Holding). h.state.status) c.self.view_is
+    c.args.passed c.self.inside.prepared c.state.inside.status
+    (ap (λ (h : Holding). h.state.status) (within c.state.view_is c.self.view_is)
     ∙ c.requires.status)
 
 pub returns-in_default-take_changes-clause-unit : goal.returns-in_default-take_changes-clause-unit
 returns-in_default-take_changes-clause-unit g c =
-    absurd (some-plan c.self.view_is _ c.in-Some-processing.id c.in-Some-processing.is (c.in-Some.is
+    absurd (some-plan (within c.state.view_is c.self.view_is) _ c.in-Some-processing.id c.in-Some-processing.is
+    (c.in-Some.is
     ∙ ap Some (sym c.session.view_is))
     c.requires.sound c.requires.status c.in-Some-stored.transfer.now (sym c.stored.ensures
     ∙ ap (option_map _) c.in-Some-stored.is)
@@ -39,7 +45,7 @@ returns-in_default-take_changes-clause-unit g c =
 
 pub append-requires : goal.append-requires
 append-requires g c =
-    has-room c.self.view_is _ c.in-Some-processing.id c.in-Some-processing.is (c.in-Some.is
+    has-room (within c.state.view_is c.self.view_is) _ c.in-Some-processing.id c.in-Some-processing.is (c.in-Some.is
     ∙ ap Some (sym c.session.view_is))
     c.requires.sound c.requires.status c.in-Some-stored.transfer.now (sym c.stored.ensures
     ∙ ap (option_map _) c.in-Some-stored.is)
@@ -48,11 +54,14 @@ append-requires g c =
 
 pub returns-clause-unit : goal.returns-clause-unit
 returns-clause-unit g c =
-    last-done c.self.view_is _ c.in-Some-processing.id c.in-Some-processing.is (c.in-Some.is
+    last-done (within c.state.view_is c.self.view_is) _ c.in-Some-processing.id c.in-Some-processing.is (c.in-Some.is
     ∙ ap Some (sym c.session.view_is))
     c.requires.sound c.requires.status c.in-Some-stored.transfer.now (sym c.stored.ensures
     ∙ ap (option_map _) c.in-Some-stored.is)
     c.requires.reserved (omega (arith, c.if-from-units.false, c.from.ensures, c.units-units.ensures.units))
     c.in-Some-take_changes.changes.items (sym c.take_changes.ensures ∙ ap (option_map _) c.in-Some-take_changes.is)
     c.args.passed c.take_changes.new.self
-    c.set_phase.new.self c.set_phase.ensures.table c.append.new.self c.append.ensures
+    c.set_phase.new.transfers c.set_phase.ensures.table c.append.new.self c.append.ensures
+
+pub set_phase-requires : goal.set_phase-requires
+set_phase-requires g c = record { table = table-within (within c.state.view_is c.self.view_is) c.requires.sound }
