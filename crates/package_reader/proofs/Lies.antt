@@ -13,7 +13,8 @@ use Rattle.ucm_base.specs.declared.parts.Action.TheVariants.{Remove}
 use Rattle.ucm_base.specs.declared.parts.Manifest.{Manifest}
 use Rattle.ucm_base.specs.declared.parts.Part.{Part}
 use Rattle.package_reader.specs.Fields.{◌>>=◌, block_at, bytes_of, end_at, end_of, fields_of, head_of, number_at, part_at, parts_at, text_at, texts_limit}
-use Rattle.package_reader.specs.Lies.{PartsLie, parts_place, payload_at}
+use Rattle.package_reader.specs.Layout.{parts_place}
+use Rattle.package_reader.specs.Lies.{PartsLie, payload_at}
 use Rattle.package_reader.specs.Reading.{contents_of, has_its_payload, manifests_in, part_in, payloads_in, reading, with_payload}
 use Rattle.package_reader.specs.declared.fault.PackageError.{PackageError}
 use Rattle.package_reader.specs.declared.fault.PackageError.TheVariants.{PackageInconsistent}

@@ -37,11 +37,11 @@ fields-size (part ∷ parts) =
       fields-size parts,
     )
 
-pub whole-size : (parts : List (Part Bytes))
+pub whole_size : (parts : List (Part Bytes))
     → length (package_text parts) ≡ length (front (length parts)) + 8 * length parts + texts_size parts
     + payloads_size parts + 32
 unfolding package_text
-whole-size parts =
+whole_size parts =
     let body = front (length (map canonical parts)) ++ flat_map fields (map canonical parts) in
     omega (
       arith,
@@ -59,7 +59,7 @@ pub size-decides : (parts : List (Part Bytes)) (size : ℕ) → texts_size parts
 unfolding is_too_large
 size-decides parts size short is =
     rw (le-ltb (texts_limit (length parts)) (texts_size parts) short)
-    (ap (nat_lt package_limit) (is ∙ sym (whole-size parts)))
+    (ap (nat_lt package_limit) (is ∙ sym (whole_size parts)))
 
 each-and : {X : Type 0} (P : X → Type 0) (xs : List X) (x : X) → AllByRecursion P xs → P x
     → AllByRecursion P (xs ++ x ∷ [])

@@ -4,6 +4,7 @@ use Rattle.std.specs.Int.{from_be_bytes, w32}
 use Rattle.std.specs.Str.{bytes_eq}
 use Rattle.sha2.specs.Sha256.{sha256}
 use Rattle.ucm_base.specs.Limits.{manifest_limit, manifests_limit, part_limit}
+use Rattle.package_reader.specs.Layout.{count_size, digest_size, length_size, mark_size}
 use Rattle.package_reader.specs.declared.fault.PackageError.{PackageError}
 use Rattle.package_reader.specs.declared.fault.PackageError.TheVariants.{PackageInconsistent}
 use Rattle.package_reader.specs.declared.fields.Head.{Head}
@@ -39,14 +40,15 @@ LiesWithin bytes span = end_of span ≤ length bytes
 
 -- the number that four bytes at a place spell
 abbrev pub number_at : List ℕ → ℕ → ℕ
-number_at bytes place = from_be_bytes w32 (take 4 (drop place bytes))
+number_at bytes place = from_be_bytes w32 (take length_size (drop place bytes))
 
 -- the block behind its length at a place
 unfoldable pub block_at : List ℕ → ℕ → Result Span PackageError
 block_at bytes place =
-    if nat_lt (length bytes) (place + 4) then Err (PackageInconsistent place)
-    else if nat_lt (length bytes) (place + 4 + number_at bytes place) then Err (PackageInconsistent (place + 4))
-    else Ok (record { at = place + 4; len = number_at bytes place })
+    let at = place + length_size in
+    if nat_lt (length bytes) at then Err (PackageInconsistent place)
+    else if nat_lt (length bytes) (at + number_at bytes place) then Err (PackageInconsistent at)
+    else Ok (record { at = at; len = number_at bytes place })
 
 -- a manifest's text, which may have so many bytes
 abbrev pub text_at : List ℕ → ℕ → ℕ → Result Span PackageError
@@ -71,21 +73,22 @@ parts_at (suc n) bytes room place = do
 -- how many parts there are, and where they begin
 abbrev pub head_of : List ℕ → Result Head PackageError
 head_of bytes =
-    if bytes_eq mark_of_one (take 4 bytes) then Ok (record { count = 1; place = 4 })
-    else if not (bytes_eq mark_of_more (take 4 bytes)) then Err (PackageInconsistent 0)
-    else if nat_le 2 (get_or bytes 4 0) && nat_le (get_or bytes 4 0) part_limit
-    then Ok (record { count = get_or bytes 4 0; place = 5 })
-    else Err (PackageInconsistent 4)
+    let mark = take mark_size bytes in
+    let count = get_or bytes mark_size 0 in
+    if bytes_eq mark_of_one mark then Ok (record { count = 1; place = mark_size })
+    else if not (bytes_eq mark_of_more mark) then Err (PackageInconsistent 0)
+    else if nat_le 2 count && nat_le count part_limit then Ok (record { count = count; place = mark_size + count_size })
+    else Err (PackageInconsistent mark_size)
 
 -- the bytes from a place on begin with the digest of all before
 abbrev pub has_digest_at : List ℕ → ℕ → Bool
-has_digest_at bytes place = bytes_eq (sha256 (take place bytes)) (take 32 (drop place bytes))
+has_digest_at bytes place = bytes_eq (sha256 (take place bytes)) (take digest_size (drop place bytes))
 
 -- the digest at a place, with nothing behind it
 abbrev pub end_at : List ℕ → ℕ → Result (Unit {0}) PackageError
 end_at bytes place =
     if not (has_digest_at bytes place) then Err (PackageInconsistent place)
-    else if nat_lt (place + 32) (length bytes) then Err (PackageInconsistent (place + 32))
+    else if nat_lt (place + digest_size) (length bytes) then Err (PackageInconsistent (place + digest_size))
     else Ok tt
 
 -- where the parts lie in bytes that are whole

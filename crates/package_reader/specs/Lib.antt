@@ -1,3 +1,4 @@
+pub mod Layout
 pub mod Exact
 pub mod Fields
 pub mod Reading

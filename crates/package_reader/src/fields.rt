@@ -1,9 +1,12 @@
 //! The fields of a package, taken one after another. No call takes memory.
 ghost use Rattle.std.specs.Prelude.{◌≡◌, ◌+◌, ◌<◌, ◌≤◌, length, MatchOption, IfOk};
 ghost use Rattle.package_reader.specs.Fields.{block_at, end_at, end_of, fields_of, head_of, number_at, part_at, parts_at, text_at, texts_limit};
+ghost use Rattle.package_reader.specs.Layout.{length_size};
 ghost use Rattle.package_reader.specs.Exact.{IsExactly};
+ghost use Rattle.ucm_base.specs.Limits.{part_limit};
 
 use crate::PackageError;
+use crate::layout::{COUNT_SIZE, DIGEST_SIZE, LENGTH_SIZE, MARK_SIZE};
 use crate::span::{PartPlace, Span};
 use arrayvec::ArrayVec;
 use sha2::{Digest, Sha256};
@@ -11,10 +14,10 @@ use ucm_base::limits::{MANIFEST_LIMIT, MANIFESTS_LIMIT, PART_LIMIT};
 use wire::take_u32;
 
 /// The first bytes of a package of one part.
-pub(crate) const MARK_OF_ONE: &[u8; 4] = b"SWP1";
+pub(crate) const MARK_OF_ONE: &[u8; MARK_SIZE] = b"SWP1";
 
 /// The first bytes of a package of more parts, before their number.
-pub(crate) const MARK_OF_MORE: &[u8; 4] = b"SWP2";
+pub(crate) const MARK_OF_MORE: &[u8; MARK_SIZE] = b"SWP2";
 
 /// The most parts that a package has.
 pub(crate) const MOST: usize = PART_LIMIT as usize;
@@ -52,8 +55,8 @@ pub(crate) fn inconsistent(place: usize) -> PackageError
 /// The number at a place.
 fn number_at(bytes: &[u8], place: usize) -> Option<u32>
     requires { place ≤ length bytes.now }
-    ensures { MatchOption result (length bytes.now < place + 4)
-        (λ n. (n ≡ number_at bytes.now place) × (place + 4 ≤ length bytes.now)) }
+    ensures { MatchOption result (length bytes.now < place + length_size)
+        (λ n. (n ≡ number_at bytes.now place) × (place + length_size ≤ length bytes.now)) }
 {
     let (number, _) = take_u32(&bytes[place..])?;
     Some(number)
@@ -69,7 +72,7 @@ fn block_at(bytes: &[u8], place: usize) -> Result<Span, PackageError>
     let Some(len) = number_at(bytes, place) else {
         return Err(inconsistent(place));
     };
-    let at = place + 4;
+    let at = place + LENGTH_SIZE;
     if bytes.len() - at < len as usize {
         return Err(inconsistent(at));
     }
@@ -105,7 +108,7 @@ fn part_at(bytes: &[u8], room: u64, place: usize) -> Result<PartPlace, PackageEr
 
 /// The parts behind the head, and the place behind them.
 fn parts_at(bytes: &[u8], head: Head) -> Result<(Places, usize), PackageError>
-    requires count { head.count ≤ 16 }
+    requires count { head.count ≤ part_limit }
     requires place { head.place ≤ length bytes.now }
     ensures parts { IsExactly (λ parts. (parts.0.items, parts.1)) result
         (parts_at head.count bytes.now (texts_limit head.count) head.place) }
@@ -126,20 +129,23 @@ fn parts_at(bytes: &[u8], head: Head) -> Result<(Places, usize), PackageError>
 /// How many parts there are, and where they begin.
 fn head_of(bytes: &[u8]) -> Result<Head, PackageError>
     ensures head { result ≡ head_of bytes.now }
-    ensures within { IfOk result (λ h. (h.count ≤ 16) × (h.place ≤ length bytes.now)) }
+    ensures within { IfOk result (λ h. (h.count ≤ part_limit) × (h.place ≤ length bytes.now)) }
 {
     if bytes.starts_with(MARK_OF_ONE) {
-        return Ok(Head { count: 1, place: 4 });
+        return Ok(Head {
+            count: 1,
+            place: MARK_SIZE,
+        });
     }
     if !bytes.starts_with(MARK_OF_MORE) {
         return Err(inconsistent(0));
     }
-    match bytes.get(4) {
+    match bytes.get(MARK_SIZE) {
         Some(count) if *count >= 2 && u64::from(*count) <= PART_LIMIT => Ok(Head {
             count: *count,
-            place: 5,
+            place: MARK_SIZE + COUNT_SIZE,
         }),
-        _ => Err(inconsistent(4)),
+        _ => Err(inconsistent(MARK_SIZE)),
     }
 }
 
@@ -149,7 +155,7 @@ fn check_end(bytes: &[u8], place: usize) -> Result<(), PackageError>
     ensures { result ≡ end_at bytes.now place }
 {
     let (before, rest) = bytes.split_at(place);
-    let digest: [u8; 32] = Sha256::digest(before);
+    let digest: [u8; DIGEST_SIZE] = Sha256::digest(before);
     if !rest.starts_with(&digest) {
         return Err(inconsistent(place));
     }

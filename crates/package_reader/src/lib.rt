@@ -8,6 +8,7 @@
 mod fault;
 mod fields;
 mod laws;
+mod layout;
 mod names;
 mod packed;
 mod payload;
@@ -17,8 +18,9 @@ mod span;
 
 pub use fault::PackageError;
 pub use laws::a_package_is_one;
+pub use layout::{COUNT_SIZE, DIGEST_SIZE, LENGTH_SIZE, MARK_SIZE, parts_place};
 pub use packed::{Packages, Packed};
-pub use print::{PrintError, are_parts, is_too_large, print_package, seal_package};
+pub use print::{PrintError, are_parts, is_too_large, package_size, print_package, seal_package};
 pub use read::{Contents, read_package};
 pub use span::Span;
 

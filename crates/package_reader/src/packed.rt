@@ -1,6 +1,6 @@
 //! Packages that keep their bytes.
 ghost use Rattle.std.specs.Prelude.{◌≡◌, ◌⊎◌, Ok, Err, IfOk, IfErr, map};
-ghost use Rattle.package_reader.specs.Reading.{reading, with_payload};
+ghost use Rattle.package_reader.specs.Reading.{contents_of, reading, with_payload};
 
 use crate::{Contents, PackageError, Span, read_package};
 use std::alloc::Global;
@@ -56,7 +56,8 @@ impl Packed {
 
     /// The parts, in order, whose payloads lie in the bytes.
     pub fn parts(&self) -> &[Part<Span>]
-        ensures { map (with_payload self.now.bytes) result.now ≡ self.now.parts }
+        ensures parts { map (with_payload self.now.bytes) result.now ≡ self.now.parts }
+        ensures contents { contents_of self.now.bytes ≡ Ok result.now }
     {
         self.contents.as_slice()
     }

@@ -2,11 +2,13 @@
 ghost use Rattle.std.specs.Prelude.{◌≡◌, ◌⊎◌, ◌<◌, ◌≤◌, ◌^◌, ◌+◌, ◌*◌, ◌++◌, length, Ok, Err, IfOk, IfErr, OnOk, false, true};
 ghost use Rattle.std.specs.List.{list_all};
 ghost use Rattle.ucm_base.specs.Limits.{part_limit};
+ghost use Rattle.package_reader.specs.Layout.{digest_size, length_size};
 ghost use Rattle.package_reader.specs.Printing.{all_belong, canonical, is_too_large, package_text, payloads_size, printing, texts_size};
 ghost use Rattle.package_reader.specs.Reading.{are_parts, belongs};
 ghost use Rattle.package_reader.specs.Spelling.{HasText, IsPackage, fields, front};
 
 use crate::fields::{MARK_OF_MORE, MARK_OF_ONE, texts_limit};
+use crate::layout::{DIGEST_SIZE, LENGTH_SIZE, parts_place};
 use crate::names::{are_different, names_of};
 use crate::payload::is_payload_of;
 use manifest::print_manifest;
@@ -70,14 +72,21 @@ fn sizes_of(alloc: Global, parts: &[Part<Block>]) -> Result<Sizes, AllocError>
 fn size_of(count: usize, sizes: Sizes) -> u64
     requires count { count ≤ part_limit }
     requires bounds { (sizes.texts < 2 ^ 32) × (sizes.payloads < 2 ^ 40) }
-    ensures { result ≡ length (front count) + 8 * count + sizes.texts + sizes.payloads + 32 }
+    ensures { result ≡ length (front count) + 2 * length_size * count + sizes.texts
+        + sizes.payloads + digest_size }
 {
-    let front = if count == 1 {
-        MARK_OF_ONE.len()
-    } else {
-        MARK_OF_MORE.len() + 1
-    };
-    (front + 8 * count + 32) as u64 + sizes.texts + sizes.payloads
+    let lengths = 2 * LENGTH_SIZE * count;
+    (parts_place(count) + lengths + DIGEST_SIZE) as u64 + sizes.texts + sizes.payloads
+}
+
+/// The bytes of the package of these parts.
+#[tactic(auto, using(crate::proofs::Sizes::whole_size))]
+pub fn package_size(alloc: Global, parts: &[Part<Block>]) -> Result<u64, AllocError>
+    requires { length parts.now ≤ part_limit }
+    ensures { IfOk result (λ size. size ≡ length (package_text parts.now)) }
+{
+    let sizes = sizes_of(alloc, parts)?;
+    Ok(size_of(parts.len(), sizes))
 }
 
 /// Whether the manifests' texts or the whole pass their limit.
@@ -153,7 +162,7 @@ pub fn seal_package(alloc: Global, parts: &[Part<Block>]) -> Result<Vec<u8>, All
     'parts: for part in parts {
         put_part(alloc, &mut bytes, part)?;
     }
-    let digest: [u8; 32] = Sha256::digest(bytes.as_slice());
+    let digest: [u8; DIGEST_SIZE] = Sha256::digest(bytes.as_slice());
     bytes.extend_from_slice(&digest)?;
     Ok(bytes)
 }
