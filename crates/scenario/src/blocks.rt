@@ -35,7 +35,7 @@ impl BlockSource {
     }
 
     /// The block, among the attached bytes.
-    pub fn made(&self, alloc: Global, attached: &[u8]) -> Result<Block, AllocError>
+    pub fn make(&self, alloc: Global, attached: &[u8]) -> Result<Block, AllocError>
         ensures { IfOk result (λ block. block ≡ bytes_meant attached.now self.now) }
     {
         match self {
@@ -47,13 +47,13 @@ impl BlockSource {
                 let bytes = Vec::from_slice(alloc, block.as_slice())?;
                 Ok(Block::of(bytes))
             }
-            BlockSource::Piece { at, len } => piece_made(alloc, attached, *at, *len),
+            BlockSource::Piece { at, len } => make_piece(alloc, attached, *at, *len),
         }
     }
 }
 
 /// A piece of the attached bytes, as far as they go.
-fn piece_made(alloc: Global, attached: &[u8], at: u64, len: u32) -> Result<Block, AllocError>
+fn make_piece(alloc: Global, attached: &[u8], at: u64, len: u32) -> Result<Block, AllocError>
     ensures { IfOk result (λ block. block ≡ bytes_meant attached.now (BlockSource.Piece at len)) }
 {
     let at = usize::min(at as usize, attached.len());

@@ -73,7 +73,7 @@ pub fn call_of(alloc: Global, call: &ScriptCall, attached: &[u8]) -> Result<Call
 {
     match call {
         ScriptCall::TransferData { id, counter, block } => {
-            let bytes = block.made(alloc, attached)?;
+            let bytes = block.make(alloc, attached)?;
             Ok(Call::TransferData {
                 id: *id,
                 counter: *counter,

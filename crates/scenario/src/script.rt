@@ -1,5 +1,5 @@
 //! Scripts, read line by line.
-ghost use Rattle.std.specs.Prelude.{◌≡◌, ◌<◌, ◌+◌, ◌-◌, [], drop, map, take, IfOk, Ok, Err, Some, ℕ};
+ghost use Rattle.std.specs.Prelude.{◌≡◌, ◌<◌, ◌+◌, ◌-◌, [], drop, map, take, false, IfOk, OnOk, Ok, Err, Some, ℕ};
 ghost use Rattle.scenario.specs.declared.why.Why.{Why};
 ghost use Rattle.scenario.specs.Readings.{Becomes, IsRead};
 ghost use Rattle.scenario.specs.Lines.{line_in};
@@ -217,42 +217,48 @@ fn is_passed(line: &[u8]) -> bool
 }
 
 /// The first words of a line, at most this many.
-fn first_words<'a>(alloc: Global, line: &'a [u8], most: usize) -> Result<Vec<&'a [u8]>, AllocError>
-    ensures { IfOk result (λ v. map (λ w. w.now) v.items ≡ take most (words_of line.now)) }
+fn first_words<'a>(words: &mut Vec<&'a [u8]>, line: &'a [u8], most: usize) -> Result<(), AllocError>
+    ensures { OnOk result (map (λ w. w.now) words.new.items ≡ take most (words_of line.now)) }
 {
-    let mut words = Vec::new(alloc);
+    words.clear();
     let mut left = Some(line);
     'words: for _i in 0..most {
         let Some(text) = left else {
-            return Ok(words);
+            return Ok(());
         };
         let (word, rest) = first_piece(text, b' ');
         words.push(word)?;
         left = rest;
     }
-    Ok(words)
+    Ok(())
 }
 
 /// The line of a text's words.
-fn read_words(
+fn read_words<'a>(
     alloc: Global,
     attachments: &Attachments,
-    line: &[u8],
+    words: &mut Vec<&'a [u8]>,
+    line: &'a [u8],
 ) -> Result<ScriptLine, WordError>
     ensures { IsRead result (line_in attachments.now (words_of line.now)) }
 {
-    let words = first_words(alloc, line, WORD_LIMIT)?;
+    first_words(words, line, WORD_LIMIT)?;
     read_line(alloc, attachments, words.as_slice())
 }
 
 /// Takes in a line.
-fn take_in(alloc: Global, above: &mut Above, number: u64, line: &[u8]) -> Result<(), WordError>
+#[inline(never)]
+fn take_in<'a>(
+    alloc: Global,
+    above: &mut Above,
+    words: &mut Vec<&'a [u8]>,
+    number: u64,
+    line: &'a [u8],
+) -> Result<(), WordError>
+    requires { is_passed_over line.now ≡ false }
     ensures { Becomes result above.new (line_read number above.old line.now) }
 {
-    if is_passed(line) {
-        return Ok(());
-    }
-    let read = read_words(alloc, &above.attachments, line)?;
+    let read = read_words(alloc, &above.attachments, words, line)?;
     above.add(number, read)
 }
 
@@ -260,7 +266,7 @@ fn take_in(alloc: Global, above: &mut Above, number: u64, line: &[u8]) -> Result
 fn is_last(line: &[u8]) -> bool
     ensures { result ≡ is_end line.now }
 {
-    line == b"end".as_slice()
+    matches!(line, [b'e', b'n', b'd'])
 }
 
 /// The script of an input for the command `replay`.
@@ -271,14 +277,17 @@ fn read_replay(alloc: Global, input: &[u8]) -> Result<Script, ScriptError>
     let mut at = 0u64;
     let mut number = 1u64;
     let mut left = Some(input);
+    let mut words = Vec::new(alloc);
     'lines: while let Some(text) = left {
         let (line, rest) = first_piece(text, b'\n');
         at += line.len() as u64 + 1;
         if is_last(line) {
             left = None;
         } else {
-            if let Err(fault) = take_in(alloc, &mut above, number, line) {
-                return Err(fault_at(number, fault));
+            if !is_passed(line) {
+                if let Err(fault) = take_in(alloc, &mut above, &mut words, number, line) {
+                    return Err(fault_at(number, fault));
+                }
             }
             number += 1;
             left = rest;
