@@ -1,2 +1,5 @@
 pub mod FirstLine
 pub mod With
+pub mod Sizes
+pub mod Forms
+pub mod Attached

@@ -11,14 +11,14 @@ use Rattle.scenario.specs.declared.why.Why.{Why}
 use Rattle.scenario.specs.declared.why.Why.TheVariants.{Twice, Limit, Unknown}
 use Rattle.scenario.specs.declared.why.WordError.{WordError}
 use Rattle.scenario.specs.declared.why.WordError.TheVariants.{Refused}
-use Rattle.recipe.specs.Recipes.{joined, place_of, with_part}
+use Rattle.recipe.specs.Named.{joined, place_of, with_part}
 use Rattle.scenario.specs.Readings.{◌>>=◌, Becomes}
 use Rattle.recipe.specs.declared.parts.NamedPackage.{NamedPackage}
 
-abbrev refused : Why → WordError
+abbrev pub refused : Why → WordError
 refused why = Refused why
 
-same_why : (a b : Why) → refused a ≡ refused b → a ≡ b
+pub same_why : (a b : Why) → refused a ≡ refused b → a ≡ b
 same_why a b e = cc
 
 module _ (parts : List (Part Bytes)) (part : Part Bytes) where

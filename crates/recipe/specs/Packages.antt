@@ -1,17 +1,18 @@
 -- The parts that a recipe's lines make.
-use Rattle.std.specs.Prelude.{ℕ, ◌==◌, ◌||◌, not, if◌then◌else◌, List, [], ◌∷◌, codes, Option, Some, None, Result, Ok, Err}
+use Rattle.std.specs.Prelude.{ℕ, ◌==◌, ◌&&◌, ◌||◌, nat_le, Bool, not, if◌then◌else◌, List, [], ◌∷◌, codes, Option, Some, None, Result, Ok, Err}
 use Rattle.std.specs.Str.{bytes_eq}
 use Rattle.sha2.specs.Sha256.{sha256}
+use Rattle.ucm_base.specs.Limits.{node_limit}
 use Rattle.ucm_base.specs.Parts.{Bytes}
 use Rattle.ucm_base.specs.declared.parts.Action.{Action}
 use Rattle.ucm_base.specs.declared.parts.Need.{Need}
 use Rattle.ucm_base.specs.declared.parts.Part.{Part}
 use Rattle.package_reader.specs.Reading.{is_remove}
 use Rattle.scenario.specs.declared.why.Why.{Why}
-use Rattle.scenario.specs.declared.why.Why.TheVariants.{Value, Later}
+use Rattle.scenario.specs.declared.why.Why.TheVariants.{Value}
 use Rattle.scenario.specs.declared.blocks.BlockSource.{BlockSource}
 use Rattle.scenario.specs.Readings.{◌>>=◌, given}
-use Rattle.scenario.specs.Words.{action_in, name_in, needs_in, version_in}
+use Rattle.scenario.specs.Words.{action_in, name_in, needs_in, number_in, version_in}
 use Rattle.scenario.specs.Blocks.{bytes_meant, length_meant, plain_block_in}
 use Rattle.recipe.specs.declared.words.Making.{Making}
 use Rattle.recipe.specs.declared.words.Making.TheVariants.{Package, With}
@@ -38,10 +39,17 @@ part_in action cluster version block needs = do
   ns ← needs_in needs
   Ok (part_of a c v ns (bytes_meant [] b))
 
--- what a line makes, by its first word; lines of steps come later
-abbrev pub making_of : List ℕ → Result (Option Making) Why
+-- what a line makes of packages, by its first word
+abbrev pub making_of : List ℕ → Option Making
 making_of first =
-    if bytes_eq first (codes "step") then Err Later
-    else if bytes_eq first (codes "package") then Ok (Some Package)
-    else if bytes_eq first (codes "with") then Ok (Some With)
-    else Ok None
+    if bytes_eq first (codes "package") then Some Package
+    else if bytes_eq first (codes "with") then Some With
+    else None
+
+-- a line of a step
+abbrev pub is_step : List ℕ → Bool
+is_step first = bytes_eq first (codes "step")
+
+-- a node of the vehicle, 1 to 8
+abbrev pub vehicle_node_in : List ℕ → Result ℕ Why
+vehicle_node_in word = number_in word >>= λ n. given (nat_le 1 n && nat_le n node_limit) n Value

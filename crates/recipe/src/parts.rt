@@ -1,47 +1,54 @@
 //! The packages that a recipe has made so far.
-ghost use Rattle.std.specs.Prelude.{◌≡◌, ◌<◌, ◌≤◌, ◌++◌, ◌∷◌, [], IfOk, IfSome, OnOk, Ok, None, length};
-ghost use Rattle.std.specs.List.{list_any};
-ghost use Rattle.std.specs.Str.{bytes_eq};
-ghost use Rattle.ucm_base.specs.Limits.{part_limit};
-ghost use Rattle.ucm_base.specs.Parts.{cluster_of};
-ghost use Rattle.scenario.specs.Readings.{Becomes, IsRead};
-ghost use Rattle.recipe.specs.Recipes.{added, has_named, joined, owner_in, place_of, put, with_part};
+ghost use Rattle.std.specs.Prelude.{◌≡◌, ◌<◌, ◌≤◌, ◌++◌, ◌∷◌, [], IfOk, IfSome, OnOk, length};
+ghost use Rattle.ucm_base.specs.Limits.{carried_limit, part_limit};
+ghost use Rattle.package_reader.specs.Printing.{package_text};
+ghost use Rattle.scenario.specs.Readings.{Becomes};
+ghost use Rattle.recipe.specs.Named.{added, has_cluster, has_named, joined, place_of, with_part};
 
-use crate::words::Making;
-use package_reader::is_too_large;
+use package_reader::{is_too_large, package_size};
 use scenario::{Why, WordError};
 use std::alloc::{AllocError, Global};
 use std::marker::Model;
 use ucm_base::limits::{CARRIED_LIMIT, PART_LIMIT};
 use ucm_base::{Block, ClusterName, Part};
 
-/// At most sixteen parts, seen as their list.
+/// At most sixteen parts, seen as their list, with the bytes of their package counted.
 #[derive(Drop)]
 pub(crate) struct Parts {
     items: Vec<Part<Block>>,
+    size: u64,
 }
 
 impl Model for Parts {
-    ghost use Rattle.std.specs.Prelude.{List, ◌≤◌, length};
+    ghost use Rattle.std.specs.Prelude.{List, ◌≡◌, ◌≤◌, length};
     ghost use Rattle.ucm_base.specs.Limits.{part_limit};
     ghost use Rattle.ucm_base.specs.Parts.{Bytes};
     ghost use Rattle.ucm_base.specs.declared.parts.Part.{Part};
+    ghost use Rattle.package_reader.specs.Printing.{package_text};
 
     ghost Value = { List (Part Bytes) };
 
     ghost view = { λ a. a.items.items };
 
-    ghost invariant = { λ a. length a.items.items ≤ part_limit };
+    ghost invariant = { λ a. (length a.items.items ≤ part_limit)
+        × (a.size ≡ length (package_text a.items.items)) };
 }
 
 impl Parts {
     /// No part.
-    fn new(alloc: Global) -> Parts
-        ensures { result ≡ [] }
+    fn new(alloc: Global) -> Result<Parts, AllocError>
+        ensures { IfOk result (λ parts. parts ≡ []) }
     {
-        Parts {
-            items: Vec::new(alloc),
-        }
+        let items = Vec::new(alloc);
+        let size = package_size(alloc, items.as_slice())?;
+        Ok(Parts { items, size })
+    }
+
+    /// The bytes of the package of these parts.
+    pub(crate) fn size(&self) -> u64
+        ensures { result ≡ length (package_text self.now) }
+    {
+        self.size
     }
 
     /// The parts, in order.
@@ -53,12 +60,21 @@ impl Parts {
     }
 
     /// Adds a part behind the others.
-    fn push(&mut self, part: Part<Block>) -> Result<(), AllocError>
+    fn push(&mut self, alloc: Global, part: Part<Block>) -> Result<(), AllocError>
         requires { length self.old < part_limit }
         ensures { OnOk result (self.new ≡ self.old ++ part ∷ []) }
     {
         self.items.push(part)?;
-        Ok(())
+        match package_size(alloc, self.items.as_slice()) {
+            Ok(size) => {
+                self.size = size;
+                Ok(())
+            }
+            Err(refused) => {
+                let _ = self.items.pop();
+                Err(refused)
+            }
+        }
     }
 
     /// Adds a part of another cluster, within the limits of a package.
@@ -71,7 +87,7 @@ impl Parts {
         if self.as_slice().len() as u64 >= PART_LIMIT {
             return Err(WordError::Refused(Why::Limit));
         }
-        self.push(part)?;
+        self.push(alloc, part)?;
         if is_too_large(alloc, self.as_slice())? {
             return Err(WordError::Refused(Why::Limit));
         }
@@ -80,8 +96,8 @@ impl Parts {
 }
 
 /// Whether a part is of the cluster.
-fn has_cluster(parts: &[Part<Block>], name: &ClusterName) -> bool
-    ensures { result ≡ list_any (λ part. bytes_eq (cluster_of part) name.now) parts.now }
+pub(crate) fn has_cluster(parts: &[Part<Block>], name: &ClusterName) -> bool
+    ensures { result ≡ has_cluster parts.now name.now }
 {
     parts.iter().any(|part| part.manifest.name == *name)
 }
@@ -94,7 +110,7 @@ pub(crate) struct NamedPackage {
 }
 
 /// The place of the package of a name.
-fn place_of(made: &[NamedPackage], name: &ClusterName) -> Option<usize>
+pub(crate) fn place_of(made: &[NamedPackage], name: &ClusterName) -> Option<usize>
     ensures place { result ≡ place_of made.now name.now }
     ensures within { IfSome result (λ i. i < length made.now) }
 {
@@ -108,32 +124,16 @@ fn has_named(made: &[NamedPackage], name: &ClusterName) -> bool
     made.iter().any(|package| package.name == *name)
 }
 
-/// The name of the package that a line makes or adds to, which is one of a package above.
-pub(crate) fn owner(
-    made: &[NamedPackage],
-    making: Making,
-    word: &[u8],
-) -> Result<ClusterName, WordError>
-    ensures { IsRead result (owner_in made.now making word.now) }
-{
-    let name = scenario::name(word)?;
-    match making {
-        Making::Package if name.as_bytes() == b"vehicle".as_slice() => {
-            Err(WordError::Refused(Why::Value))
-        }
-        Making::With if !has_named(made, &name) => Err(WordError::Refused(Why::Unknown)),
-        _ => Ok(name),
-    }
-}
-
 /// Adds a package of one part.
-fn add(
+pub(crate) fn add(
     alloc: Global,
     made: &mut Vec<NamedPackage>,
     name: ClusterName,
     part: Part<Block>,
 ) -> Result<(), WordError>
-    ensures { Becomes result made.new.items (added made.old.items name part) }
+    ensures added { Becomes result made.new.items (added made.old.items name part) }
+    ensures grows { length made.old.items ≤ length made.new.items }
+    ensures few { length made.old.items ≤ carried_limit → length made.new.items ≤ carried_limit }
 {
     if has_named(made.as_slice(), &name) {
         return Err(WordError::Refused(Why::Twice));
@@ -141,39 +141,24 @@ fn add(
     if made.len() as u64 >= CARRIED_LIMIT {
         return Err(WordError::Refused(Why::Limit));
     }
-    let mut parts = Parts::new(alloc);
+    let mut parts = Parts::new(alloc)?;
     parts.add(alloc, part)?;
     made.push(NamedPackage { name, parts })?;
     Ok(())
 }
 
 /// Adds a part to the package of a name.
-fn join(
+pub(crate) fn join(
     alloc: Global,
     made: &mut Vec<NamedPackage>,
     name: ClusterName,
     part: Part<Block>,
 ) -> Result<(), WordError>
-    ensures { Becomes result made.new.items (joined made.old.items name part) }
+    ensures joined { Becomes result made.new.items (joined made.old.items name part) }
+    ensures count { length made.new.items ≡ length made.old.items }
 {
     match place_of(made.as_slice(), &name) {
         Some(place) => made[place].parts.add(alloc, part),
         None => Err(WordError::Refused(Why::Unknown)),
-    }
-}
-
-/// Adds what a line makes.
-pub(crate) fn put(
-    alloc: Global,
-    made: &mut Vec<NamedPackage>,
-    making: Making,
-    name: ClusterName,
-    part: Part<Block>,
-) -> Result<(), WordError>
-    ensures { Becomes result made.new.items (put made.old.items making name part) }
-{
-    match making {
-        Making::Package => add(alloc, made, name, part),
-        Making::With => join(alloc, made, name, part),
     }
 }

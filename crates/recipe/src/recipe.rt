@@ -5,11 +5,11 @@ ghost use Rattle.scenario.specs.declared.why.Why.{Why};
 ghost use Rattle.scenario.specs.Readings.{Becomes};
 ghost use Rattle.recipe.specs.Lines.{lines_in};
 ghost use Rattle.recipe.specs.Packing.{first_word};
-ghost use Rattle.recipe.specs.Recipes.{below, below_words, made_by, made_of, recipe_of};
+ghost use Rattle.recipe.specs.Recipes.{below, below_words, made_by, made_of, recipe_of, step_by};
 
 use crate::fault::{PackError, fault_at};
-use crate::parts::{NamedPackage, owner, put};
-use crate::words::{Making, PartWords, making_of, read_part};
+use crate::made::Made;
+use crate::words::{Making, PartWords, is_step, making_of, node, read_part};
 use scenario::{Why, WordError, first_piece};
 use std::alloc::Global;
 use ucm_base::limits::NEED_LIMIT;
@@ -18,31 +18,26 @@ use ucm_text::words_of;
 /// Adds the part that these words make, with these needs, to the package of a name.
 fn make_part(
     alloc: Global,
-    made: &mut Vec<NamedPackage>,
+    made: &mut Made,
     making: Making,
     named: &[u8],
     words: &PartWords<'_>,
     needed: &[&[u8]],
 ) -> Result<(), WordError>
     requires { length needed.now ≤ need_limit }
-    ensures { Becomes result made.new.items (made_of made.old.items making named.now
+    ensures { Becomes result made.new (made_of made.old making named.now
         words.now.action.now words.now.cluster.now words.now.version.now words.now.block.now
         (map (λ w. w.now) needed.now)) }
 {
-    let name = owner(made.as_slice(), making, named)?;
+    let name = made.owner(making, named)?;
     let part = read_part(alloc, words, needed)?;
-    put(alloc, made, making, name, part)
+    made.put(alloc, making, name, part)
 }
 
 /// Adds what a line makes, by its words behind the first.
-fn make(
-    alloc: Global,
-    made: &mut Vec<NamedPackage>,
-    making: Making,
-    words: &[&[u8]],
-) -> Result<(), WordError>
-    ensures { Becomes result made.new.items
-        (made_by made.old.items making (map (λ w. w.now) words.now)) }
+fn make(alloc: Global, made: &mut Made, making: Making, words: &[&[u8]]) -> Result<(), WordError>
+    ensures { Becomes result made.new
+        (made_by made.old making (map (λ w. w.now) words.now)) }
 {
     match words {
         [named, action, cluster, version, block, needed @ ..] => {
@@ -61,13 +56,28 @@ fn make(
     }
 }
 
-/// Adds what these words of a line make.
-fn add_words(alloc: Global, made: &mut Vec<NamedPackage>, words: &[&[u8]]) -> Result<(), WordError>
-    ensures { Becomes result made.new.items
-        (below_words made.old.items (map (λ w. w.now) words.now)) }
+/// Adds the step of a line, by its words behind the first.
+fn make_step(alloc: Global, made: &mut Made, words: &[&[u8]]) -> Result<(), WordError>
+    ensures { Becomes result made.new (step_by made.old (map (λ w. w.now) words.now)) }
 {
     match words {
-        [first, words @ ..] => match making_of(first)? {
+        [on, named] => {
+            let node = node(on)?;
+            let name = scenario::name(named)?;
+            made.add_step(alloc, node, &name)
+        }
+        _ => Err(WordError::Refused(Why::Form)),
+    }
+}
+
+/// Adds what these words of a line make.
+fn add_words(alloc: Global, made: &mut Made, words: &[&[u8]]) -> Result<(), WordError>
+    ensures { Becomes result made.new
+        (below_words made.old (map (λ w. w.now) words.now)) }
+{
+    match words {
+        [first, words @ ..] if is_step(first) => make_step(alloc, made, words),
+        [first, words @ ..] => match making_of(first) {
             Some(making) => make(alloc, made, making, words),
             None => Ok(()),
         },
@@ -84,10 +94,11 @@ pub(crate) fn first_word(line: &[u8]) -> &[u8]
 }
 
 /// Adds what a line makes. A line that isn't a recipe's own takes no memory.
-fn add_line(alloc: Global, made: &mut Vec<NamedPackage>, line: &[u8]) -> Result<(), WordError>
-    ensures { Becomes result made.new.items (below made.old.items line.now) }
+fn add_line(alloc: Global, made: &mut Made, line: &[u8]) -> Result<(), WordError>
+    ensures { Becomes result made.new (below made.old line.now) }
 {
-    if let Ok(None) = making_of(first_word(line)) {
+    let first = first_word(line);
+    if !is_step(first) && making_of(first).is_none() {
         return Ok(());
     }
     let words = words_of(alloc, line)?;
@@ -104,13 +115,13 @@ pub(crate) fn first_line(text: &[u8]) -> (&[u8], &[u8])
     (line, rest.unwrap_or(&[]))
 }
 
-/// The packages that all lines of a recipe make.
-pub(crate) fn read_recipe(alloc: Global, input: &[u8]) -> Result<Vec<NamedPackage>, PackError>
-    ensures made { IfOk result (λ made. recipe_of input.now ≡ Ok made.items) }
+/// What all lines of a recipe make.
+pub(crate) fn read_recipe(alloc: Global, input: &[u8]) -> Result<Made, PackError>
+    ensures made { IfOk result (λ made. recipe_of input.now ≡ Ok made) }
     ensures refused { IfErr result (λ e. (line : ℕ) (why : Why) → e ≡ PackError.Refused line why
         → recipe_of input.now ≡ Err (record { line = line; why = why })) }
 {
-    let mut made = Vec::new(alloc);
+    let mut made = Made::new(alloc);
     let mut number = 1u64;
     let mut rest = input;
     'lines: while !rest.is_empty() {

@@ -4,12 +4,12 @@ ghost use Rattle.ucm_base.specs.Limits.{need_limit};
 ghost use Rattle.scenario.specs.declared.why.Why.{Why};
 ghost use Rattle.scenario.specs.Readings.{IsRead};
 ghost use Rattle.scenario.specs.Blocks.{bytes_meant};
-ghost use Rattle.recipe.specs.Packages.{making_of, part_in, part_of, payload_in};
+ghost use Rattle.recipe.specs.Packages.{is_step, making_of, part_in, part_of, payload_in, vehicle_node_in};
 
-use scenario::{BlockSource, Why, WordError, action, name, needs, plain_block, version};
+use scenario::{BlockSource, Why, WordError, action, name, needs, number, plain_block, version};
 use sha2::{Digest, Sha256};
 use std::alloc::{AllocError, Global};
-use ucm_base::{Action, Block, ClusterName, Manifest, Needs, Part, VersionText};
+use ucm_base::{Action, Block, ClusterName, Manifest, Needs, NodeId, Part, VersionText};
 
 /// What a line makes.
 #[derive(Clone, Copy, Debug, PartialEq, Eq)]
@@ -20,18 +20,33 @@ pub(crate) enum Making {
     With,
 }
 
-/// What a line makes, by its first word.
-pub(crate) fn making_of(first: &[u8]) -> Result<Option<Making>, Why>
+/// What a line makes of packages, by its first word.
+pub(crate) fn making_of(first: &[u8]) -> Option<Making>
     ensures { result ≡ making_of first.now }
 {
-    if first == b"step".as_slice() {
-        Err(Why::Later)
-    } else if first == b"package".as_slice() {
-        Ok(Some(Making::Package))
+    if first == b"package".as_slice() {
+        Some(Making::Package)
     } else if first == b"with".as_slice() {
-        Ok(Some(Making::With))
+        Some(Making::With)
     } else {
-        Ok(None)
+        None
+    }
+}
+
+/// Whether a line makes a step, by its first word.
+pub(crate) fn is_step(first: &[u8]) -> bool
+    ensures { result ≡ is_step first.now }
+{
+    first == b"step".as_slice()
+}
+
+/// The node of a step, 1 to 8.
+pub(crate) fn node(word: &[u8]) -> Result<NodeId, WordError>
+    ensures { IsRead result (vehicle_node_in word.now) }
+{
+    match NodeId::of(number(word)?) {
+        Some(node) => Ok(node),
+        None => Err(WordError::Refused(Why::Value)),
     }
 }
 
@@ -58,7 +73,7 @@ fn part_of(
     ensures { IfOk result (λ part. part
         ≡ part_of action name version needs (bytes_meant [] block.now)) }
 {
-    let payload = block.made(alloc, &[])?;
+    let payload = block.make(alloc, &[])?;
     let sha256 = Sha256::digest(payload.as_slice());
     let manifest = Manifest {
         action,

@@ -5,7 +5,7 @@ use Rattle.recipe.proofs.recipe.read_recipe.Given as goal
 
 abbrev pub invariant-lines : goal.invariant-lines
 invariant-lines l = record {
-  made : recipe_of l.input ≡ made_from l.number l.made.items (lines_in l.rest);
+  made : recipe_of l.input ≡ made_from l.number l.made (lines_in l.rest);
   number : l.number + length l.rest ≤ length l.input + 1;
 }
 
