@@ -2,7 +2,7 @@
 use Rattle.std.specs.Prelude.{ℕ, if◌then◌else◌, List, [], ◌∷◌, ◌++◌, codes, option_map, Option, Some, None}
 use Rattle.std.specs.Str.{bytes_eq}
 use Rattle.recipe.specs.declared.packing.Kind.{Kind}
-use Rattle.recipe.specs.declared.packing.Kind.TheVariants.{Package, Script}
+use Rattle.recipe.specs.declared.packing.Kind.TheVariants.{Package, Vehicle, Script}
 use Rattle.ucm_prog.specs.declared.commands.Command.{Command}
 use Rattle.ucm_prog.specs.declared.commands.Command.TheVariants.{Replay, Inspect, Pack}
 
@@ -13,10 +13,11 @@ plain_command word =
     else if bytes_eq word (codes "inspect") then Some Inspect
     else None
 
--- what is packed: `package` or `script`
+-- what is packed: `package`, `vehicle` or `script`
 abbrev pub kind_of : List ℕ → Option Kind
 kind_of word =
     if bytes_eq word (codes "package") then Some Package
+    else if bytes_eq word (codes "vehicle") then Some Vehicle
     else if bytes_eq word (codes "script") then Some Script
     else None
 

@@ -1,7 +1,8 @@
 -- What `inspect` writes.
-use Rattle.std.specs.Prelude.{ℕ, List, [], ◌∷◌, ◌++◌, length, codes, Result, Ok, Err}
+use Rattle.std.specs.Prelude.{ℕ, List, [], ◌∷◌, ◌++◌, length, map, take, if◌then◌else◌, codes, Result, Ok, Err}
 use Rattle.std.specs.Fmt.{decimal}
 use Rattle.std.specs.List.{flat_map}
+use Rattle.std.specs.Str.{bytes_eq}
 use Rattle.ucm_base.specs.declared.parts.Action.{Action}
 use Rattle.ucm_base.specs.declared.parts.Action.TheVariants.{Install, Update, Remove}
 use Rattle.ucm_base.specs.declared.parts.Manifest.{Manifest}
@@ -9,8 +10,16 @@ use Rattle.ucm_base.specs.declared.parts.Need.{Need}
 use Rattle.ucm_base.specs.declared.parts.Part.{Part}
 use Rattle.package_reader.specs.declared.fault.PackageError.{PackageError}
 use Rattle.package_reader.specs.declared.span.Span.{Span}
+use Rattle.package_reader.specs.Packed.{PackedOf}
+use Rattle.package_reader.specs.Reading.{contents_of}
+use Rattle.vehicle_package.specs.declared.fault.VehicleError.{VehicleError}
+use Rattle.vehicle_package.specs.declared.vehicle.Step.{Step}
+use Rattle.vehicle_package.specs.declared.vehicle.Vehicle.{Vehicle}
+use Rattle.vehicle_package.specs.Changes.{parts_of}
+use Rattle.vehicle_package.specs.Fields.{mark}
+use Rattle.vehicle_package.specs.Reading.{vehicle_of}
 use Rattle.ucm_prog.specs.declared.status.ExitStatus.TheVariants.{Successful}
-use Rattle.ucm_prog.specs.Refusals.{Output, package_refusal, refused_output}
+use Rattle.ucm_prog.specs.Refusals.{Output, package_refusal, refused_output, vehicle_refusal}
 
 abbrev pub action_word : Action → List ℕ
 action_word Install = codes "install"
@@ -33,3 +42,30 @@ shown part = package_line part.manifest part.payload.len ++ flat_map need_line p
 abbrev pub inspected : Result (List (Part Span)) PackageError → Output
 inspected (Ok parts) = record { status = Successful; text = flat_map shown parts }
 inspected (Err fault) = refused_output (package_refusal fault)
+
+-- a step's node, and a part's cluster, version and action
+abbrev pub step_line : ℕ → Manifest → List ℕ
+step_line node m =
+    codes "step " ++ decimal node ++ codes " " ++ m.name ++ codes " " ++ m.version ++ codes " " ++ action_word m.action
+    ++ 10 ∷ []
+
+-- a line for each part of a step's package
+abbrev pub step_shown : List PackedOf → Step → List ℕ
+step_shown packages step = flat_map (step_line step.node) (map (λ part. part.manifest) (parts_of packages step))
+
+-- how many steps and packages a vehicle has
+abbrev pub vehicle_line : Vehicle → List ℕ
+vehicle_line v =
+    codes "vehicle steps " ++ decimal (length v.steps) ++ codes " packages " ++ decimal (length v.packages) ++ 10 ∷ []
+
+abbrev pub vehicle_shown : Vehicle → List ℕ
+vehicle_shown v = vehicle_line v ++ flat_map (step_shown v.packages) v.steps
+
+abbrev pub inspected_vehicle : Result Vehicle VehicleError → Output
+inspected_vehicle (Ok v) = record { status = Successful; text = vehicle_shown v }
+inspected_vehicle (Err fault) = refused_output (vehicle_refusal fault)
+
+-- bytes that begin as a vehicle package are read as one, and all others as a software package
+abbrev pub inspected_input : List ℕ → Output
+inspected_input input =
+    if bytes_eq mark (take 4 input) then inspected_vehicle (vehicle_of input) else inspected (contents_of input)

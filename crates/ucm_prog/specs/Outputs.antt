@@ -2,7 +2,6 @@
 use Rattle.std.specs.Prelude.{◌≡◌, ℕ, List, Result, Ok, Err, Option, Some, None, IfSome}
 use Rattle.ucm_base.specs.Limits.{input_limit}
 use Rattle.ucm_ports.specs.Reading.{whole}
-use Rattle.package_reader.specs.Reading.{contents_of}
 use Rattle.recipe.specs.Packing.{packed}
 use Rattle.scenario.specs.declared.script.Command.TheVariants.{Replay as ScriptOfReplay}
 use Rattle.scenario.specs.Scripts.{Refused, script_of}
@@ -10,7 +9,7 @@ use Rattle.ucm_prog.specs.declared.commands.Command.{Command}
 use Rattle.ucm_prog.specs.declared.commands.Command.TheVariants.{Replay, Inspect, Pack}
 use Rattle.ucm_prog.specs.declared.status.ExitStatus.{ExitStatus}
 use Rattle.ucm_prog.specs.declared.status.ExitStatus.TheVariants.{Successful}
-use Rattle.ucm_prog.specs.Inspect.{inspected}
+use Rattle.ucm_prog.specs.Inspect.{inspected_input}
 use Rattle.ucm_prog.specs.Refusals.{Output, line_refusal, refused_output, too_long_output}
 use Rattle.ucm_prog.specs.Replay.{replayed}
 
@@ -21,7 +20,7 @@ packed_output (Err r) = refused_output (line_refusal r.line r.why)
 -- what a command writes of an input that isn't too long
 abbrev pub command_output : Command → List ℕ → Output
 command_output Replay input = replayed (script_of ScriptOfReplay input) input
-command_output Inspect input = inspected (contents_of input)
+command_output Inspect input = inspected_input input
 command_output (Pack kind) input = packed_output (packed kind input)
 
 -- the same of an input that was read whole; there is none where it is too long

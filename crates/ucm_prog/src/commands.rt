@@ -40,6 +40,8 @@ fn packed_kind(word: &str) -> Option<Kind>
 {
     if word == "package" {
         Some(Kind::Package)
+    } else if word == "vehicle" {
+        Some(Kind::Vehicle)
     } else if word == "script" {
         Some(Kind::Script)
     } else {

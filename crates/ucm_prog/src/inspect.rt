@@ -1,19 +1,33 @@
-//! The command `inspect`: what a software package has, part by part.
-ghost use Rattle.std.specs.Prelude.{◌≡◌, ◌++◌, length, codes, IfOk, OnOk, string_bytes};
+//! The command `inspect`: what a software package has, part by part, or a vehicle package, step by step.
+ghost use Rattle.std.specs.Prelude.{◌≡◌, ◌++◌, IfOk, OnOk, string_bytes};
 ghost use Rattle.std.specs.List.{flat_map};
 ghost use Rattle.package_reader.specs.Reading.{contents_of};
-ghost use Rattle.ucm_prog.specs.Inspect.{action_word, inspected, need_line, package_line, shown};
+ghost use Rattle.ucm_prog.specs.Inspect.{action_word, inspected, inspected_input, need_line, package_line, shown};
 ghost use Rattle.ucm_prog.specs.Outputs.{IsOutput};
 ghost use Rattle.ucm_prog.specs.Refusals.{package_refusal, refused_output};
 
+use crate::inspect_vehicle::inspect_vehicle;
 use crate::output::{Output, refused};
 use crate::status::ExitStatus;
 use package_reader::{PackageError, Span, read_package};
 use std::alloc::{AllocError, Global};
 use ucm_base::{Action, Manifest, Need, Part};
+use vehicle_package::MARK;
 
-/// What `inspect` of a whole input writes. No payload is copied.
+/// What `inspect` of a whole input writes.
 pub fn inspect(alloc: Global, input: &[u8]) -> Result<Output, AllocError>
+    ensures { IfOk result
+        (λ o. IsOutput (inspected_input input.now) o.status o.bytes.items) }
+{
+    if input.starts_with(MARK) {
+        inspect_vehicle(alloc, input)
+    } else {
+        inspect_package(alloc, input)
+    }
+}
+
+/// What `inspect` of a software package writes. No payload is copied.
+fn inspect_package(alloc: Global, input: &[u8]) -> Result<Output, AllocError>
     ensures { IfOk result
         (λ o. IsOutput (inspected (contents_of input.now)) o.status o.bytes.items) }
 {
@@ -30,18 +44,25 @@ pub fn inspect(alloc: Global, input: &[u8]) -> Result<Output, AllocError>
     }
 }
 
+/// Adds the fault of bytes that are no package.
+pub fn add_fault(text: &mut String, fault: PackageError) -> Result<(), AllocError>
+    ensures { OnOk result (string_bytes text.new
+        ≡ string_bytes text.old ++ package_refusal fault) }
+{
+    match fault {
+        PackageError::PackageInconsistent { place } => write!(text, "PackageInconsistent {place}"),
+        PackageError::InvalidManifest => write!(text, "InvalidManifest"),
+        PackageError::OutOfMemory => Err(AllocError),
+    }
+}
+
 fn refused_package(alloc: Global, fault: PackageError) -> Result<Output, AllocError>
     ensures { IfOk result (λ o. IsOutput (refused_output (package_refusal fault))
         o.status o.bytes.items) }
 {
-    let mut text = String::new(alloc);
-    match fault {
-        PackageError::PackageInconsistent { place } => {
-            write!(text, "refused PackageInconsistent {place}\n")?
-        }
-        PackageError::InvalidManifest => write!(text, "refused InvalidManifest\n")?,
-        PackageError::OutOfMemory => return Err(AllocError),
-    }
+    let mut text = String::from_str(alloc, "refused ")?;
+    add_fault(&mut text, fault)?;
+    write!(text, "\n")?;
     Ok(refused(text))
 }
 

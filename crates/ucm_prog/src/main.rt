@@ -8,6 +8,7 @@
 mod answers;
 mod commands;
 mod inspect;
+mod inspect_vehicle;
 mod node;
 mod output;
 mod pack;

@@ -59,7 +59,7 @@ fn cluster_of(
         name: installed.name,
         version: installed.version.clone()?,
         needs: installed.needs.copied(alloc)?,
-        content: installed.block.made(alloc, attached)?,
+        content: installed.block.make(alloc, attached)?,
     })
 }
 

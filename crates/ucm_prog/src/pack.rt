@@ -1,4 +1,4 @@
-//! The commands `pack package` and `pack script`: what a recipe makes.
+//! The commands `pack package`, `pack vehicle` and `pack script`: what a recipe makes.
 ghost use Rattle.std.specs.Prelude.{IfOk};
 ghost use Rattle.recipe.specs.Packing.{packed};
 ghost use Rattle.ucm_prog.specs.Outputs.{IsOutput, packed_output};

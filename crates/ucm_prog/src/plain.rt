@@ -19,7 +19,8 @@ use ucm_ports::{ReadError, Sink, Source, put_all, read_all};
 const USAGE: &str =
     "usage: ucm run [full] | demo <number> | replay | inspect | pack package|vehicle|script\n";
 
-/// Carries out a command that never waits: `replay`, `inspect`, `pack package` or `pack script`.
+/// Carries out a command that never waits: `replay`, `inspect`, `pack package`, `pack vehicle` or
+/// `pack script`.
 ///
 /// It reads the whole source, of at most 67,108,864 bytes, and writes the command's output to the
 /// sink. It hands the disks back, of which no command makes a call so far.
