@@ -1,0 +1,5 @@
+use Rattle.event_codec.proofs.OutsideMaster.{no_unreached}
+use Rattle.event_codec.proofs.campaigns.take_unreached.Goals as goal
+
+pub returns-in-Err-clause-outside : goal.returns-in-Err-clause-outside
+returns-in-Err-clause-outside c = λ is. no_unreached c.args.bytes.now (c.in-Err.ensures.outside is)

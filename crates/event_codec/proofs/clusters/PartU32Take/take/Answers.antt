@@ -1,0 +1,4 @@
+use Rattle.event_codec.proofs.clusters.PartU32Take.take.Goals as goal
+
+pub returns-in-Err-clause-outside : goal.returns-in-Err-clause-outside
+returns-in-Err-clause-outside c = λ is v rest f e. c.in-Err.ensures.outside is (v.manifest, v.payload) rest f e

@@ -1,0 +1,5 @@
+use Rattle.event_codec.proofs.replies.SyncedTake.take.Goals as goal
+
+pub returns-in-Err-clause-outside : goal.returns-in-Err-clause-outside
+returns-in-Err-clause-outside c =
+    λ is v rest f e. c.in-Err.ensures.outside is (v.session, (v.ended, v.transfers)) rest f e

@@ -1,0 +1,15 @@
+pub mod Spelling
+pub mod Texts
+pub mod Replies
+pub mod Calls
+pub mod Clusters
+pub mod Records
+pub mod States
+pub mod Master
+pub mod Unique
+pub mod UniqueReplies
+pub mod UniqueCalls
+pub mod UniqueClusters
+pub mod UniqueRecords
+pub mod UniqueStates
+pub mod UniqueMaster

@@ -1,0 +1,75 @@
+//! Records and states that bytes are, from the first to the last.
+ghost use Rattle.std.specs.Prelude.{◌≡◌, List, ℕ, IfOk, MatchOption};
+ghost use Rattle.pm_types.specs.Stored.{State as AnyState};
+ghost use Rattle.event_codec.specs.Spelling.{IsNone, IsUnique};
+ghost use Rattle.event_codec.specs.Records.{record_spelled, RecordFits};
+ghost use Rattle.event_codec.specs.States.{state_spelled, StateFits};
+ghost use Rattle.event_codec.specs.Master.{EventFits, FoldFits, event_spelled, fold_spelled};
+ghost use Rattle.event_codec.specs.UniqueMaster.{unique-event, unique-fold};
+ghost use Rattle.event_codec.specs.UniqueRecords.{unique-record};
+ghost use Rattle.event_codec.specs.UniqueStates.{unique-state};
+
+use crate::Record;
+use crate::taking::{Take, Unread};
+use campaign_core::{Fold, MasterEvent};
+use pm_types::State;
+use std::alloc::{AllocError, Global};
+
+/// The value that the bytes are the spelling of, if they are one.
+fn take_whole<T: Take>(alloc: Global, bytes: &[u8]) -> Result<Option<T>, AllocError>
+    ensures { IfOk result (λ o. MatchOption o (IsNone T.spelled T.fits bytes.now)
+        (λ v. T.fits v × (bytes.now ≡ T.spelled v))) }
+{
+    match T::take(alloc, bytes) {
+        Ok((value, rest)) => {
+            if rest.is_empty() {
+                Ok(Some(value))
+            } else {
+                Ok(None)
+            }
+        }
+        Err(Unread::Outside) => Ok(None),
+        Err(Unread::OutOfMemory) => Err(AllocError),
+    }
+}
+
+/// The record that the bytes are the spelling of, if they are one.
+pub fn take_record(alloc: Global, bytes: &[u8]) -> Result<Option<Record>, AllocError>
+    ensures { IfOk result (λ o. MatchOption o (IsNone record_spelled RecordFits bytes.now)
+        (λ r. RecordFits r × (bytes.now ≡ record_spelled r))) }
+{
+    take_whole(alloc, bytes)
+}
+
+/// The state that the bytes are the spelling of, if they are one.
+pub fn take_state(alloc: Global, bytes: &[u8]) -> Result<Option<State>, AllocError>
+    ensures { IfOk result (λ o. MatchOption o (IsNone state_spelled StateFits bytes.now)
+        (λ s. StateFits s × (bytes.now ≡ state_spelled s))) }
+{
+    take_whole(alloc, bytes)
+}
+
+/// The event of the master that the bytes are the spelling of, if they are one.
+pub fn take_event(alloc: Global, bytes: &[u8]) -> Result<Option<MasterEvent>, AllocError>
+    ensures { IfOk result (λ o. MatchOption o (IsNone event_spelled EventFits bytes.now)
+        (λ e. EventFits e × (bytes.now ≡ event_spelled e))) }
+{
+    take_whole(alloc, bytes)
+}
+
+/// What the master's list says by the bytes, if they are a spelling of it.
+pub fn take_fold(alloc: Global, bytes: &[u8]) -> Result<Option<Fold>, AllocError>
+    ensures { IfOk result (λ o. MatchOption o (IsNone fold_spelled FoldFits bytes.now)
+        (λ f. FoldFits f × (bytes.now ≡ fold_spelled f))) }
+{
+    take_whole(alloc, bytes)
+}
+
+/// Bytes that begin with the spelling of a record, an event or a state begin with no other's, so what is put is what is
+/// taken back. It does nothing; its clauses are the law, over any lists of numbers.
+pub fn no_spelling_begins_another()
+    ensures records { IsUnique record_spelled RecordFits }
+    ensures states { IsUnique state_spelled StateFits }
+    ensures events { IsUnique event_spelled EventFits }
+    ensures folds { IsUnique fold_spelled FoldFits }
+{}
