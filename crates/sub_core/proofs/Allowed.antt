@@ -1,0 +1,590 @@
+-- What was told to a driver, as answers are added.
+use Rattle.std.proofs.Common.{◌≡◌, ℕ, zero, suc, ◌+◌, ◌-◌, ◌<◌, Bool, true, false, not, ◌&&◌, ◌||◌, if◌then◌else◌, ◌==◌, nat_eq, nat_lt, List, [], ◌∷◌, length, slice_index_or, Option, Some, None, is_some, refl, sym, ap, subst, ◌∙◌, arith}
+use Rattle.std.specs.Option.{option_or}
+use Rattle.std.specs.List.{list_any}
+use Rattle.std.proofs.lemmas.Bool.Decides.{nat_tests}
+use Rattle.ucm_base.specs.Limits.{block_limit}
+use Rattle.ucm_base.specs.declared.ids.CallNo.{CallNo}
+use Rattle.campaign_core.specs.declared.events.Cause.{Cause}
+use Rattle.campaign_core.specs.declared.events.Decision.TheVariants.{Commit, Abort}
+use Rattle.pm_types.specs.NodeState.{is_working}
+use Rattle.pm_types.specs.declared.calls.Call.{Call}
+use Rattle.pm_types.specs.declared.replies.Reply.{Reply}
+use Rattle.pm_types.specs.declared.replies.Reply.TheVariants.{Done, Started, Synced, Refused}
+use Rattle.pm_types.specs.declared.replies.SessionMark.{SessionMark}
+use Rattle.pm_types.specs.declared.replies.Synced.{Synced as Shown}
+use Rattle.pm_types.specs.declared.status.Status.{Status}
+use Rattle.pm_types.specs.declared.status.Status.TheVariants.{Idle, Ready, Processing, Activating, Verifying, Activated, RollingBack, RolledBack, CleaningUp}
+use Rattle.world.specs.Messages.{Message, Told, Answered, Showed, is_activate, is_done, is_process, is_sync}
+use Rattle.world.specs.Sends.{activate_done, delete_at, end_call_at, has_refusal, is_end_sync, is_masters, is_settled, last_shown, last_status, session_status, lists_free, showed_after_activate, shown_if, status_if, status_of_shown}
+use Rattle.sub_core.specs.declared.answers.Finding.{Finding}
+use Rattle.sub_core.specs.declared.answers.Got.{Got}
+use Rattle.sub_core.specs.declared.answers.Round.{Round}
+use Rattle.sub_core.specs.declared.answers.SendStep.{SendStep}
+use Rattle.sub_core.specs.declared.answers.Todo.{Todo}
+use Rattle.sub_core.specs.declared.progress.EndProgress.{EndProgress}
+use Rattle.sub_core.specs.declared.progress.Progress.{Progress}
+use Rattle.sub_core.specs.declared.progress.Wish.{Wish}
+use Rattle.sub_core.specs.Calls.{call_of}
+use Rattle.sub_core.specs.Driving.{after_send, after_todo, after_unit, at_free, at_session, at_shown, at_status, begun, end_after, end_wish, has_number, is_answer, is_missed, is_over, next_no, next_transfer, opened, progress_after, replied, round_after, round_step, settled_after, status_of, step, todo, todo_for, unreached, wish, wish_at, IsEnding}
+use Rattle.sub_core.specs.Rounds.{reply_got}
+use Rattle.sub_core.specs.States.{DriverState, IsPlaced, IsPlacedEnd, IsSound, size_at}
+use Rattle.sub_core.specs.Told.{EndTold, Found, IsAllowedByTold, IsTold, ToldAt, decision_of, is_ending, message_of, told_after, told_reply, told_unit}
+use Rattle.sub_core.proofs.Stages.{calls_of_wish, not_process, wish_of_todo, IsCalling}
+
+-- either progress was told enough
+told_if : (k epoch : ℕ) (b : Bool) (p q : Progress) (told : List Told) → ToldAt k epoch p told → ToldAt k epoch q told
+    → ToldAt k epoch (if b then p else q) told
+told_if k epoch true p q told one other = one
+told_if k epoch false p q told one other = other
+
+end_if : (k epoch : ℕ) (commit b : Bool) (p q : EndProgress) (told : List Told) → EndTold k epoch commit p told
+    → EndTold k epoch commit q told → EndTold k epoch commit (if b then p else q) told
+end_if k epoch commit true p q told one other = one
+end_if k epoch commit false p q told one other = other
+
+-- the status that was told leads on
+told_status : (k epoch : ℕ) (commit : Bool) (status : Status) (told : List Told)
+    → is_some (last_shown k epoch told) ≡ true → last_status k epoch told ≡ Some status
+    → EndTold k epoch commit (at_status commit status) told
+told_status k epoch commit Processing told synced last = synced
+told_status k epoch commit Activating told synced last = synced
+told_status k epoch commit Verifying told synced last = synced
+told_status k epoch commit RollingBack told synced last = synced
+told_status k epoch commit CleaningUp told synced last = synced
+told_status k epoch true Idle told synced last = tt
+told_status k epoch true Ready told synced last = tt
+told_status k epoch true Activated told synced last =
+    record { synced = synced; allowed = λ cause. ap (λ s. end_call_at Commit s Call.Finish) last }
+told_status k epoch true RolledBack told synced last = tt
+told_status k epoch false Idle told synced last = tt
+told_status k epoch false Ready told synced last = record {
+  synced = synced;
+  allowed = λ cause. ap (λ s. end_call_at (Abort cause) s Call.RevertProcessedSwPackages) last;
+}
+told_status k epoch false Activated told synced last =
+    record { synced = synced; allowed = λ cause. ap (λ s. end_call_at (Abort cause) s Call.Rollback) last }
+told_status k epoch false RolledBack told synced last =
+    record { synced = synced; allowed = λ cause. ap (λ s. end_call_at (Abort cause) s Call.Finish) last }
+
+not_unit : (b : Bool) (f : Finding) (asked : SendStep) → (if b then Wish.Rest f else Wish.Send asked) ≡ Wish.Unit → ⊥
+not_unit true f asked is = cc is
+not_unit false f asked is = cc is
+
+or_false : (b c : Bool) → c ≡ false → (b || c) ≡ b
+or_false true c is = refl
+or_false false c is = is
+
+-- a unit's status was told
+told_worked : (k epoch : ℕ) (d : DriverState) (p : Progress) (status : Status) (told : List Told)
+    → wish_at d p ≡ Wish.Unit → ToldAt k epoch p told → ToldAt k epoch (settled_after p status) (Showed status ∷ told)
+told_worked k epoch d Progress.Sync status told is t =
+    absurd (not_unit (is_over d.round d.ids Progress.Sync) Finding.RoundDone (round_step d Progress.Sync) is)
+told_worked k epoch d Progress.Transfer status told is t =
+    absurd (not_unit (is_over d.round d.ids Progress.Transfer) Finding.RoundDone (round_step d Progress.Transfer) is)
+told_worked k epoch d (Progress.Data id counter left) status told is t =
+    let p = Progress.Data id counter left in
+    absurd (not_unit (is_over d.round d.ids p) Finding.RoundDone (round_step d p) is)
+told_worked k epoch d (Progress.Process taken true) status told is t =
+    let p = Progress.Process taken true in
+    absurd (not_unit (is_over d.round d.ids p) Finding.RoundDone (round_step d p) is)
+told_worked k epoch d (Progress.Process taken false) status told is t =
+    (t.0, or_false (not (is_working status)) (is_settled told) t.1)
+told_worked k epoch d Progress.Activating Idle told is t = t
+told_worked k epoch d Progress.Activating Ready told is t = t
+told_worked k epoch d Progress.Activating Processing told is t = t
+told_worked k epoch d Progress.Activating Activating told is t = t
+told_worked k epoch d Progress.Activating Verifying told is t = t
+told_worked k epoch d Progress.Activating Activated told is t = ap (λ a. a || showed_after_activate Activated told) t
+told_worked k epoch d Progress.Activating RollingBack told is t = t
+told_worked k epoch d Progress.Activating RolledBack told is t = ap (λ a. a || showed_after_activate RolledBack told) t
+told_worked k epoch d Progress.Activating CleaningUp told is t = t
+told_worked k epoch d (Progress.Voted finding) status told is t = absurd (cc is)
+told_worked k epoch d (Progress.Ending commit (EndProgress.Call asked)) status told is t = absurd (cc is)
+told_worked k epoch d (Progress.Ending commit EndProgress.Units) status told is t =
+    told_status k epoch commit status (Showed status ∷ told) t
+    (ap (λ b. option_or (status_if b status) (last_status k epoch told)) t)
+told_worked k epoch d (Progress.Ending commit (EndProgress.Delete listed place)) status told is t = absurd (cc is)
+told_worked k epoch d (Progress.Ending commit (EndProgress.Rest call_no)) status told is t = absurd (cc is)
+
+module _ (k epoch : ℕ) (commit : Bool) (call_no : CallNo) (m : Message) (x : Shown) (told : List Told)
+    (of_end : is_end_sync k epoch m ≡ true) (at_no : m.at ≡ call_no) where
+  last_is : last_shown k epoch (Answered m (Synced x) ∷ told) ≡ Some x
+  last_is = ap (λ b. option_or (shown_if b (Synced x)) (last_shown k epoch told)) of_end
+
+  status_is : last_status k epoch (Answered m (Synced x) ∷ told) ≡ Some (session_status x.session)
+  status_is = ap (λ b. option_or (status_of_shown (shown_if b (Synced x))) (last_status k epoch told)) of_end
+
+  told_free : (ids : List ℕ) → is_masters x.session ≡ false → x.transfers ≡ ids
+      → EndTold k epoch commit (at_free call_no ids) (Answered m (Synced x) ∷ told)
+  told_free [] free same = record {
+    shown = x;
+    newest = record { message = m; older = told; is = refl; at = at_no };
+    of_end = of_end;
+    session = free;
+    transfers = same;
+  }
+  told_free (id ∷ ids) free same = record { shown = x; last = last_is; session = free; transfers = same }
+
+  told_owned : (mark : SessionMark) (b : Bool) → nat_eq mark.owner 0 ≡ b → x.session ≡ Some mark
+      → EndTold k epoch commit (if b then at_status commit mark.status else at_free call_no x.transfers)
+      (Answered m (Synced x) ∷ told)
+  told_owned mark true owned same =
+      told_status k epoch commit mark.status (Answered m (Synced x) ∷ told) (ap is_some last_is)
+      (status_is ∙ ap (λ s. Some (session_status s)) same)
+  told_owned mark false owned same = told_free x.transfers (ap is_masters same ∙ owned) refl
+
+  told_session : (s : Option SessionMark) → x.session ≡ s
+      → EndTold k epoch commit (at_session commit call_no s x.transfers) (Answered m (Synced x) ∷ told)
+  told_session None same = told_free x.transfers (ap is_masters same) refl
+  told_session (Some mark) same = told_owned mark (nat_eq mark.owner 0) refl same
+
+  -- a Sync of the end phase was answered
+  told_shown : EndTold k epoch commit (at_shown commit call_no x) (Answered m (Synced x) ∷ told)
+  told_shown = told_session x.session refl
+
+-- a call of the end phase that is done had a Sync before it
+synced_of : (k epoch : ℕ) (commit : Bool) (a : SendStep) (told : List Told) → is_answer a Done ≡ true
+    → EndTold k epoch commit (EndProgress.Call a) told → is_some (last_shown k epoch told) ≡ true
+synced_of k epoch commit SendStep.Sync told fits t = absurd (cc fits)
+synced_of k epoch commit (SendStep.Start p) told fits t = absurd (cc fits)
+synced_of k epoch commit (SendStep.Data p id counter) told fits t = t.synced
+synced_of k epoch commit (SendStep.Exit id) told fits t = t.synced
+synced_of k epoch commit (SendStep.Process id tag) told fits t = t.synced
+synced_of k epoch commit SendStep.Activate told fits t = t.synced
+synced_of k epoch commit SendStep.Finish told fits t = t.synced
+synced_of k epoch commit SendStep.Rollback told fits t = t.synced
+synced_of k epoch commit SendStep.Revert told fits t = t.synced
+synced_of k epoch commit (SendStep.Delete id) told fits t = t.synced
+
+sync_only : (a : SendStep) (x : Shown) → is_answer a (Synced x) ≡ true → a ≡ SendStep.Sync
+sync_only SendStep.Sync x fits = refl
+sync_only (SendStep.Start p) x fits = absurd (cc fits)
+sync_only (SendStep.Data p id counter) x fits = absurd (cc fits)
+sync_only (SendStep.Exit id) x fits = absurd (cc fits)
+sync_only (SendStep.Process id tag) x fits = absurd (cc fits)
+sync_only SendStep.Activate x fits = absurd (cc fits)
+sync_only SendStep.Finish x fits = absurd (cc fits)
+sync_only SendStep.Rollback x fits = absurd (cc fits)
+sync_only SendStep.Revert x fits = absurd (cc fits)
+sync_only (SendStep.Delete id) x fits = absurd (cc fits)
+
+none_starts : (a : SendStep) (n : ℕ) → IsPlacedEnd (EndProgress.Call a) → is_answer a (Started n) ≡ true → ⊥
+none_starts SendStep.Sync n placed fits = cc fits
+none_starts (SendStep.Start p) n placed fits = placed
+none_starts (SendStep.Data p id counter) n placed fits = cc fits
+none_starts (SendStep.Exit id) n placed fits = cc fits
+none_starts (SendStep.Process id tag) n placed fits = cc fits
+none_starts SendStep.Activate n placed fits = cc fits
+none_starts SendStep.Finish n placed fits = cc fits
+none_starts SendStep.Rollback n placed fits = cc fits
+none_starts SendStep.Revert n placed fits = cc fits
+none_starts (SendStep.Delete id) n placed fits = cc fits
+
+shown_done : (b : Bool) (o : Option Shown) → option_or (shown_if b Done) o ≡ o
+shown_done true o = refl
+shown_done false o = refl
+
+same_number : (n : ℕ) → nat_eq n n ≡ true
+same_number n = grind (arith, nat_tests)
+
+both_same : (k epoch : ℕ) → (nat_eq k k && nat_eq epoch epoch) ≡ true
+both_same k epoch = ap (λ b. b && nat_eq epoch epoch) (same_number k) ∙ same_number epoch
+
+module _ (packages : List (List ℕ)) (d : DriverState) (told : List Told) where
+  -- the message of a call of the end phase
+  abbrev end_message : SendStep → Message
+  end_message asked =
+      record { at = next_no d; call = call_of packages asked; campaign = d.campaign; decided = true }
+
+  end_called : (commit : Bool) (a : SendStep) (reply : Reply) → IsPlacedEnd (EndProgress.Call a)
+      → is_answer a reply ≡ true → EndTold d.campaign d.epoch commit (EndProgress.Call a) told
+      → EndTold d.campaign d.epoch commit (end_after commit (next_no d) (EndProgress.Call a) reply)
+      (Answered (end_message a) reply ∷ told)
+  end_called commit a (Refused why) placed fits t = tt
+  end_called commit a Done placed fits t =
+      ap is_some (shown_done (is_end_sync d.campaign d.epoch (end_message a)) (last_shown d.campaign d.epoch told))
+      ∙ synced_of d.campaign d.epoch commit a told fits t
+  end_called commit a (Synced x) placed fits t =
+      told_shown d.campaign d.epoch commit (next_no d) (end_message a) x told
+      (subst
+      (λ s. is_end_sync d.campaign d.epoch (end_message s) ≡ true)
+      (sym (sync_only a x fits))
+      (both_same d.campaign d.epoch))
+      refl
+  end_called commit a (Started n) placed fits t = absurd (none_starts a n placed fits)
+
+  end_deleted : (commit : Bool) (listed : List ℕ) (place id : ℕ) (reply : Reply)
+      → is_answer (SendStep.Delete id) reply ≡ true
+      → EndTold d.campaign d.epoch commit (EndProgress.Delete listed place) told
+      → EndTold d.campaign d.epoch commit (end_after commit (next_no d) (EndProgress.Delete listed place) reply)
+      (Answered (end_message (SendStep.Delete id)) reply ∷ told)
+  end_deleted commit listed place id (Refused why) fits t = tt
+  end_deleted commit listed place id Done fits t =
+      end_if d.campaign d.epoch commit (nat_lt (suc place) (length listed)) (EndProgress.Delete listed (suc place))
+      (EndProgress.Call SendStep.Sync)
+      (Answered (end_message (SendStep.Delete id)) Done ∷ told)
+      (record {
+        shown = t.shown;
+        last = shown_done (is_end_sync d.campaign d.epoch (end_message (SendStep.Delete id)))
+            (last_shown d.campaign d.epoch told)
+            ∙ t.last;
+        session = t.session;
+        transfers = t.transfers;
+      })
+      tt
+  end_deleted commit listed place id (Synced x) fits t = absurd (cc fits)
+  end_deleted commit listed place id (Started n) fits t = absurd (cc fits)
+
+  end_replied : (commit : Bool) (at : EndProgress) (reply : Reply) (asked : SendStep) → IsPlacedEnd at
+      → end_wish at ≡ Wish.Send asked → is_answer asked reply ≡ true
+      → EndTold d.campaign d.epoch commit at told
+      → EndTold d.campaign d.epoch commit (end_after commit (next_no d) at reply)
+      (Answered (end_message asked) reply ∷ told)
+  end_replied commit (EndProgress.Call a) reply asked placed is fits t =
+      let same : a ≡ asked = cc is in
+      subst
+      (λ s. EndTold d.campaign d.epoch commit (end_after commit (next_no d) (EndProgress.Call a) reply)
+      (Answered (end_message s) reply ∷ told))
+      same
+      (end_called commit a reply placed (subst (λ s. is_answer s reply ≡ true) (sym same) fits) t)
+  end_replied commit EndProgress.Units reply asked placed is fits t = absurd (cc is)
+  end_replied commit (EndProgress.Delete listed place) reply asked placed is fits t =
+      let same : SendStep.Delete (slice_index_or listed place 0) ≡ asked = cc is in
+      subst
+      (λ s. EndTold d.campaign d.epoch commit (end_after commit (next_no d) (EndProgress.Delete listed place) reply)
+      (Answered (end_message s) reply ∷ told))
+      same
+      (end_deleted commit listed place (slice_index_or listed place 0) reply
+      (subst (λ s. is_answer s reply ≡ true) (sym same) fits)
+      t)
+  end_replied commit (EndProgress.Rest call_no) reply asked placed is fits t = absurd (cc is)
+
+settled_bare : (m : Message) (r : Reply) (told : List Told) → is_process m.call ≡ false
+    → is_settled (Answered m r ∷ told) ≡ is_settled told
+settled_bare m r told is = ap (λ b. if b && is_done r then false else is_settled told) is
+
+data_bare : (packages : List (List ℕ)) (b : Bool) (id p counter : ℕ)
+    → is_process (call_of packages (if b then SendStep.Exit id else SendStep.Data p id counter)) ≡ false
+data_bare packages true id p counter = refl
+data_bare packages false id p counter = refl
+
+data_answers : (b : Bool) (id p counter : ℕ) (r : Reply)
+    → is_answer (if b then SendStep.Exit id else SendStep.Data p id counter) r ≡ is_answer SendStep.Activate r
+data_answers true id p counter r = refl
+data_answers false id p counter r = refl
+
+module _ (packages : List (List ℕ)) (k epoch : ℕ) (d : DriverState) (m : Message) (told : List Told)
+    (at_no : m.at ≡ next_no d) where
+  process_told : (taken : ℕ) (settled b : Bool) (id tag : ℕ)
+      → m.call ≡ call_of packages (if b then SendStep.Process id tag else SendStep.Activate)
+      → ToldAt k epoch (Progress.Process taken settled) told
+      → ToldAt k epoch (if b then Progress.Process (suc taken) false else Progress.Activating) (Answered m Done ∷ told)
+  process_told taken settled true id tag call t =
+      (t.0, ap (λ c. if is_process c && true then false else is_settled told) call)
+  process_told taken settled false id tag call t = ap (λ c. (is_activate c && true) || activate_done told) call
+
+  -- a call of the rounds was answered
+  told_called : (p : Progress) (reply : Reply) → IsCalling p → is_answer (round_step d p) reply ≡ true
+      → m.call ≡ call_of packages (round_step d p) → ToldAt k epoch p told
+      → ToldAt k epoch (round_after d p reply) (Answered m reply ∷ told)
+  told_called Progress.Sync (Refused why) calling fits call t =
+      record { message = m; older = told; is = refl; at = at_no }
+  told_called Progress.Transfer (Refused why) calling fits call t =
+      record { message = m; older = told; is = refl; at = at_no }
+  told_called (Progress.Data id counter left) (Refused why) calling fits call t =
+      record { message = m; older = told; is = refl; at = at_no }
+  told_called (Progress.Process taken settled) (Refused why) calling fits call t =
+      record { message = m; older = told; is = refl; at = at_no }
+  told_called Progress.Activating (Refused why) calling fits call t = absurd calling
+  told_called (Progress.Voted finding) (Refused why) calling fits call t = absurd calling
+  told_called (Progress.Ending commit at) (Refused why) calling fits call t = absurd calling
+  told_called Progress.Sync (Synced x) calling fits call t =
+      (t.0, settled_bare m (Synced x) told (ap is_process call) ∙ t.1)
+  told_called Progress.Sync Done calling fits call t = absurd (cc fits)
+  told_called Progress.Sync (Started n) calling fits call t = absurd (cc fits)
+  told_called Progress.Transfer (Started n) calling fits call t =
+      (t.0, settled_bare m (Started n) told (ap is_process call) ∙ t.1)
+  told_called Progress.Transfer Done calling fits call t = absurd (cc fits)
+  told_called Progress.Transfer (Synced x) calling fits call t = absurd (cc fits)
+  told_called (Progress.Data id counter left) Done calling fits call t =
+      let place = (size_at d.steps (length d.ids)).index in
+      let settled = settled_bare m Done told (ap is_process call ∙ data_bare packages (left == 0) id place counter)
+      ∙ t.1 in
+      told_if k epoch (left == 0) (next_transfer d) (Progress.Data id (counter + 1) (left - block_limit))
+      (Answered m Done ∷ told)
+      (told_if k epoch (nat_lt (suc (length d.ids)) (length d.steps)) Progress.Transfer (Progress.Process 0 true)
+      (Answered m Done ∷ told) (t.0, settled) (t.0, settled))
+      (t.0, settled)
+  told_called (Progress.Data id counter left) (Started n) calling fits call t =
+      let place = (size_at d.steps (length d.ids)).index in
+      absurd (cc (sym (data_answers (left == 0) id place counter (Started n)) ∙ fits))
+  told_called (Progress.Data id counter left) (Synced x) calling fits call t =
+      let place = (size_at d.steps (length d.ids)).index in
+      absurd (cc (sym (data_answers (left == 0) id place counter (Synced x)) ∙ fits))
+  told_called (Progress.Process taken settled) Done calling fits call t =
+      process_told taken settled (nat_lt taken (length d.ids)) (slice_index_or d.ids taken 0) d.campaign call t
+  told_called (Progress.Process taken settled) (Started n) calling fits call t =
+      absurd
+      (cc (sym (not_process (nat_lt taken (length d.ids)) (slice_index_or d.ids taken 0) d.campaign (Started n))
+      ∙ fits))
+  told_called (Progress.Process taken settled) (Synced x) calling fits call t =
+      absurd
+      (cc (sym (not_process (nat_lt taken (length d.ids)) (slice_index_or d.ids taken 0) d.campaign (Synced x)) ∙ fits))
+  told_called Progress.Activating Done calling fits call t = absurd calling
+  told_called Progress.Activating (Started n) calling fits call t = absurd calling
+  told_called Progress.Activating (Synced x) calling fits call t = absurd calling
+  told_called (Progress.Voted finding) Done calling fits call t = absurd calling
+  told_called (Progress.Voted finding) (Started n) calling fits call t = absurd calling
+  told_called (Progress.Voted finding) (Synced x) calling fits call t = absurd calling
+  told_called (Progress.Ending commit at) Done calling fits call t = absurd calling
+  told_called (Progress.Ending commit at) (Started n) calling fits call t = absurd calling
+  told_called (Progress.Ending commit at) (Synced x) calling fits call t = absurd calling
+
+module _ (packages : List (List ℕ)) (d : DriverState) (told : List Told) (sound : IsSound d) where
+  abbrev sent_at : Progress → SendStep → Message
+  sent_at p asked =
+      record { at = next_no d; call = call_of packages asked; campaign = d.campaign; decided = is_ending p }
+
+  round_replied : (p : Progress) (reply : Reply) (asked : SendStep) → IsCalling p × (round_step d p ≡ asked)
+      → is_answer asked reply ≡ true → ToldAt d.campaign d.epoch p told
+      → ToldAt d.campaign d.epoch (round_after d p reply) (Answered (sent_at p asked) reply ∷ told)
+  round_replied p reply asked call fits t =
+      told_called packages d.campaign d.epoch d (sent_at p asked) told refl p reply call.0
+      (subst (λ s. is_answer s reply ≡ true) (sym call.1) fits)
+      (ap (call_of packages) (sym call.1))
+      t
+
+  told_replied : (p : Progress) (reply : Reply) (asked : SendStep) → IsPlaced d.steps d.ids p
+      → wish_at d p ≡ Wish.Send asked → is_answer asked reply ≡ true → ToldAt d.campaign d.epoch p told
+      → ToldAt d.campaign d.epoch (progress_after d p reply) (Answered (sent_at p asked) reply ∷ told)
+  told_replied Progress.Sync reply asked placed is fits t =
+      round_replied Progress.Sync reply asked (calls_of_wish d Progress.Sync asked is (λ e. e)) fits t
+  told_replied Progress.Transfer reply asked placed is fits t =
+      round_replied Progress.Transfer reply asked (calls_of_wish d Progress.Transfer asked is (λ e. e)) fits t
+  told_replied (Progress.Data id counter left) reply asked placed is fits t =
+      let p = Progress.Data id counter left in
+      round_replied p reply asked (calls_of_wish d p asked is (λ e. e)) fits t
+  told_replied (Progress.Process taken settled) reply asked placed is fits t =
+      let p = Progress.Process taken settled in
+      round_replied p reply asked (calls_of_wish d p asked is (λ e. e)) fits t
+  told_replied Progress.Activating reply asked placed is fits t = absurd (cc is)
+  told_replied (Progress.Voted finding) reply asked placed is fits t = absurd (cc is)
+  told_replied (Progress.Ending commit at) reply asked placed is fits t =
+      end_replied packages d told commit at reply asked placed is fits t
+
+  reply_if : (reply : Reply) (asked : SendStep) (b : Bool) → is_answer asked reply ≡ b → wish d ≡ Wish.Send asked
+      → IsTold d told
+      → IsTold (if b then replied reply d else opened d)
+      (told_reply (sent_at d.progress asked) (if b then Some reply else None) told)
+  reply_if reply asked true fits is t = told_replied d.progress reply asked sound.placed is fits t
+  reply_if reply asked false fits is t = t
+
+  told_send : (asked : SendStep) (got : Got) → wish d ≡ Wish.Send asked → IsTold d told
+      → IsTold (after_send asked got d) (told_reply (sent_at d.progress asked) (reply_got asked got) told)
+  told_send asked (Got.Replied reply) is t = reply_if reply asked (is_answer asked reply) refl is t
+  told_send asked (Got.UnitOf unit) is t = t
+  told_send asked (Got.Miss losses faults) is t = t
+
+  told_unit_after : (got : Got) → wish d ≡ Wish.Unit → IsTold d told → IsTold (after_unit got d) (told_unit got told)
+  told_unit_after (Got.Replied reply) is t = t
+  told_unit_after (Got.UnitOf unit) is t =
+      told_worked d.campaign d.epoch d d.progress (status_of unit) told is t
+  told_unit_after (Got.Miss losses faults) is t = t
+
+at_if : (b : Bool) (f : Finding) (n at : CallNo) (other asked : SendStep)
+    → (if b then Todo.Rest f else Todo.Send n other) ≡ Todo.Send at asked → n ≡ at
+at_if true f n at other asked is = absurd (cc is)
+at_if false f n at other asked is = cc is
+
+unit_at_if : (b : Bool) (f : Finding) (at : CallNo) (asked : SendStep)
+    → (if b then Todo.Rest f else Todo.Unit) ≡ Todo.Send at asked → ⊥
+unit_at_if true f at asked is = cc is
+unit_at_if false f at asked is = cc is
+
+at_of_todo : (d : DriverState) (w : Wish) (at : CallNo) (asked : SendStep) → todo_for d w ≡ Todo.Send at asked
+    → next_no d ≡ at
+at_of_todo d (Wish.Rest finding) at asked is = absurd (cc is)
+at_of_todo d (Wish.Send other) at asked is =
+    at_if (is_missed d) (unreached d.misses) (next_no d) at other asked is
+at_of_todo d Wish.Unit at asked is = absurd (unit_at_if (is_missed d) (unreached d.misses) at asked is)
+
+send_unit_if : (b : Bool) (f : Finding) (n : CallNo) (other : SendStep)
+    → (if b then Todo.Rest f else Todo.Send n other) ≡ Todo.Unit → ⊥
+send_unit_if true f n other is = cc is
+send_unit_if false f n other is = cc is
+
+unit_of_todo : (d : DriverState) (w : Wish) → todo_for d w ≡ Todo.Unit → w ≡ Wish.Unit
+unit_of_todo d (Wish.Rest finding) is = absurd (cc is)
+unit_of_todo d (Wish.Send other) is =
+    absurd (send_unit_if (is_missed d) (unreached d.misses) (next_no d) other is)
+unit_of_todo d Wish.Unit is = refl
+
+told_todo : (packages : List (List ℕ)) (d : DriverState) (told : List Told) (t : Todo) (got : Got) → IsSound d
+    → IsTold d told → todo d ≡ t → IsTold (after_todo t got d) (told_after packages d t got told)
+told_todo packages d told (Todo.Send at asked) got sound is_told is =
+    subst
+    (λ n. IsTold (after_send asked got d) (told_reply (message_of packages d n asked) (reply_got asked got) told))
+    (at_of_todo d (wish d) at asked is)
+    (told_send packages d told sound asked got (wish_of_todo d (wish d) at asked is) is_told)
+told_todo packages d told Todo.Unit got sound is_told is =
+    told_unit_after packages d told sound got (unit_of_todo d (wish d) is) is_told
+told_todo packages d told (Todo.Rest finding) got sound is_told is = is_told
+
+told_step : (packages : List (List ℕ)) (d : DriverState) (told : List Told) (got : Got) → IsSound d → IsTold d told
+    → has_number d ≡ true → IsTold (step got d) (told_after packages d (todo d) got told)
+told_step packages d told got sound is_told has =
+    subst
+    (λ b. IsTold (if b then after_todo (todo d) got d else d) (told_after packages d (todo d) got told))
+    (sym has)
+    (told_todo packages d told (todo d) got sound is_told refl)
+
+told_begun : (d : DriverState) (told : List Told) (round : Round) → IsTold d told → IsTold (begun round d) told
+told_begun d told Round.Sync t = t
+told_begun d told Round.Transfer t = t
+told_begun d told Round.Process t = t
+told_begun d told Round.Activate t = t
+told_begun d told (Round.End commit) t = tt
+
+early_at : (k epoch : ℕ) (d : DriverState) (p : Progress) (told : List Told) (asked : SendStep) → ToldAt k epoch p told
+    → (IsEnding p → ⊥) → wish_at d p ≡ Wish.Send asked → (has_refusal told ≡ false) × (is_settled told ≡ true)
+early_at k epoch d Progress.Sync told asked t early is = t
+early_at k epoch d Progress.Transfer told asked t early is = t
+early_at k epoch d (Progress.Data id counter left) told asked t early is = t
+early_at k epoch d (Progress.Process taken true) told asked t early is = t
+early_at k epoch d (Progress.Process taken false) told asked t early is = absurd (cc is)
+early_at k epoch d Progress.Activating told asked t early is = absurd (cc is)
+early_at k epoch d (Progress.Voted finding) told asked t early is = absurd (cc is)
+early_at k epoch d (Progress.Ending commit at) told asked t early is = absurd (early tt)
+
+or_second : (a b c : Bool) → b ≡ true → (a || (b || c)) ≡ true
+or_second true b c is = refl
+or_second false true c is = refl
+or_second false false c is = absurd (cc is)
+
+or_third : (a b c : Bool) → c ≡ true → (a || (b || c)) ≡ true
+or_third true b c is = refl
+or_third false true c is = refl
+or_third false false c is = is
+
+has_place : (ids : List ℕ) (place : ℕ) → place < length ids
+    → list_any (λ there. nat_eq (slice_index_or ids place 0) there) ids ≡ true
+has_place [] place less = absurd (omega (arith, less))
+has_place (id ∷ ids) zero less =
+    ap (λ b. b || list_any (λ there. nat_eq id there) ids) (same_number id)
+has_place (id ∷ ids) (suc place) less = or_last _ _ (has_place ids place (omega (arith, less)))
+  where
+    or_last : (a b : Bool) → b ≡ true → (a || b) ≡ true
+    or_last true b is = refl
+    or_last false b is = is
+
+module _ (packages : List (List ℕ)) (k epoch : ℕ) (commit : Bool) (cause : Cause) (told : List Told) where
+  -- a call that may be sent after the decision
+  abbrev IsLate : SendStep → Type 0
+  IsLate asked =
+      (is_sync (call_of packages asked)
+      || (end_call_at (decision_of commit cause) (last_status k epoch told) (call_of packages asked)
+      || delete_at (last_shown k epoch told) (call_of packages asked)))
+      ≡ true
+
+  late_by : (asked : SendStep)
+      → end_call_at (decision_of commit cause) (last_status k epoch told) (call_of packages asked) ≡ true → IsLate asked
+  late_by asked is =
+      or_second (is_sync (call_of packages asked)) _ (delete_at (last_shown k epoch told) (call_of packages asked)) is
+
+  late_call : (a : SendStep) → IsPlacedEnd (EndProgress.Call a) → EndTold k epoch commit (EndProgress.Call a) told
+      → IsLate a
+  late_call SendStep.Sync placed t = refl
+  late_call (SendStep.Start p) placed t = absurd placed
+  late_call (SendStep.Data p id counter) placed t = absurd placed
+  late_call (SendStep.Exit id) placed t = late_by (SendStep.Exit id) (t.allowed cause)
+  late_call (SendStep.Process id tag) placed t = late_by (SendStep.Process id tag) (t.allowed cause)
+  late_call SendStep.Activate placed t = late_by SendStep.Activate (t.allowed cause)
+  late_call SendStep.Finish placed t = late_by SendStep.Finish (t.allowed cause)
+  late_call SendStep.Rollback placed t = late_by SendStep.Rollback (t.allowed cause)
+  late_call SendStep.Revert placed t = late_by SendStep.Revert (t.allowed cause)
+  late_call (SendStep.Delete id) placed t = late_by (SendStep.Delete id) (t.allowed cause)
+
+  late_delete : (listed : List ℕ) (place : ℕ) → place < length listed
+      → EndTold k epoch commit (EndProgress.Delete listed place) told
+      → IsLate (SendStep.Delete (slice_index_or listed place 0))
+  late_delete listed place less t =
+      let id = slice_index_or listed place 0 in
+      or_third (is_sync (Call.DeleteTransfer id))
+      (end_call_at (decision_of commit cause) (last_status k epoch told) (Call.DeleteTransfer id))
+      (delete_at (last_shown k epoch told) (Call.DeleteTransfer id))
+      (ap (lists_free id) t.last
+      ∙ (ap (λ b. not b && list_any (λ there. nat_eq id there) t.shown.transfers) t.session
+      ∙ (ap (λ ids. list_any (λ there. nat_eq id there) ids) t.transfers ∙ has_place listed place less)))
+
+  late_at : (at : EndProgress) (asked : SendStep) → IsPlacedEnd at → EndTold k epoch commit at told
+      → end_wish at ≡ Wish.Send asked → IsLate asked
+  late_at (EndProgress.Call a) asked placed t is =
+      let same : a ≡ asked = cc is in subst IsLate same (late_call a placed t)
+  late_at EndProgress.Units asked placed t is = absurd (cc is)
+  late_at (EndProgress.Delete listed place) asked placed t is =
+      let same : SendStep.Delete (slice_index_or listed place 0) ≡ asked = cc is in
+      subst IsLate same (late_delete listed place placed t)
+  late_at (EndProgress.Rest call_no) asked placed t is = absurd (cc is)
+
+late_told : (packages : List (List ℕ)) (d : DriverState) (told : List Told) (commit : Bool) (end : EndProgress)
+    → d.progress ≡ Progress.Ending commit end → IsSound d → IsTold d told
+    → (at : CallNo) (asked : SendStep) → todo d ≡ Todo.Send at asked → (cause : Cause)
+    → IsLate packages d.campaign d.epoch commit cause told asked
+late_told packages d told commit end here sound is_told at asked is cause =
+    late_at packages d.campaign d.epoch commit cause told end asked
+    (subst (IsPlaced d.steps d.ids) here sound.placed)
+    (subst (λ p. ToldAt d.campaign d.epoch p told) here is_told)
+    (subst (λ p. wish_at d p ≡ Wish.Send asked) here (wish_of_todo d (wish d) at asked is))
+
+module _ (k epoch : ℕ) (told : List Told) where
+  found_if : (b : Bool) (g f : Finding) (t : Todo) → Found k epoch g told → (t ≡ Todo.Rest f → ⊥)
+      → (if b then Todo.Rest g else t) ≡ Todo.Rest f → Found k epoch f told
+  found_if true g f t has other is = let same : g ≡ f = cc is in subst (λ h. Found k epoch h told) same has
+  found_if false g f t has other is = absurd (other is)
+
+  found_call : (b : Bool) (f : Finding) (asked : SendStep)
+      → (if b then Wish.Rest Finding.RoundDone else Wish.Send asked) ≡ Wish.Rest f → Found k epoch f told
+  found_call true f asked is =
+      let same : Finding.RoundDone ≡ f = cc is in subst (λ h. Found k epoch h told) same tt
+  found_call false f asked is = absurd (cc is)
+
+  found_at : (d : DriverState) (p : Progress) (f : Finding) → ToldAt k epoch p told → wish_at d p ≡ Wish.Rest f
+      → Found k epoch f told
+  found_at d Progress.Sync f t is = found_call (is_over d.round d.ids Progress.Sync) f (round_step d Progress.Sync) is
+  found_at d Progress.Transfer f t is =
+      found_call (is_over d.round d.ids Progress.Transfer) f (round_step d Progress.Transfer) is
+  found_at d (Progress.Data id counter left) f t is =
+      let p = Progress.Data id counter left in found_call (is_over d.round d.ids p) f (round_step d p) is
+  found_at d (Progress.Process taken true) f t is =
+      let p = Progress.Process taken true in found_call (is_over d.round d.ids p) f (round_step d p) is
+  found_at d (Progress.Process taken false) f t is = absurd (cc is)
+  found_at d Progress.Activating f t is = absurd (cc is)
+  found_at d (Progress.Voted g) f t is = let same : g ≡ f = cc is in subst (λ h. Found k epoch h told) same t
+  found_at d (Progress.Ending commit (EndProgress.Call a)) f t is = absurd (cc is)
+  found_at d (Progress.Ending commit EndProgress.Units) f t is = absurd (cc is)
+  found_at d (Progress.Ending commit (EndProgress.Delete listed place)) f t is = absurd (cc is)
+  found_at d (Progress.Ending commit (EndProgress.Rest call_no)) f t is =
+      let same : Finding.Ended call_no ≡ f = cc is in subst (λ h. Found k epoch h told) same t
+
+  found_for : (d : DriverState) (p : Progress) (w : Wish) (f : Finding) → wish_at d p ≡ w → ToldAt k epoch p told
+      → todo_for d w ≡ Todo.Rest f → Found k epoch f told
+  found_for d p (Wish.Rest g) f here t is =
+      let same : g ≡ f = cc is in found_at d p f t (here ∙ ap Wish.Rest same)
+  found_for d p (Wish.Send a) f here t is =
+      found_if (is_missed d) (unreached d.misses) f (Todo.Send (next_no d) a) tt (λ e. cc e) is
+  found_for d p Wish.Unit f here t is = found_if (is_missed d) (unreached d.misses) f Todo.Unit tt (λ e. cc e) is
+
+-- what a driver asks for is allowed by what was told
+pub allowed_by_told : IsAllowedByTold
+allowed_by_told = record {
+  fresh = λ epoch first k steps. (refl, refl);
+  answered = λ packages d told got sound is_told has. told_step packages d told got sound is_told has;
+  begun = λ d told round is_told. told_begun d told round is_told;
+  early = λ d told is_told early at asked is.
+      early_at d.campaign d.epoch d d.progress told asked is_told early (wish_of_todo d (wish d) at asked is);
+  late = λ packages d told commit end here sound is_told at asked is cause.
+      late_told packages d told commit end here sound is_told at asked is cause;
+  found = λ d told finding is_told is.
+      found_for d.campaign d.epoch told d d.progress (wish d) finding refl is_told is;
+}
