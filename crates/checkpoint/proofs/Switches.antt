@@ -1,5 +1,5 @@
 -- From steps in a head to what the halves read as.
-use Rattle.std.proofs.Common.{◌≡◌, inl, inr, ℕ, ◌+◌, ◌<◌, ◌≤◌, ◌^◌, List, [], ◌∷◌, length, take, drop, get_or, Option, Some, None, refl, sym, ◌∙◌, ap, subst, arith}
+use Rattle.std.proofs.Common.{◌≡◌, inl, inr, ℕ, ◌+◌, ◌<◌, ◌≤◌, ◌^◌, List, [], ◌∷◌, length, take, drop, get_or, Option, Some, refl, sym, ◌∙◌, ap, subst, arith}
 use Rattle.disk_core.specs.Bytes.{Puts, Torn}
 use Rattle.disk_core.proofs.Pieces.{put_torn, torn_none}
 use Rattle.disk_area.specs.declared.area.Area.{Area}

@@ -2,7 +2,7 @@
 use Rattle.std.specs.Prelude.{◌≡◌, ◌≢◌, ◌⊎◌, ℕ, ◌+◌, ◌<◌, nat_lt, Bool, if◌then◌else◌, List, slice_index, Option, Some, None, IfSome}
 use Rattle.disk_core.specs.Bytes.{Torn}
 use Rattle.disk_area.specs.Windows.{window}
-use Rattle.checkpoint.specs.Halves.{Body, begins, layout_of, other, head_area, half_of, stored_in}
+use Rattle.checkpoint.specs.Halves.{Body, begins, layout_of, other, head_area, journal_area, half_of, stored_in}
 
 -- the body of a half that reads, where its state passes the test
 abbrev pub told : (List ℕ → Bool) → Option Body → Option Body
@@ -66,3 +66,8 @@ pub record Opens (half : ℕ) (old new : List ℕ) : Type 0 where
 -- the half stays shut, or opens
 abbrev pub MayOpen : ℕ → List ℕ → List ℕ → Type 0
 MayOpen half old new = StaysShut half old new ⊎ Opens half old new
+
+-- the same half of the pair counts as before, and behind the half beside this one stand the same records
+pub record KeepsCounting (tells : List ℕ → Bool) (half : ℕ) (old new : List ℕ) : Type 0 where
+  pub counts : counting tells (layout_of half).low new ≡ counting tells (layout_of half).low old
+  pub records : window (journal_area (other half)) new ≡ window (journal_area (other half)) old

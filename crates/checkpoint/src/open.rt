@@ -11,7 +11,8 @@ use crate::fault::StoreError;
 use crate::layout::head_area;
 use disk_core::{DeviceError, Disk};
 
-/// Opens the gate of a half that was prepared: a write and a sync. From then on this half counts.
+/// Opens the gate of a half that was prepared: a write and a sync. From then on it reads as what was stored in it, with
+/// an empty journal behind it.
 pub fn open_half<D: Disk>(disk: &mut D, half: u8) -> Result<(), StoreError>
     requires half { half < 4 }
     requires inside { HasHalf half (D.seen disk.old) }

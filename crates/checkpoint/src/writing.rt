@@ -1,4 +1,4 @@
-//! Writing the half that doesn't count.
+//! Writing a half: one that doesn't count, or, to format a disk again, any.
 ghost use Rattle.std.specs.Prelude.{◌≡◌, ◌+◌, ◌^◌, ◌≤◌, ◌<◌, Some, length, OnOk, IfOk, IsErrOf};
 ghost use Rattle.disk_core.specs.Images.{Only, SameImages};
 ghost use Rattle.disk_core.specs.Moments.{LeavesOnly};
@@ -19,6 +19,9 @@ use wire::{put_bytes, put_u64};
 
 /// Closes the gate of the half where it is open, and writes the half's body: a read, and at most two writes and two
 /// syncs. A gate that isn't 1 isn't written, since a crash within that write could open it over an old or torn body.
+///
+/// Of the bytes behind the state only the journal's first gate is promised: it is shut, so whatever records an earlier
+/// use of the half has left behind it, the journal is empty.
 pub fn prepare<D: Disk>(
     alloc: Global,
     disk: &mut D,

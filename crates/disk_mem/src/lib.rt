@@ -17,6 +17,3 @@ mod tear;
 
 pub use mem::MemDisk;
 pub use tear::Tear;
-
-#[cfg(test)]
-mod tests;

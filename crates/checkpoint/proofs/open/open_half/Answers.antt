@@ -2,8 +2,7 @@ use Rattle.std.proofs.Common.{ℕ, List, inl, subst}
 use Rattle.disk_core.proofs.Runs.{first_run}
 use Rattle.disk_core.proofs.Moments.{joined}
 use Rattle.disk_core.specs.Moments.{LeavesOnly}
-use Rattle.checkpoint.specs.Halves.{HasHalf}
-use Rattle.checkpoint.specs.Counting.{CanOpen, MayOpen, Opens}
+use Rattle.checkpoint.specs.Counting.{MayOpen, Opens}
 use Rattle.checkpoint.proofs.Steps.{unwritten}
 use Rattle.checkpoint.proofs.Switches.{still_shut}
 use Rattle.checkpoint.proofs.open.open_half.Goals as goal
