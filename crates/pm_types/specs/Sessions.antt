@@ -1,5 +1,5 @@
 -- The status table: what a call on the node's session is refused by, and what it does.
-use Rattle.std.specs.Prelude.{ℕ, Bool, true, false, not, ◌||◌, ◌&&◌, ◌==◌, nat_le, if◌then◌else◌, List, [], ◌∷◌, ◌++◌, length, map, is_none, unwrap_or, option_map, Option, Some, None}
+use Rattle.std.specs.Prelude.{ℕ, Bool, true, false, not, ◌||◌, ◌&&◌, ◌==◌, nat_le, if◌then◌else◌, List, [], ◌∷◌, ◌++◌, length, map, is_none, unwrap_or, option_map, Option, Some, None, Ok}
 use Rattle.std.specs.List.{list_any}
 use Rattle.std.specs.Option.{option_or, option_map_or}
 use Rattle.std.specs.Str.{bytes_eq}
@@ -22,9 +22,9 @@ use Rattle.pm_types.specs.declared.status.Status.TheVariants.{Idle, Ready, Proce
 use Rattle.pm_types.specs.declared.transfers.Header.{Header}
 use Rattle.pm_types.specs.declared.clusters.Cluster.{Cluster}
 use Rattle.pm_types.specs.declared.clusters.Change.{Change}
-use Rattle.pm_types.specs.NodeState.{NodeState, Session, Transfer, is_in, some_passes}
+use Rattle.pm_types.specs.NodeState.{NodeOf, NodeState, SessionOf, Transfer, is_in, some_passes}
 use Rattle.pm_types.specs.Clusters.{cluster_of, cluster_at, has_cluster, planned, unmet_among}
-use Rattle.pm_types.specs.Transfers.{with_phase, parts_of}
+use Rattle.pm_types.specs.Transfers.{Keeping, with_bytes, with_phase, parts_of}
 use Rattle.pm_types.specs.Refusals.{first_refusal}
 
 -- where a call leads: to a status, to cleaning up with an outcome, or back to what was before processing
@@ -47,19 +47,19 @@ status_table RolledBack Finish = Some (CleanUp Old)
 status_table _ _ = None
 
 -- what refuses each of the six calls first: another owner's session, and a dash
-abbrev pub session_refusals : NodeState → ℕ → Call → List (Bool × Refusal)
+abbrev pub session_refusals : {C T : Type 0} → NodeOf C T → ℕ → Call → List (Bool × Refusal)
 session_refusals s client call =
     (some_passes (λ x. not (x.owner == client)) s.session, ServiceBusy)
     ∷ (is_none (status_table s.status call), OperationNotPermitted)
     ∷ []
 
 -- the master has a tag, others have none, and a session keeps to its own
-abbrev pub is_wrong_tag : NodeState → ℕ → ℕ → Bool
+abbrev pub is_wrong_tag : {C T : Type 0} → NodeOf C T → ℕ → ℕ → Bool
 is_wrong_tag s client tag =
     (if client == 0 then tag == 0 else not (tag == 0)) || some_passes (λ x. not (x.tag == tag)) s.session
 
 -- the planned changes
-abbrev pub changes_in : NodeState → List (Change Bytes)
+abbrev pub changes_in : {C T : Type 0} → NodeOf C T → List (Change C)
 changes_in s = option_map_or (λ x. x.changes) s.session []
 
 abbrev pub is_install : Action → Bool
@@ -122,10 +122,10 @@ process_refusal s client tag found = option_or
     (parts_refusal s.running (changes_in s) [] (parts_of found))
 
 -- the clusters that would run after the planned changes
-abbrev pub planned_clusters : NodeState → List (Cluster Bytes)
+abbrev pub planned_clusters : {C T : Type 0} → NodeOf C T → List (Cluster C)
 planned_clusters s = option_map_or (λ x. planned x.changes x.saved) s.session s.running
 
-abbrev pub activate_refusal : NodeState → Option Refusal
+abbrev pub activate_refusal : {C T : Type 0} → NodeOf C T → Option Refusal
 activate_refusal s =
     option_map (λ u. MissingDependencies u.cluster u.need.name u.need.req) (unmet_among (planned_clusters s))
 
@@ -136,7 +136,7 @@ cancel_refusals found =
     ∷ []
 
 -- a session that begins
-abbrev pub new_session : NodeState → ℕ → ℕ → Session
+abbrev pub new_session : {C T : Type 0} → NodeOf C T → ℕ → ℕ → SessionOf C
 new_session s client tag = record {
   owner = client;
   tag = tag;
@@ -149,35 +149,41 @@ new_session s client tag = record {
 }
 
 -- the session goes on with a package, or begins with it
-abbrev pub begin_processing : NodeState → ℕ → ℕ → ℕ → NodeState
-begin_processing s client id tag =
+abbrev pub take_up : {C T : Type 0} → Keeping T → NodeOf C T → ℕ → ℕ → ℕ → NodeOf C T
+take_up k s client id tag =
     let x = unwrap_or s.session (new_session s client tag) in
-    record (with_phase id BeingProcessed s) {
+    record (with_phase k id BeingProcessed s) {
       session = Some (record x { processing = Some id; units_done = 0 });
     }
 
+abbrev pub begin_processing : NodeState → ℕ → ℕ → ℕ → NodeState
+begin_processing s client id tag = take_up (with_bytes (Ok [])) s client id tag
+
 -- the session with a change, where there is one
-abbrev pub changed_session : (Session → Session) → NodeState → Option Session
+abbrev pub changed_session : {C T : Type 0} → (SessionOf C → SessionOf C) → NodeOf C T → Option (SessionOf C)
 changed_session change s = option_map change s.session
 
 -- the package in processing is whole again, and not yet processed
-abbrev pub stop_processing : NodeState → ℕ → NodeState
-stop_processing s id = record (with_phase id Transferred s) {
+abbrev pub put_back : {C T : Type 0} → Keeping T → NodeOf C T → ℕ → NodeOf C T
+put_back k s id = record (with_phase k id Transferred s) {
   session = changed_session (λ x. record x { processing = None }) s;
 }
 
-abbrev pub clean_up : Outcome → NodeState → NodeState
+abbrev pub stop_processing : NodeState → ℕ → NodeState
+stop_processing s id = put_back (with_bytes (Ok [])) s id
+
+abbrev pub clean_up : {C T : Type 0} → Outcome → NodeOf C T → NodeOf C T
 clean_up outcome s = record s {
   status = CleaningUp;
   session = changed_session (λ x. record x { outcome = Some outcome }) s;
 }
 
 -- Resume: Ready where there is a planned change, else nothing is left to do
-abbrev pub arrive : NodeState → Goal → NodeState
+abbrev pub arrive : {C T : Type 0} → NodeOf C T → Goal → NodeOf C T
 arrive s (To status) = record s { status = status }
 arrive s (CleanUp outcome) = clean_up outcome s
 arrive s Resume = elim (changes_in s) [ [] ↦ clean_up Old s | change ∷ changes ↦ record s { status = Ready } ]
 
 -- the state goes where the table leads from its status
-abbrev pub led_by : Call → NodeState → NodeState
+abbrev pub led_by : {C T : Type 0} → Call → NodeOf C T → NodeOf C T
 led_by call s = option_map_or (arrive s) (status_table s.status call) s

@@ -20,10 +20,10 @@ use Rattle.pm_types.specs.declared.replies.Reply.TheVariants.{Done, Started, Syn
 use Rattle.pm_types.specs.declared.replies.Synced.{Synced}
 use Rattle.pm_types.specs.declared.history.Line.{Line}
 use Rattle.pm_types.specs.declared.state.Kept.{Kept}
-use Rattle.pm_types.specs.NodeState.{NodeState, of_client}
+use Rattle.pm_types.specs.NodeState.{NodeOf, NodeState, of_client}
 use Rattle.pm_types.specs.Refusals.{first_refusal, refusal_code}
-use Rattle.pm_types.specs.Sessions.{session_refusals, process_refusal, activate_refusal, cancel_refusals, begin_processing, stop_processing, led_by}
-use Rattle.pm_types.specs.Transfers.{Verdict, transfer_of, header_of, ids_of, start_refusals, data_refusals, exit_refusals, delete_refusals, verdict_refusal, started, with_block, exited, deleted}
+use Rattle.pm_types.specs.Sessions.{session_refusals, process_refusal, activate_refusal, cancel_refusals, take_up, put_back, led_by}
+use Rattle.pm_types.specs.Transfers.{Keeping, Verdict, transfer_of, header_of, ids_of, start_refusals, data_refusals, exit_refusals, delete_refusals, verdict_refusal, with_bytes, start, take_block, close, delete}
 
 -- the first refusal of a call; the verdict is that of the bytes of the transfer that an exit names
 abbrev pub refusal : NodeState → ℕ → Call → Verdict → Option Refusal
@@ -45,20 +45,22 @@ refusal s client (Cancel id) verdict =
     option_or (first_refusal (session_refusals s client (Cancel id)))
     (first_refusal (cancel_refusals (header_of (transfer_of s client id))))
 
--- what an accepted call does
+-- what an accepted call does, however the transfers are kept
+abbrev pub accept : {C T : Type 0} → Keeping T → NodeOf C T → ℕ → Call → NodeOf C T
+accept k s client Sync = s
+accept k s client (TransferStart size) = start k s client size
+accept k s client (TransferData id counter bytes) = take_block k s id bytes
+accept k s client (TransferExit id) = close k s id
+accept k s client (DeleteTransfer id) = delete k s id
+accept k s client (ProcessSwPackage id tag) = led_by (ProcessSwPackage id tag) (take_up k s client id tag)
+accept k s client Activate = led_by Activate s
+accept k s client Finish = led_by Finish s
+accept k s client Rollback = led_by Rollback s
+accept k s client RevertProcessedSwPackages = led_by RevertProcessedSwPackages s
+accept k s client (Cancel id) = led_by (Cancel id) (put_back k s id)
+
 abbrev pub accepted : NodeState → ℕ → Call → Verdict → NodeState
-accepted s client Sync verdict = s
-accepted s client (TransferStart size) verdict = started s client size
-accepted s client (TransferData id counter bytes) verdict = with_block s id bytes
-accepted s client (TransferExit id) verdict = exited s id verdict
-accepted s client (DeleteTransfer id) verdict = deleted s id
-accepted s client (ProcessSwPackage id tag) verdict =
-    led_by (ProcessSwPackage id tag) (begin_processing s client id tag)
-accepted s client Activate verdict = led_by Activate s
-accepted s client Finish verdict = led_by Finish s
-accepted s client Rollback verdict = led_by Rollback s
-accepted s client RevertProcessedSwPackages verdict = led_by RevertProcessedSwPackages s
-accepted s client (Cancel id) verdict = led_by (Cancel id) (stop_processing s id)
+accepted s client call verdict = accept (with_bytes verdict) s client call
 
 -- the session, how the client's last one ended, and the client's transfers
 abbrev pub synced : NodeState → ℕ → Synced
@@ -84,9 +86,12 @@ abbrev pub reply_to : NodeState → ℕ → Call → Verdict → Reply
 reply_to s client call verdict = refused_or (acceptance s client call) (refusal s client call verdict)
 
 -- the state after a call that was answered so: a refusal leaves it
+abbrev pub answer_with : {C T : Type 0} → Keeping T → NodeOf C T → ℕ → Call → Reply → NodeOf C T
+answer_with k s client call (Refused refusal) = s
+answer_with k s client call _ = accept k s client call
+
 abbrev pub after_reply : NodeState → ℕ → Call → Verdict → Reply → NodeState
-after_reply s client call verdict (Refused refusal) = s
-after_reply s client call verdict _ = accepted s client call verdict
+after_reply s client call verdict reply = answer_with (with_bytes verdict) s client call reply
 
 -- the new state and the reply
 abbrev pub judge : NodeState → ℕ → Call → Verdict → NodeState × Reply
@@ -102,7 +107,7 @@ abbrev pub newest : List Line → List Line
 newest lines = drop (length lines - line_limit) lines
 
 -- one entry more, and its line
-abbrev pub with_entry : Happened → NodeState → NodeState
+abbrev pub with_entry : {C T : Type 0} → Happened → NodeOf C T → NodeOf C T
 with_entry happened s = record s {
   entries = s.entries + 1;
   lines = newest (s.lines ++ record { place = s.entries; happened = happened } ∷ []);
@@ -127,15 +132,18 @@ reply_code (Refused refusal) = refusal_code refusal
 reply_code _ = 0
 
 -- the client's number and reply are kept
-abbrev pub with_kept : ℕ → CallNo → Reply → NodeState → NodeState
+abbrev pub with_kept : {C T : Type 0} → ℕ → CallNo → Reply → NodeOf C T → NodeOf C T
 with_kept client call_no reply s =
     record s { last = slice_set s.last client (Some (record { no = call_no; reply = reply })) }
 
 -- the state after a call with a new number: its effect, its number and reply, and its line
-abbrev pub after_call : NodeState → ℕ → CallNo → Call → Verdict → Reply → NodeState
-after_call s client call_no call verdict reply =
+abbrev pub execute : {C T : Type 0} → Keeping T → NodeOf C T → ℕ → CallNo → Call → Reply → NodeOf C T
+execute k s client call_no call reply =
     with_entry (Numbered client call_no (name_of call) (reply_code reply))
-    (with_kept client call_no reply (after_reply s client call verdict reply))
+    (with_kept client call_no reply (answer_with k s client call reply))
+
+abbrev pub after_call : NodeState → ℕ → CallNo → Call → Verdict → Reply → NodeState
+after_call s client call_no call verdict reply = execute (with_bytes verdict) s client call_no call reply
 
 -- a call with a new number is judged, kept and entered
 abbrev pub executed : NodeState → ℕ → CallNo → Call → Verdict → NodeState × Reached

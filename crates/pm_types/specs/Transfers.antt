@@ -10,7 +10,7 @@ use Rattle.pm_types.specs.declared.status.Phase.TheVariants.{Transferring, Trans
 use Rattle.pm_types.specs.declared.replies.Refusal.{Refusal}
 use Rattle.pm_types.specs.declared.replies.Refusal.TheVariants.{InsufficientMemory, IncorrectSize, InvalidTransferId, OperationNotPermitted, IncorrectBlock, InsufficientData}
 use Rattle.pm_types.specs.declared.transfers.Header.{Header}
-use Rattle.pm_types.specs.NodeState.{NodeState, Transfer, is_in, some_passes}
+use Rattle.pm_types.specs.NodeState.{NodeOf, NodeState, Transfer, is_in, outlasts, some_passes}
 
 -- what reading a transfer's bytes says: the parts of the package, or its refusal
 abbrev pub Verdict : Type 0
@@ -96,26 +96,61 @@ grown size h = record h { received = h.received + size; next_counter = h.next_co
 abbrev pub in_phase : Phase → Header → Header
 in_phase phase h = record h { phase = phase }
 
--- the state with the transfer of this id changed
-abbrev pub with_transfer : ℕ → (Transfer → Transfer) → NodeState → NodeState
-with_transfer id change s = record s { transfers = map (λ t. if t.header.id == id then change t else t) s.transfers }
+-- how transfers are kept: their headers, one that begins, one with a block more, and one that is whole
+pub record Keeping (T : Type 0) : Type 0 where
+  pub header : T → Header
+  pub headed : Header → T → T
+  pub begun : Header → T
+  pub longer : Bytes → T → T
+  pub whole : T → T
 
-abbrev pub with_phase : ℕ → Phase → NodeState → NodeState
-with_phase id phase s = with_transfer id (λ t. record t { header = in_phase phase t.header }) s
-
-abbrev pub started : NodeState → ℕ → ℕ → NodeState
-started s client size = record s {
-  next_id = s.next_id + 1;
-  transfers = s.transfers ++ record { header = fresh s.next_id client size; bytes = []; parts = [] } ∷ [];
+-- with the bytes themselves, which a verdict was made on where they are whole
+abbrev pub with_bytes : Verdict → Keeping Transfer
+with_bytes verdict = record {
+  header = λ t. t.header;
+  headed = λ h t. record t { header = h };
+  begun = λ h. record { header = h; bytes = []; parts = [] };
+  longer = λ bytes t. record t { header = grown (length bytes) t.header; bytes = t.bytes ++ bytes };
+  whole = λ t. record t { header = in_phase Transferred t.header; parts = parts_read verdict };
 }
 
+-- the state with the transfer of this id changed
+abbrev pub with_transfer : {C T : Type 0} → Keeping T → ℕ → (T → T) → NodeOf C T → NodeOf C T
+with_transfer k id change s =
+    record s { transfers = map (λ t. if (k.header t).id == id then change t else t) s.transfers }
+
+abbrev pub with_phase : {C T : Type 0} → Keeping T → ℕ → Phase → NodeOf C T → NodeOf C T
+with_phase k id phase s = with_transfer k id (λ t. k.headed (in_phase phase (k.header t)) t) s
+
+-- the effects of the four calls
+abbrev pub start : {C T : Type 0} → Keeping T → NodeOf C T → ℕ → ℕ → NodeOf C T
+start k s client size = record s {
+  next_id = s.next_id + 1;
+  transfers = s.transfers ++ k.begun (fresh s.next_id client size) ∷ [];
+}
+
+abbrev pub take_block : {C T : Type 0} → Keeping T → NodeOf C T → ℕ → Bytes → NodeOf C T
+take_block k s id bytes = with_transfer k id (λ t. k.longer bytes t) s
+
+abbrev pub close : {C T : Type 0} → Keeping T → NodeOf C T → ℕ → NodeOf C T
+close k s id = with_transfer k id (λ t. k.whole t) s
+
+abbrev pub delete : {C T : Type 0} → Keeping T → NodeOf C T → ℕ → NodeOf C T
+delete k s id = record s { transfers = filter (λ t. not ((k.header t).id == id)) s.transfers }
+
+-- the transfers that outlast a session
+abbrev pub outlasting : {T : Type 0} → Keeping T → List T → List T
+outlasting k transfers = filter (λ t. outlasts (k.header t)) transfers
+
+-- the same of a node with the bytes themselves
+abbrev pub started : NodeState → ℕ → ℕ → NodeState
+started s client size = start (with_bytes (Ok [])) s client size
+
 abbrev pub with_block : NodeState → ℕ → List ℕ → NodeState
-with_block s id bytes =
-    with_transfer id (λ t. record t { header = grown (length bytes) t.header; bytes = t.bytes ++ bytes }) s
+with_block s id bytes = take_block (with_bytes (Ok [])) s id bytes
 
 abbrev pub exited : NodeState → ℕ → Verdict → NodeState
-exited s id verdict =
-    with_transfer id (λ t. record t { header = in_phase Transferred t.header; parts = parts_read verdict }) s
+exited s id verdict = close (with_bytes verdict) s id
 
 abbrev pub deleted : NodeState → ℕ → NodeState
-deleted s id = record s { transfers = filter (λ t. not (t.header.id == id)) s.transfers }
+deleted s id = delete (with_bytes (Ok [])) s id

@@ -9,6 +9,7 @@
 mod calls;
 mod clusters;
 mod contents;
+mod display;
 mod history;
 mod queries;
 mod replies;

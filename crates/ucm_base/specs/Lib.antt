@@ -7,3 +7,4 @@ pub mod Versions
 pub mod Parts
 pub mod Needs
 pub mod Text
+pub mod Printed

@@ -5,6 +5,7 @@
 //! exactly where the bytes or numbers have it.
 #![tactic(auto)]
 
+mod display;
 mod ids;
 pub mod limits;
 mod name;

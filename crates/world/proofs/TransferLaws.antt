@@ -18,6 +18,7 @@ use Rattle.world.proofs.Rules.{KeepsTransfers}
 use Rattle.node_laws.proofs.NameLists.{names-of-parts}
 use Rattle.node_laws.proofs.KeptProcessing.{names-kept, parts-of-changes}
 use Rattle.world.proofs.Basics.{judged-by, done-none, not-refused}
+use Rattle.world.proofs.Names.{InvalidTransferId, after_reply, grown, is_none, header_of, option_map_or, refusal, refused_or, sym, transfer_of}
 use Rattle.pm_types.specs.declared.calls.Call.TheVariants as call
 
 pub unit-is : (s : NodeState) (passed : Bool) (x : Session) (t : NodeState) → s.session ≡ Some x
@@ -136,7 +137,11 @@ module _ (read : Reading) (clusters : List (Cluster Bytes)) where
 
   pub data_transfers : (s : NodeState) (id counter : ℕ) (bytes : List ℕ)
       → ids_of (judged_in read s (TransferData id counter bytes)).0 0 ≡ ids_of s 0
-  data_transfers s id counter bytes = grind (arith, ids-changed)
+  data_transfers s id counter bytes =
+      judged-by s 0 (call.TransferData id counter bytes) (verdict_for read s 0 (call.TransferData id counter bytes))
+      (λ t. ids_of t 0 ≡ ids_of s 0) refl
+      (ids-changed 0 id (λ t. record t { header = grown (length bytes) t.header; bytes = t.bytes ++ bytes })
+      (record { id = λ t. refl; client = λ t. refl }) s.transfers)
 
   pub data_received : (s : NodeState) (id counter : ℕ) (bytes : List ℕ)
       → (judged_in read s (TransferData id counter bytes)).1 ≡ Done
@@ -144,7 +149,26 @@ module _ (read : Reading) (clusters : List (Cluster Bytes)) where
       × ((other : ℕ) → other ≢ id
       → received_in (judged_in read s (TransferData id counter bytes)).0 other ≡ received_in s other)
   data_received s id counter bytes d =
-      grind (arith, not-refused, done-none, found-changed, received_in, found-is)
+      subst (λ t. (received_in t id ≡ received_in s id ++ bytes)
+      × ((other : ℕ) → other ≢ id → received_in t other ≡ received_in s other))
+      (sym (ap (λ o. after_reply s 0 (call.TransferData id counter bytes)
+      (verdict_for read s 0 (call.TransferData id counter bytes)) (refused_or Done o)) none)) longer
+    where
+      none : refusal s 0 (call.TransferData id counter bytes)
+          (verdict_for read s 0 (call.TransferData id counter bytes)) ≡ None
+      none = done-none Done _ d
+
+      grows : Transfer → Transfer
+      grows t = record t { header = grown (length bytes) t.header; bytes = t.bytes ++ bytes }
+
+      longer : (received_in (record s { transfers = map (changed id grows) s.transfers }) id
+          ≡ received_in s id ++ bytes)
+          × ((other : ℕ) → other ≢ id
+          → received_in (record s { transfers = map (changed id grows) s.transfers }) other ≡ received_in s other)
+      longer =
+          let h = header_of (transfer_of s 0 id) in
+          let there = (not-refused (is_none h, InvalidTransferId) (data-rest h counter (length bytes)) none).0 in
+          grind (arith, found-changed, received_in, found-is, there)
 
   ids-below : (next : ℕ) (ts : List Transfer) → AllByRecursion (IsSound next) ts
       → AllByRecursion (λ (n : ℕ). n < next)
