@@ -1,24 +1,11 @@
 -- Where a call leads, a stored node stands for the node there, and stays in order.
-use Rattle.node_core.proofs.Names.{AllByRecursion, AreCopied, Areas, Call, extents_of, map, transfer_meaning, Change, CleanUp, CleaningUp, Cluster, Done, Extent}
-use Rattle.node_core.proofs.Names.{Goal, Holding, IfSome, IsCopied, IsCopiedIn, IsInOrder, IsJudged, IsSound, List, NodeState}
-use Rattle.node_core.proofs.Names.{None, Old, OnlyLeads, Option, Outcome, Prepared, Ready, Refusal, Refused, Reply, Resume}
-use Rattle.node_core.proofs.Names.{RunsWhatItShould, SessionOf, Some, State, Status, StoredTransfer, To, acceptance, accepted, ap}
-use Rattle.node_core.proofs.Names.{arith, arrive, arrived, cleaning_up, each-imp, first_refusal}
-use Rattle.node_core.proofs.Names.{led_by, meaning, node_of, option_map_or, package_reading, places_in, refl, refusal_by, refused_or}
-use Rattle.node_core.proofs.Names.{session_refusals, should_run, status_table, subst, sym, units_done, verdict_on, [], ℕ}
-use Rattle.node_core.proofs.Names.{◌∙◌, ◌∷◌, ◌≡◌}
+use Rattle.node_core.proofs.Names.{AllByRecursion, AreCopied, Areas, Call, Change, CleanUp, CleaningUp, Cluster}
+use Rattle.node_core.proofs.Names.{Extent, Goal, IfSome, IsCopied, IsCopiedIn, IsInOrder, List, NodeState, None, Old}
+use Rattle.node_core.proofs.Names.{Option, Outcome, Ready, Resume, RunsWhatItShould, SessionOf, Some, StandsFor}
+use Rattle.node_core.proofs.Names.{State, Status, StoredTransfer, To, arith, arrive, clean_up, each-imp, extents_of}
+use Rattle.node_core.proofs.Names.{led_by, map, meaning, option_map_or, package_reading, places_in, refl, should_run}
+use Rattle.node_core.proofs.Names.{status_table, subst, sym, transfer_meaning, units_done, ℕ, [], ◌∙◌, ◌∷◌, ◌≡◌}
 use Rattle.node_core.proofs.Stored.{copied-when}
-
--- a call that is refused is judged, whatever was ready for it
-pub refused-judged : (v : Holding) (client : ℕ) (call : Call) (why : Refusal) (p : Prepared) → IsSound v
-    → refusal_by v client call ≡ Some why → IsJudged v client call (Refused why) (record v { prepared = p })
-refused-judged v client call why p sound refused = record {
-  answer = ap (refused_or (acceptance (node_of v) client call)) (sym refused);
-  node = refl;
-  order = sound.order;
-  copied = sound.copied;
-  entries = refl;
-}
 
 -- what is copied stays copied while as many units are done, and the same clusters run at the same places
 pub copied-by : (areas : Areas) (s n : State) → units_done n ≡ units_done s → n.running ≡ s.running
@@ -67,13 +54,6 @@ same-runs : (x : SessionOf Extent) (a : Status) (c : Call)
     → IfSome (status_table a c) (λ goal. should_run x a x.outcome ≡ runs-at x goal)
 same-runs x a c = grind arith
 
--- going somewhere leaves the node there, in order, with what is copied and as many entries
-record IsThere (areas : Areas) (s n : State) (there : NodeState) : Type 0 where
-  pub node : meaning package_reading areas n ≡ there
-  pub order : IsInOrder package_reading areas n
-  pub copied : IsCopied package_reading areas n
-  pub entries : n.entries ≡ s.entries
-
 module _ (areas : Areas) (s : State) where
   abbrev means : State → NodeState
   means n = meaning package_reading areas n
@@ -83,7 +63,7 @@ module _ (areas : Areas) (s : State) where
       → IfSome o (λ x. s.running ≡ should_run x status x.outcome)
       → IsInOrder package_reading areas (record s { session = o })
       → IsCopied package_reading areas (record s { session = o })
-      → IsThere areas s (record s { status = status; session = o })
+      → StandsFor areas (record s { status = status; session = o })
       (record (means (record s { session = o })) { status = status })
   to-there status o runs i copied = record {
     node = refl;
@@ -98,7 +78,6 @@ module _ (areas : Areas) (s : State) where
     };
     copied = copied-by areas (record s { session = o })
         (record s { status = status; session = o }) refl refl refl s.transfers copied;
-    entries = refl;
   }
 
   -- to cleaning up
@@ -106,7 +85,7 @@ module _ (areas : Areas) (s : State) where
       → IfSome o (λ x. s.running ≡ runs-at x (CleanUp outcome))
       → IsInOrder package_reading areas (record s { session = o })
       → IsCopied package_reading areas (record s { session = o })
-      → IsThere areas s (cleaning_up outcome (record s { session = o }))
+      → StandsFor areas (clean_up outcome (record s { session = o }))
       (arrive (means (record s { session = o })) (CleanUp outcome))
   cleaning-there outcome None runs i copied = record {
     node = refl;
@@ -119,22 +98,20 @@ module _ (areas : Areas) (s : State) where
       running = tt;
     };
     copied = copied-by areas (record s { session = None })
-        (cleaning_up outcome (record s { session = None })) refl refl refl s.transfers copied;
-    entries = refl;
+        (clean_up outcome (record s { session = None })) refl refl refl s.transfers copied;
   }
   cleaning-there outcome (Some x) runs i copied = record {
     node = refl;
     order = marked-order areas s CleaningUp x x.processing x.units_done x.verified (Some outcome) i runs;
     copied = copied-by areas (record s { session = Some x })
-        (cleaning_up outcome (record s { session = Some x })) refl refl refl s.transfers copied;
-    entries = refl;
+        (clean_up outcome (record s { session = Some x })) refl refl refl s.transfers copied;
   }
 
   -- where a call leads
   arrived-there : (goal : Goal) (o : Option (SessionOf Extent)) → IfSome o (λ x. s.running ≡ runs-at x goal)
       → IsInOrder package_reading areas (record s { session = o })
       → IsCopied package_reading areas (record s { session = o })
-      → IsThere areas s (arrived goal (record s { session = o })) (arrive (means (record s { session = o })) goal)
+      → StandsFor areas (arrive (record s { session = o }) goal) (arrive (means (record s { session = o })) goal)
   arrived-there (To status) o = to-there status o
   arrived-there (CleanUp outcome) o = cleaning-there outcome o
   arrived-there Resume None = cleaning-there Old None
@@ -145,72 +122,26 @@ module _ (areas : Areas) (s : State) where
 
       by : (changes : List (Change Extent)) → s.running ≡ x.saved → IsInOrder package_reading areas (with changes)
           → IsCopied package_reading areas (with changes)
-          → IsThere areas s (arrived Resume (with changes)) (arrive (means (with changes)) Resume)
+          → StandsFor areas (arrive (with changes) Resume) (arrive (means (with changes)) Resume)
       by [] = cleaning-there Old (Some (record x { changes = [] }))
       by (change ∷ changes) = to-there Ready (Some (record x { changes = change ∷ changes }))
 
--- an accepted call is judged, where what it does before it leads somewhere is what it should be, in order and copied
-pub done-judged : (v : Holding) (client : ℕ) (c : Call) (reply : Reply) (new : Holding) (goal : Goal) (s : State)
-    (p : Prepared) (before : NodeState)
-    → refusal_by v client c ≡ None → acceptance (node_of v) client c ≡ Done
-    → accepted (node_of v) client c (verdict_on v client c) ≡ led_by c before
-    → meaning package_reading v.areas s ≡ before
-    → status_table s.status c ≡ Some goal → IsInOrder package_reading v.areas s → IsCopied package_reading v.areas s
-    → s.entries ≡ v.state.entries → reply ≡ Done → new ≡ record v { state = arrived goal s; prepared = p }
-    → IsJudged v client c reply new
-done-judged v client c reply new goal s p before none done leads same table order copied entries replies is =
-    subst (λ (x : Reply × Holding). IsJudged v client c x.0 x.1) (sym (λ i. (replies i, is i))) (record {
-      answer = sym done ∙ ap (refused_or (acceptance (node_of v) client c)) (sym none);
-      node = there.node ∙ led ∙ sym leads;
-      order = there.order;
-      copied = there.copied;
-      entries = there.entries ∙ entries;
-    })
+-- where the status table leads
+pub led-stands : (areas : Areas) (s : State) (n : NodeState) (c : Call) → StandsFor areas s n
+    → StandsFor areas (led_by c s) (led_by c n)
+led-stands areas s n c stands =
+    subst (λ m. StandsFor areas (led_by c s) (led_by c m)) stands.node (go (status_table s.status c) refl)
   where
-    led : arrive (meaning package_reading v.areas s) goal ≡ led_by c before
-    led =
-        ap (λ o. option_map_or (arrive (meaning package_reading v.areas s)) o (meaning package_reading v.areas s))
-        (sym table)
-        ∙ ap (led_by c) same
-
-    runs : (o : Option (SessionOf Extent)) → RunsWhatItShould (record s { session = o })
-        → IfSome o (λ x. s.running ≡ runs-at x goal)
-    runs None r = tt
-    runs (Some x) r =
+    runs : (goal : Goal) → status_table s.status c ≡ Some goal → (o : Option (SessionOf Extent))
+        → RunsWhatItShould (record s { session = o }) → IfSome o (λ x. s.running ≡ runs-at x goal)
+    runs goal table None r = tt
+    runs goal table (Some x) r =
         r ∙ subst (λ o. IfSome o (λ g. should_run x s.status x.outcome ≡ runs-at x g)) table (same-runs x s.status c)
 
-    there : IsThere v.areas s (arrived goal s) (arrive (meaning package_reading v.areas s) goal)
-    there = arrived-there v.areas s goal s.session (runs s.session order.running) order copied
-
--- where an accepted call leads that does nothing before
-pub led-judged : (v : Holding) (client : ℕ) (c : Call) (reply : Reply) (new : Holding) (goal : Goal)
-    → IsSound v → refusal_by v client c ≡ None → acceptance (node_of v) client c ≡ Done
-    → accepted (node_of v) client c (verdict_on v client c) ≡ led_by c (node_of v)
-    → status_table v.state.status c ≡ Some goal → reply ≡ Done → new ≡ record v { state = arrived goal v.state }
-    → IsJudged v client c reply new
-led-judged v client c reply new goal sound none done leads table =
-    done-judged v client c reply new goal v.state v.prepared
-    (node_of v) none done leads refl table sound.order sound.copied refl
-
--- a call that only leads somewhere is refused as its session says, and does nothing before
-module _ (v : Holding) (client : ℕ) (c : Call) (sound : IsSound v) (only : OnlyLeads c) where
-  only-leads : (refusal_by v client c ≡ first_refusal (session_refusals (node_of v) client c))
-      × (acceptance (node_of v) client c ≡ Done)
-      × (accepted (node_of v) client c (verdict_on v client c) ≡ led_by c (node_of v))
-  only-leads = by c only
-    where
-      by : (d : Call) → OnlyLeads d → (refusal_by v client d ≡ first_refusal (session_refusals (node_of v) client d))
-          × (acceptance (node_of v) client d ≡ Done)
-          × (accepted (node_of v) client d (verdict_on v client d) ≡ led_by d (node_of v))
-      by d o = grind arith
-
-  pub only-refused : (why : Refusal) (p : Prepared) → first_refusal (session_refusals (node_of v) client c) ≡ Some why
-      → IsJudged v client c (Refused why) (record v { prepared = p })
-  only-refused why p refused = refused-judged v client c why p sound (only-leads.0 ∙ refused)
-
-  pub only-led : (reply : Reply) (new : Holding) (goal : Goal)
-      → first_refusal (session_refusals (node_of v) client c) ≡ None
-      → status_table v.state.status c ≡ Some goal → reply ≡ Done → new ≡ record v { state = arrived goal v.state }
-      → IsJudged v client c reply new
-  only-led reply new goal none =
-      led-judged v client c reply new goal sound (only-leads.0 ∙ none) only-leads.1 only-leads.2
+    go : (o : Option Goal) → status_table s.status c ≡ o
+        → StandsFor areas (option_map_or (arrive s) o s)
+        (option_map_or (arrive (meaning package_reading areas s)) o (meaning package_reading areas s))
+    go None table = record { node = refl; order = stands.order; copied = stands.copied }
+    go (Some goal) table =
+        arrived-there areas s goal s.session (runs goal table s.session stands.order.running) stands.order
+        stands.copied

@@ -1,5 +1,5 @@
 -- What copying the next unit of a package leaves of a sound node, and makes ready.
-use Rattle.node_core.proofs.Names.{AllByRecursion, AreCopied, Areas, AreasFit, Bytes, Change, Extent, Holding, IfSome, IsArea, IsExtent, IsKept}
+use Rattle.node_core.proofs.Names.{AllByRecursion, AreCopied, Areas, AreasFit, Bytes, Change, Extent, Holding, IfSome, IsArea, IsExtent, StandsFor, node_of}
 use Rattle.node_core.proofs.Names.{IsNextUnit, IsPackageReady, IsReservedWork, IsSound, IsUnitOf, LeavesOutside, LieWithin, List, NextUnit, None}
 use Rattle.node_core.proofs.Names.{Ok, OnOk, Option, Piece, Processing, Result, SessionOf, Some, State, StoredTransfer, Err}
 use Rattle.node_core.proofs.Names.{Transfer as MeantTransfer, ap, append-nil, arith, before-stands, changes_due, changes_to, content-here, content_of}
@@ -13,25 +13,19 @@ use Rattle.node_core.proofs.Worked.{at-work}
 use Rattle.node_core.proofs.Staging.{came-lies, slot-is}
 use Rattle.node_core.proofs.Lastly.{brings, matches, planned-extents}
 use Rattle.node_core.proofs.Packages.{parts-read}
-use Rattle.node_core.proofs.Pieces.{Copies, lie-in-all, lie-within, next-piece}
+use Rattle.node_core.proofs.Pieces.{Copies, lie-in-all, lie-within, next-piece, piece-front}
 use Rattle.node_core.proofs.Placing.{match-length}
 use Rattle.node_core.proofs.Sides.{AreApart, goes-apart, places-apart, same-extent, side-means, side-order}
 
--- a node whose areas and whose state stay is kept
-pub still-kept : {v : Holding} {new : Holding} → IsSound v → new.areas ≡ v.areas → new.state ≡ v.state
-    → v.faults ≤ new.faults → IsKept v new
-still-kept {v = v} {new = new} sound areas state more =
-    subst (IsKept v) (λ i. record new { areas = sym areas i; state = sym state i })
-    (record { state = refl; node = refl; order = sound.order; copied = sound.copied; faults = more })
-
 -- what copying a piece needs, leaves and makes ready
-pub record PieceNeeds (v : Holding) (slot : ℕ) (changes : Option (List (Change Extent))) (piece : Piece) : Type 0 where
+pub record PieceNeeds (v : Holding) (slot came : ℕ) (changes : Option (List (Change Extent))) (piece : Piece) : Type 0 where
   pub area : IsArea (side_of piece.to)
+  pub inside : piece.from + piece.len ≤ came
   pub range : piece.from + piece.len ≤ length (content_of (Transfer slot) v.areas)
   pub begin : piece.at ≤ length (content_of (side_of piece.to) v.areas)
   pub fits : piece.at + piece.len ≤ package_limit
-  pub kept : AreasFit v.areas → piece.len ≢ 0 → (new : Holding) → new.state ≡ v.state → v.faults ≤ new.faults
-      → LeavesOutside (side_of piece.to) piece.at piece.len v.areas new.areas → IsKept v new
+  pub stands : AreasFit v.areas → piece.len ≢ 0 → (areas : Areas)
+      → LeavesOutside (side_of piece.to) piece.at piece.len v.areas areas → StandsFor areas v.state (node_of v)
   pub ready : AreasFit v.areas → piece.len ≢ 0 → (new : Holding) → new.state ≡ v.state
       → plan_kept new.prepared ≡ changes
       → LeavesOutside (side_of piece.to) piece.at piece.len v.areas new.areas
@@ -43,14 +37,16 @@ pub record PieceNeeds (v : Holding) (slot : ℕ) (changes : Option (List (Change
       → plan_kept new.prepared ≡ changes → IsReservedWork new
 
 -- what a next unit needs: its package lies in the slot, and there is a piece
-pub record Needs (v : Holding) (slot done : ℕ) (extents : List Extent)
+pub record Needs (v : Holding) (slot came done : ℕ) (extents : List Extent)
     (changes : Option (List (Change Extent))) : Type 0 where
   pub slot-is : IsArea (Transfer slot)
+  pub front : piece_of (take came (content_of (Transfer slot) v.areas)) (parts_place (length extents)) done extents
+      ≡ piece_of (content_of (Transfer slot) v.areas) (parts_place (length extents)) done extents
   pub lie : LieWithin (content_of (Transfer slot) v.areas) (parts_place (length extents)) extents
   pub some : piece_of (content_of (Transfer slot) v.areas) (parts_place (length extents)) done extents ≡ None → ⊥
   pub piece : (piece : Piece)
       → piece_of (content_of (Transfer slot) v.areas) (parts_place (length extents)) done extents ≡ Some piece
-      → PieceNeeds v slot changes piece
+      → PieceNeeds v slot came changes piece
 
 module _ (v : Holding) (x : SessionOf Extent) (id : ℕ) (sound : IsSound (at_process v x id)) (h : InHand v x id) where
   abbrev s : State
@@ -65,13 +61,23 @@ module _ (v : Holding) (x : SessionOf Extent) (id : ℕ) (sound : IsSound (at_pr
   same-count : length goes ≡ length h.parts
   same-count = match-length (brings v x id sound h) goes (matches v x id sound h) ∙ length-map h.parts with_length
 
+  abbrev came : ℕ
+  came = h.transfer.header.received
+
+  came-there : came ≤ length slot
+  came-there = came-lies (at_process v x id) sound x.owner id h.transfer h.is
+
+  parts-in-front : PartsLie (take came slot) (parts_place (length goes)) h.parts
+  parts-in-front = subst (λ n. PartsLie (take came slot) (parts_place n) h.parts) (sym same-count)
+      (parts-read (take came slot) h.parts h.reads).lie
+
   parts-lie : PartsLie slot (parts_place (length goes)) h.parts
-  parts-lie =
-      let came = h.transfer.header.received in
-      let lies = came-lies (at_process v x id) sound x.owner id h.transfer h.is in
-      lie-in-all came slot (parts_place (length goes)) h.parts lies
-      (subst (λ n. PartsLie (take came slot) (parts_place n) h.parts) (sym same-count)
-      (parts-read (take came slot) h.parts h.reads).lie)
+  parts-lie = lie-in-all came slot (parts_place (length goes)) h.parts came-there parts-in-front
+
+  front-is : piece_of (take came slot) (parts_place (length goes)) x.units_done goes
+      ≡ piece_of slot (parts_place (length goes)) x.units_done goes
+  front-is = piece-front came slot (parts_place (length goes)) x.units_done goes came-there
+      (lie-within (take came slot) (parts_place (length goes)) h.parts goes (matches v x id sound h) parts-in-front)
 
   copied-so-far : AreCopied v.areas x.units_done h.parts goes
   copied-so-far =
@@ -89,6 +95,15 @@ module _ (v : Holding) (x : SessionOf Extent) (id : ℕ) (sound : IsSound (at_pr
   abbrev piece : Piece
   piece = next.piece
 
+  -- its bytes are among those that came
+  inside : piece.from + piece.len ≤ came
+  inside =
+      let first = next-piece (take came slot) v.areas (parts_place (length goes)) x.units_done h.parts goes parts-in-front
+      (matches v x id sound h) (places-apart v x id sound h) copied-so-far h.unfinished in
+      let same : first.piece ≡ piece = let z = sym first.is ∙ front-is ∙ next.is in cc in
+      let range = first.range in
+      subst (λ (p : Piece). p.from + p.len ≤ came) same (omega (arith, range, length-take came slot))
+
   extent : IsExtent piece.to
   extent = next.among IsExtent (planned-extents v x id sound h)
 
@@ -100,7 +115,7 @@ module _ (v : Holding) (x : SessionOf Extent) (id : ℕ) (sound : IsSound (at_pr
       omega (arith, lies, length-take piece.to.length (content_of (side_of piece.to) v.areas))
 
   as-left : (new : Holding) → new.state ≡ s
-      → new ≡ record { areas = new.areas; faults = new.faults; state = s; prepared = new.prepared }
+      → new ≡ record { areas = new.areas; state = s; prepared = new.prepared }
   as-left new e = λ i. record new { state = e i }
 
   same-read : (areas : Areas) → LeavesOutside (side_of piece.to) piece.at piece.len v.areas areas
@@ -123,28 +138,26 @@ module _ (v : Holding) (x : SessionOf Extent) (id : ℕ) (sound : IsSound (at_pr
   front areas n le = take-take n piece.to.length (content_of (side_of piece.to) areas) le
 
   -- a put behind the done units, of no more than these bytes, leaves the node as it is
-  put-kept : AreasFit v.areas → piece.len ≢ 0 → (new : Holding) → new.state ≡ s → v.faults ≤ new.faults
-      → LeavesOutside (side_of piece.to) piece.at piece.len v.areas new.areas → IsKept (at_process v x id) new
-  put-kept fit some new same more left =
+  put-stands : AreasFit v.areas → piece.len ≢ 0 → (areas : Areas)
+      → LeavesOutside (side_of piece.to) piece.at piece.len v.areas areas
+      → StandsFor areas s (node_of (at_process v x id))
+  put-stands fit some areas left =
       let within = next.within in
       let long : 0 < piece.to.length = omega (arith, within, some) in
-      let begins : piece.at ≤ piece.to.length = omega (arith, within) in
-      subst (IsKept (at_process v x id)) (sym (as-left new same)) (record {
-        state = refl;
-        node = side-means v x id sound h (side_of piece.to) piece.at piece.len new.areas area fit left
-            (same-read new.areas left)
+      let begins : piece.at ≤ piece.to.length = omega (arith, within) in record {
+        node = side-means v x id sound h (side_of piece.to) piece.at piece.len areas area fit left
+            (same-read areas left)
             (next.among (λ e. 0 < e.length → AreApart (side_of e) v x) (goes-apart v x id sound h) long);
-        order = side-order v x id sound h (side_of piece.to) piece.at piece.len new.areas area fit left
-            (same-read new.areas left);
-        copied = hand-copied v x id v.prepared sound h new.areas s (same-read new.areas left)
-            (subst (AreCopied new.areas x.units_done h.parts) (sym (extents-are v x id v.prepared sound h))
-            (next.kept new.areas (others-stand fit new.areas left)
-            (front new.areas piece.at begins
+        order = side-order v x id sound h (side_of piece.to) piece.at piece.len areas area fit left
+            (same-read areas left);
+        copied = hand-copied v x id v.prepared sound h areas s (same-read areas left)
+            (subst (AreCopied areas x.units_done h.parts) (sym (extents-are v x id v.prepared sound h))
+            (next.kept areas (others-stand fit areas left)
+            (front areas piece.at begins
             ∙ before-stands piece.at piece.len (content_of (side_of piece.to) v.areas)
-            (content_of (side_of piece.to) new.areas) piece.at (omega arith) left.here
+            (content_of (side_of piece.to) areas) piece.at (omega arith) left.here
             ∙ sym (front v.areas piece.at begins))));
-        faults = more;
-      })
+      }
 
   -- and makes the unit ready
   unit-ready : (new : Holding) → new.state ≡ s
@@ -163,18 +176,19 @@ module _ (v : Holding) (x : SessionOf Extent) (id : ℕ) (sound : IsSound (at_pr
       }))
     where
       left : Holding
-      left = record { areas = new.areas; faults = new.faults; state = s; prepared = new.prepared }
+      left = record { areas = new.areas; state = s; prepared = new.prepared }
 
   abbrev plan : Option (List (Change Extent))
   plan = changes_due x.units_done id h.transfer.contents (extents_in s h.transfer)
 
-  needs-piece : PieceNeeds (at_process v x id) h.transfer.slot plan piece
+  needs-piece : PieceNeeds (at_process v x id) h.transfer.slot came plan piece
   needs-piece = record {
     area = area;
+    inside = inside;
     range = next.range;
     begin = begin;
     fits = let within = next.within in let low = extent.2 in omega (arith, within, low);
-    kept = put-kept;
+    stands = put-stands;
     ready = λ fit some new same kept left put.
         let within = next.within in
         let range = next.range in
@@ -205,92 +219,41 @@ module _ (v : Holding) (x : SessionOf Extent) (id : ℕ) (sound : IsSound (at_pr
         ∙ ap (λ n. take piece.at (on_side v.areas piece.to) ++ take n (drop piece.from slot)) (sym zero)));
   }
 
-  needs-next : Needs (at_process v x id) h.transfer.slot x.units_done goes plan
+  needs-next : Needs (at_process v x id) h.transfer.slot came x.units_done goes plan
   needs-next = record {
     slot-is = slot-is (at_process v x id) sound x.owner id h.transfer h.is;
+    front = front-is;
     lie = lie-within slot (parts_place (length goes)) h.parts goes (matches v x id sound h) parts-lie;
     some = λ none. let z = sym none ∙ next.is in let f : ⊥ = cc in f;
-    piece = λ other e. subst (PieceNeeds (at_process v x id) h.transfer.slot plan) (let z = sym next.is ∙ e in
+    piece = λ other e. subst (PieceNeeds (at_process v x id) h.transfer.slot came plan) (let z = sym next.is ∙ e in
         let same : piece ≡ other = cc in same) needs-piece;
   }
 
 -- what is needed of a node in processing, and of its next unit
-pub needs : {v w : Holding} → v ≡ w → IsSound w → w.state.status ≡ Processing → {o : Option NextUnit} {n : NextUnit}
-    → IsNextUnit w o → o ≡ Some n
-    → Needs v n.slot n.done n.extents.items (option_map (λ c. c.items) n.changes)
-needs {v = v} {w = w} e sound q {o = o} {n = n} unit is-next =
-    let u : IsUnitOf w n = subst (IsNextUnit w) is-next unit in
-    let at : w.state.session ≡ Some (busy u.x u.id) =
+pub needs : (v : Holding) → IsSound v → v.state.status ≡ Processing → {n : NextUnit} (u : IsUnitOf v.state n)
+    → Needs v n.slot u.transfer.header.received n.done n.extents.items (option_map (λ c. c.items) n.changes)
+needs v sound q {n = n} u =
+    let at : v.state.session ≡ Some (busy u.x u.id) =
     u.session ∙ ap (λ p. Some (record u.x { processing = p })) u.processing in
-    let base : w ≡ at_process w u.x u.id = at-work w Processing (busy u.x u.id) q at in
+    let base : v ≡ at_process v u.x u.id = at-work v Processing (busy u.x u.id) q at in
     let whole = subst IsSound base sound in
-    let hand = in-hand w u.x u.id whole in
+    let hand = in-hand v u.x u.id whole in
     let same : u.transfer ≡ hand.transfer = let z = sym u.stored ∙ hand.is in cc in
-    let goes : n.extents.items ≡ extents w u.x u.id w.prepared whole hand =
-    u.extents ∙ (λ i. extents_in (base i).state (same i)) ∙ extents-are w u.x u.id w.prepared whole hand in
+    let goes : n.extents.items ≡ extents v u.x u.id v.prepared whole hand =
+    u.extents ∙ (λ i. extents_in (base i).state (same i)) ∙ extents-are v u.x u.id v.prepared whole hand in
     let plan : option_map (λ c. c.items) n.changes
     ≡ changes_due u.x.units_done u.id hand.transfer.contents
-    (extents_in (at_process w u.x u.id).state hand.transfer) =
+    (extents_in (at_process v u.x u.id).state hand.transfer) =
     u.changes ∙ (λ i. changes_due u.x.units_done u.id (same i).contents (extents_in (base i).state (same i))) in
-    subst (λ (k : Holding × (ℕ × ℕ) × List Extent × Option (List (Change Extent))). Needs k.0 k.1.0 k.1.1 k.2 k.3)
+    subst (λ (k : Holding × (ℕ × ℕ × ℕ) × List Extent × Option (List (Change Extent))).
+    Needs k.0 k.1.0 k.1.1 k.1.2 k.2 k.3)
     (λ i. (
-      sym (e ∙ base) i,
-      (sym (u.slot ∙ ap (λ (t : StoredTransfer). t.slot) same) i, sym u.done i),
+      sym base i,
+      (
+        sym (u.slot ∙ ap (λ (t : StoredTransfer). t.slot) same) i,
+        sym (ap (λ (t : StoredTransfer). t.header.received) same) i,
+        sym u.done i,
+      ),
       sym goes i,
       sym plan i,
-    )) (needs-next w u.x u.id whole hand)
-
--- what holds on success, carried on
-pub on-ok : {X E : Type 0} {P Q : Type 0} (r : Result X E) → (P → Q) → OnOk r P → OnOk r Q
-on-ok (Ok x) f p = f p
-on-ok (Err e) f p = tt
-
--- the piece that was found, in a node whose areas and whose state stay
-module _ {v : Holding} {slot done : ℕ} {extents : List Extent} {changes : Option (List (Change Extent))}
-    (n : Needs v slot done extents changes)
-    (slice : List Extent) (same : slice ≡ extents) (o : Option Piece)
-    (found : o ≡ piece_of (content_of (Transfer slot) v.areas) (parts_place (length slice)) done slice) where
-  is : piece_of (content_of (Transfer slot) v.areas) (parts_place (length extents)) done extents ≡ o
-  is = ap (λ es. piece_of (content_of (Transfer slot) v.areas) (parts_place (length es)) done es) (sym same) ∙ sym found
-
-  pub no-piece : o ≡ None → ⊥
-  no-piece none = n.some (is ∙ none)
-
-  module _ (piece : Piece) (some : o ≡ Some piece) (m : Holding) (areas : m.areas ≡ v.areas) (state : m.state
-      ≡ v.state) (more : v.faults ≤ m.faults) where
-    abbrev own : PieceNeeds v slot changes piece
-    own = n.piece piece (is ∙ some)
-
-    pub piece-area : IsArea (side_of piece.to)
-    piece-area = own.area
-
-    pub piece-range : piece.from + piece.len ≤ length (content_of (Transfer slot) m.areas)
-    piece-range = subst (λ (a : Areas). piece.from + piece.len ≤ length (content_of (Transfer slot) a))
-        (sym areas) own.range
-
-    pub piece-begin : piece.at ≤ length (content_of (side_of piece.to) m.areas)
-    piece-begin = subst (λ (a : Areas). piece.at ≤ length (content_of (side_of piece.to) a)) (sym areas) own.begin
-
-    pub piece-fits : piece.at + piece.len ≤ package_limit
-    piece-fits = own.fits
-
-    pub piece-none : piece.len ≡ 0 → plan_kept m.prepared ≡ changes → IsReservedWork m
-    piece-none zero plan = own.none zero m areas state plan
-
-    module _ (fit : AreasFit v.areas) (some_bytes : piece.len ≢ 0) (new : Holding) (stays : new.state ≡ m.state)
-        (left : LeavesOutside (side_of piece.to) piece.at piece.len m.areas new.areas) where
-      left-of : LeavesOutside (side_of piece.to) piece.at piece.len v.areas new.areas
-      left-of = subst (λ (a : Areas). LeavesOutside (side_of piece.to) piece.at piece.len a new.areas) areas left
-
-      pub piece-kept : m.faults ≤ new.faults → IsKept v new
-      piece-kept rises = own.kept fit some_bytes new (stays ∙ state) (omega (arith, more, rises)) left-of
-
-      pub piece-ready : plan_kept new.prepared ≡ changes
-          → new.areas ≡ with_content (side_of piece.to) (overwritten piece.at
-          (slice_range (content_of (Transfer slot) m.areas) piece.from (piece.from + piece.len))
-          (content_of (side_of piece.to) m.areas)) m.areas
-          → IsReservedWork new
-      piece-ready plan put = own.ready fit some_bytes new (stays ∙ state) plan left-of
-          (put ∙ ap (λ (a : Areas). with_content (side_of piece.to) (overwritten piece.at
-          (slice_range (content_of (Transfer slot) a) piece.from (piece.from + piece.len))
-          (content_of (side_of piece.to) a)) a) areas)
+    )) (needs-next v u.x u.id whole hand)

@@ -1,6 +1,12 @@
 -- A node that begins with installed clusters is sound.
-use Rattle.std.proofs.lemmas.List.{get_or-replicate}
-use Rattle.transfer_blocks.specs.Areas.{no_contents}
+use Rattle.std.proofs.Math.Seq.{take-append_seam}
+use Rattle.std.specs.Prelude.{Bool}
+use Rattle.transfer_blocks.specs.Steps.{Step, Ran, puts, with_bytes, wrote}
+use Rattle.transfer_blocks.proofs.Areas.{fits-with}
+use Rattle.transfer_blocks.proofs.Runs.{ran_both, wrote_both}
+use Rattle.node_core.proofs.Lists.{each-append, each-first}
+use Rattle.node_core.specs.Format.{Formats, Installs, IsFormatted, installs, with_installed}
+use Rattle.node_core.proofs.Names.{zero-add, IsArea, overwritten, length-drop, drop}
 use Rattle.node_core.proofs.Lists.{each-second}
 use Rattle.node_core.proofs.Names.{AllByRecursion, AreInstalled, Area, Areas, AreasFit, Bytes, Cluster, Extent, IsExtent, IsFit}
 use Rattle.node_core.proofs.Names.{IsSound, List, Side, ap, append-nil, ap₂, arith, bytes_eq, cluster_limit, cluster_meaning}
@@ -42,10 +48,10 @@ extents-are k (c ∷ cs) few short =
     ((omega (arith, few), omega arith, short.0), extents-are (k + 1) cs (omega (arith, few)) short.1)
 
 -- a node with clusters in order
-pub installed-sound : (areas : Areas) (faults : ℕ) (stored : List (Cluster Extent)) (cs : List (Cluster Bytes))
+pub installed-sound : (areas : Areas) (stored : List (Cluster Extent)) (cs : List (Cluster Bytes))
     → AreInstalled areas stored cs → names_rise (names_of cs) ≡ true → length cs ≤ cluster_limit
-    → AllByRecursion (λ c. length c.content ≤ package_limit) cs → IsSound (holding areas faults (fresh_state stored))
-installed-sound areas faults stored cs is r few short = record {
+    → AllByRecursion (λ c. length c.content ≤ package_limit) cs → IsSound (holding areas (fresh_state stored))
+installed-sound areas stored cs is r few short = record {
   fit = subst (λ l. IsFit package_reading (formatted l)) (sym is.contents)
       ((keeps-fit package_reading reading-is).formatted cs (record { rise = r; few = names-few }));
   order = record {
@@ -67,92 +73,92 @@ installed-sound areas faults stored cs is r few short = record {
         let no_more = not-more (names_of cs ++ [] ++ []) in
         omega (arith, all, no_more, few)
 
--- clusters stay where other first sides change
-stand : (old new : Areas) (limit k : ℕ) (cs : List (Cluster Bytes))
-    → ((place : ℕ) → place < limit → content_of (Side place 0) new ≡ content_of (Side place 0) old)
-    → k + length cs ≤ limit
-    → map (cluster_meaning new) (placed_from k cs) ≡ map (cluster_meaning old) (placed_from k cs)
-stand old new limit k [] same few = refl
-stand old new limit k (c ∷ cs) same few =
-    ap₂ (λ bytes l. record {
-      name = c.name;
-      version = c.version;
-      needs = c.needs;
-      content =
-          take (length c.content) bytes;
-    } ∷ l)
-    (same k (omega (arith, few))) (stand old new limit (k + 1) cs same (omega (arith, few)))
+abbrev AreShort : List (Cluster Bytes) → Type 0
+AreShort cs = AllByRecursion (λ c. length c.content ≤ package_limit) cs
+
+-- bytes at the front of a content, and what lies behind them
+put-front : (bytes content : Bytes) → take (length bytes) (overwritten 0 bytes content) ≡ bytes
+put-front bytes content = take-append_seam bytes (drop (0 + length bytes) content)
+
+put-short : (bytes content : Bytes) → length bytes ≤ package_limit → length content ≤ package_limit
+    → length (overwritten 0 bytes content) ≤ package_limit
+put-short bytes content short fit =
+    let wide = length-append bytes (drop (0 + length bytes) content) in
+    let rest = length-drop (0 + length bytes) content in
+    omega (arith, wide, rest, short, fit)
+
+-- clusters that are put to places from this one on
+module _ (k : ℕ) (c : Cluster Bytes) (cs : List (Cluster Bytes)) (areas : Areas) (fit : AreasFit areas)
+    (few : k + length (c ∷ cs) ≤ cluster_limit) (short : AreShort (c ∷ cs)) where
+  abbrev here : Area
+  here = Side k 0
+
+  is-here : IsArea here
+  is-here = (omega (arith, few), omega arith)
+
+  abbrev next : Areas
+  next = with_bytes here 0 c.content areas
+
+  next-fit : AreasFit next
+  next-fit = fits-with here areas is-here fit _ (put-short c.content _ short.0 (fit.contents here is-here))
+
+  next-lower : (place : ℕ) → place < k → content_of (Side place 0) next ≡ content_of (Side place 0) areas
+  next-lower place lower =
+      content-elsewhere here areas is-here fit (Side place 0) _ (omega (arith, lower, few), omega arith)
+      (λ e. let same : place ≡ k = cc e in omega (arith, lower, same))
+
+-- what lies on lower places stays
+lower-stays : (k : ℕ) (cs : List (Cluster Bytes)) (areas : Areas) → AreasFit areas → k + length cs ≤ cluster_limit
+    → AreShort cs → (place : ℕ) → place < k
+    → content_of (Side place 0) (wrote (installs k cs) areas) ≡ content_of (Side place 0) areas
+lower-stays k [] areas fit few short place lower = refl
+lower-stays k (c ∷ cs) areas fit few short place lower =
+    lower-stays (k + 1) cs (next k c cs areas fit few short) (next-fit k c cs areas fit few short) (omega (arith, few))
+    short.1 place (omega (arith, lower))
+    ∙ next-lower k c cs areas fit few short place lower
+
+-- and they hold the clusters
+put-means : (k : ℕ) (cs : List (Cluster Bytes)) (areas : Areas) → AreasFit areas → k + length cs ≤ cluster_limit
+    → AreShort cs → map (cluster_meaning (wrote (installs k cs) areas)) (placed_from k cs) ≡ cs
+put-means k [] areas fit few short = refl
+put-means k (c ∷ cs) areas fit few short =
+    let after = next k c cs areas fit few short in
+    let after-fit = next-fit k c cs areas fit few short in
+    ap₂ (λ bytes l. record { name = c.name; version = c.version; needs = c.needs; content = bytes } ∷ l)
+    (ap (take (length c.content))
+    (lower-stays (k + 1) cs after after-fit (omega (arith, few)) short.1 k (omega arith)
+    ∙ content-here (Side k 0) areas (is-here k c cs areas fit few short) fit _)
+    ∙ put-front c.content (content_of (Side k 0) areas))
+    (put-means (k + 1) cs after after-fit (omega (arith, few)) short.1)
+
+installs-append : (k : ℕ) (cs : List (Cluster Bytes)) (c : Cluster Bytes)
+    → installs k (cs ++ c ∷ []) ≡ installs k cs ++ puts (Side (k + length cs) 0) 0 c.content true ∷ []
+installs-append k [] c = ap (λ n. puts (Side n 0) 0 c.content true ∷ []) (omega arith)
+installs-append k (d ∷ cs) c = grind (arith, installs-append (k + 1) cs c)
+
+-- and from the first place on
+installs-next : (cs : List (Cluster Bytes)) (c : Cluster Bytes)
+    → installs 0 (cs ++ c ∷ []) ≡ installs 0 cs ++ puts (Side (length cs) 0) 0 c.content true ∷ []
+installs-next cs c =
+    installs-append 0 cs c ∙ ap (λ n. installs 0 cs ++ puts (Side n 0) 0 c.content true ∷ []) (zero-add (length cs))
 
 placed-append : (k : ℕ) (cs : List (Cluster Bytes)) (c : Cluster Bytes)
     → placed_from k (cs ++ c ∷ []) ≡ placed_from k cs ++ placed (k + length cs) c ∷ []
 placed-append k [] c = ap (λ n. placed n c ∷ []) (omega arith)
 placed-append k (d ∷ cs) c = grind (arith, placed-append (k + 1) cs c)
 
--- one cluster more
-module _ (areas : Areas) (fit : AreasFit areas) (stored : List (Cluster Extent)) (cs : List (Cluster Bytes))
-    (c : Cluster Bytes) (is : AreInstalled areas stored cs) (few : length cs < cluster_limit) where
-  abbrev here : Area
-  here = Side (length cs) 0
+placed-length : (k : ℕ) (cs : List (Cluster Bytes)) → length (placed_from k cs) ≡ length cs
+placed-length k [] = refl
+placed-length k (c ∷ cs) = let rest = placed-length (k + 1) cs in omega (arith, rest)
 
-  abbrev grown : Areas
-  grown = with_content here c.content areas
-
-  elsewhere : (place : ℕ) → place < cluster_limit → place ≢ length cs
-      → content_of (Side place 0) grown ≡ content_of (Side place 0) areas
-  elsewhere place low differ =
-      content-elsewhere here areas (few, omega arith) fit (Side place 0) c.content (low, omega arith) (λ e. differ cc)
-
-  pub one-installed : AreInstalled grown (stored ++ placed (length cs) c ∷ []) (cs ++ c ∷ [])
-  one-installed = record {
-    places = ap (λ l. l ++ placed (length cs) c ∷ []) is.places
-        ∙ ap (λ n. placed_from 0 cs ++ placed n c ∷ []) (omega arith) ∙ sym (placed-append 0 cs c);
-    contents = map-append (cluster_meaning grown) stored (placed (length cs) c ∷ [])
-        ∙ ap₂ (λ l bytes. l ++ record {
-          name = c.name;
-          version = c.version;
-          needs = c.needs;
-          content =
-              take (length c.content) bytes;
-        } ∷ [])
-        (ap (map (cluster_meaning grown)) is.places
-        ∙ stand areas grown (length cs) 0 cs (λ place low.
-        elsewhere place (omega (arith, low, few)) (λ e. omega (arith, low, e))) (omega arith)
-        ∙ ap (map (cluster_meaning areas)) (sym is.places) ∙ is.contents)
-        (content-here here areas (few, omega arith) fit c.content)
-        ∙ ap (λ bytes. cs ++ record { name = c.name; version = c.version; needs = c.needs; content = bytes } ∷ [])
-        (take_all (length c.content) c.content (omega arith));
-    others = λ place least low.
-        let more = length-append cs (c ∷ []) in
-        elsewhere place low (λ e. omega (arith, least, more, e)) ∙ is.others place (omega (arith, least, more)) low;
-  }
-
--- the next one of the clusters
-pub next-installed : (old new : Areas) → AreasFit old
-    → (stored more : List (Cluster Extent)) (cs rest all : List (Cluster Bytes)) (c : Cluster Bytes) (place : ℕ)
-    (bytes : Bytes) → AreInstalled old stored cs → cs ++ c ∷ rest ≡ all → length all ≤ cluster_limit
-    → place ≡ length stored → bytes ≡ c.content → new ≡ with_content (Side place 0) bytes old
-    → more ≡ stored ++ placed place c ∷ [] → AreInstalled new more (cs ++ c ∷ [])
-next-installed old new fit stored more cs rest all c place bytes is whole few at same put added =
-    let width : length stored ≡ length cs = sym (length-map stored (cluster_meaning old)) ∙ ap length is.contents in
-    let here : place ≡ length cs = at ∙ width in
-    let wide = ap length whole in
-    let split = length-append cs (c ∷ rest) in
-    let room : length cs < cluster_limit = omega (arith, wide, split, few) in
-    subst (λ a. AreInstalled a more (cs ++ c ∷ []))
-    (sym (put ∙ ap₂ (λ n (b : Bytes). with_content (Side n 0) b old) here same))
-    (subst (λ l. AreInstalled (with_content (Side (length cs) 0) c.content old) l (cs ++ c ∷ []))
-    (sym (added ∙ ap (λ n. stored ++ placed n c ∷ []) here))
-    (one-installed old fit stored cs c is room))
-
--- no cluster lies in areas with nothing in them
-pub none-installed : (areas : Areas) → areas ≡ no_contents → AreInstalled areas [] []
-none-installed areas empty = record {
-  places = refl;
-  contents = refl;
-  others = λ place least low. ap (content_of (Side place 0)) empty
-      ∙ ap (λ (p : Bytes × Bytes). p.0) (get_or-replicate {A =
-      Bytes × Bytes} cluster_limit place ([], []) ([], []) low);
-}
+-- each of these calls puts bytes to the first side of a place
+installs-sides : (k : ℕ) (cs : List (Cluster Bytes)) → k + length cs ≤ cluster_limit → AreShort cs
+    → AllByRecursion Installs (installs k cs)
+installs-sides k [] few short = tt
+installs-sides k (c ∷ cs) few short = (
+  (omega (arith, few), refl, let wide = short.0 in omega (arith, wide)),
+  installs-sides (k + 1) cs (omega (arith, few)) short.1,
+)
 
 -- the next of clusters is no longer than each
 pub next-short : (cs rest all : List (Cluster Bytes)) (c : Cluster Bytes) → cs ++ c ∷ rest ≡ all
@@ -161,13 +167,97 @@ next-short cs rest all c whole short =
     (each-second _ cs (c ∷ rest) (subst (AllByRecursion (λ (d : Cluster Bytes). length d.content ≤ package_limit))
     (sym whole) short)).0
 
--- clusters in order
-pub formatted-sound : (areas : Areas) (faults : ℕ) (stored : List (Cluster Extent)) (ordered cs : List (Cluster Bytes))
-    → AreInstalled areas stored ordered → ordered ≡ in_order cs → length ordered ≡ length cs
-    → length cs ≤ cluster_limit → AllByRecursion (λ c. length c.content ≤ package_limit) cs
-    → IsSound (holding areas faults (fresh_state stored))
-formatted-sound areas faults stored ordered cs is sorted same few short =
-    installed-sound areas faults stored ordered is (ap (λ l. names_rise (names_of l)) sorted
-    ∙ order-rises cs) (subst (λ n. n ≤ cluster_limit) (sym same) few)
-    (subst (AllByRecursion (λ c. length c.content ≤ package_limit)) (sym sorted)
-    (order-each (λ c. length c.content ≤ package_limit) cs short))
+-- the next one of the clusters has a place
+module _ (cs rest all : List (Cluster Bytes)) (c : Cluster Bytes) (whole : cs ++ c ∷ rest ≡ all)
+    (few : length all ≤ cluster_limit) (stored : List (Cluster Extent)) (is : stored ≡ placed_from 0 cs)
+    (place : ℕ) (behind : place ≡ length stored) where
+  next-here : place ≡ length cs
+  next-here = behind ∙ ap length is ∙ placed-length 0 cs
+
+  next-room : length cs < cluster_limit
+  next-room = let wide = ap length whole in let split = length-append cs (c ∷ rest) in omega (arith, wide, split, few)
+
+  pub next-place : place < cluster_limit
+  next-place = omega (arith, next-here, next-room)
+
+-- and is put there, behind what was done before it
+module _ {S : Type 0} (obeys : S → Step → S → Type 0) (cs rest all : List (Cluster Bytes)) (c : Cluster Bytes)
+    (whole : cs ++ c ∷ rest ≡ all) (few : length all ≤ cluster_limit) (short : AreShort all) (old at new : S)
+    (ran : Ran obeys (installs 0 cs) old at) (stored : List (Cluster Extent)) (is : stored ≡ placed_from 0 cs)
+    (place : ℕ) (behind : place ≡ length stored) (bytes : Bytes) (same : bytes ≡ c.content) where
+  place-is : place ≡ length cs
+  place-is = next-here cs rest all c whole few stored is place behind
+
+  room : length cs < cluster_limit
+  room = next-room cs rest all c whole few stored is place behind
+
+  put-here : (ok : Bool) → obeys at (puts (Side place 0) 0 bytes ok) new
+      → obeys at (puts (Side (length cs) 0) 0 c.content ok) new
+  put-here ok obeyed =
+      subst (λ (k : ℕ × Bytes). obeys at (puts (Side k.0 0) 0 k.1 ok) new) (λ i. (place-is i, same i)) obeyed
+
+  -- what follows fails
+  pub next-failed : (ok : Bool) → obeys at (puts (Side place 0) 0 bytes ok) new → Formats obeys all false old new
+  next-failed ok obeyed = record {
+    steps = installs 0 cs ++ puts (Side (length cs) 0) 0 c.content ok ∷ [];
+    ran = ran_both obeys (installs 0 cs) _ old at new ran (new, put-here ok obeyed, refl);
+    sides = each-append Installs (installs 0 cs) _
+        (installs-sides 0 cs (omega (arith, room)) (each-first _ cs (c ∷ rest) (subst AreShort (sym whole) short)))
+        ((room, refl, let wide = next-short cs rest all c whole short in omega (arith, wide)), tt);
+    whole = λ e. absurd (cc e);
+  }
+
+  pub next-ran : obeys at (puts (Side place 0) 0 bytes true) new → Ran obeys (installs 0 (cs ++ c ∷ [])) old new
+  next-ran obeyed =
+      subst (λ steps. Ran obeys steps old new) (sym (installs-next cs c))
+      (ran_both obeys (installs 0 cs) _ old at new ran (new, put-here true obeyed, refl))
+
+  -- one more is placed
+  pub next-placed : (more : List (Cluster Extent)) → more ≡ stored ++ placed place c ∷ []
+      → more ≡ placed_from 0 (cs ++ c ∷ [])
+  next-placed more added =
+      added ∙ (λ i. is i ++ placed (place-is i) c ∷ []) ∙ ap (λ n. placed_from 0 cs ++ placed n c ∷ []) (sym (zero-add (length cs)))
+      ∙ sym (placed-append 0 cs c)
+
+  -- and the areas hold one more
+  pub next-areas : (held before after : Areas) → before ≡ with_installed cs held
+      → after ≡ with_bytes (Side place 0) 0 bytes before → after ≡ with_installed (cs ++ c ∷ []) held
+  next-areas held before after held-is put =
+      put ∙ (λ i. with_bytes (Side (place-is i) 0) 0 (same i) (held-is i))
+      ∙ sym (ap (λ steps. wrote steps held) (installs-next cs c)
+      ∙ wrote_both (installs 0 cs) (puts (Side (length cs) 0) 0 c.content true ∷ []) held)
+
+-- all are put
+pub all-formats : {S : Type 0} (obeys : S → Step → S → Type 0) (cs all : List (Cluster Bytes)) (old new : S)
+    → cs ≡ all → length all ≤ cluster_limit → AreShort all → Ran obeys (installs 0 cs) old new
+    → Formats obeys all true old new
+all-formats obeys cs all old new same few short ran = record {
+  steps = installs 0 all;
+  ran = subst (λ l. Ran obeys (installs 0 l) old new) same ran;
+  sides = installs-sides 0 all (omega (arith, few)) short;
+  whole = λ e. refl;
+}
+
+-- nothing was put, or what follows fails
+pub none-formats : {S : Type 0} (obeys : S → Step → S → Type 0) (all : List (Cluster Bytes)) (old : S)
+    → Formats obeys all false old old
+none-formats obeys all old = record { steps = []; ran = refl; sides = tt; whole = λ e. absurd (cc e) }
+
+pub then-failed : {S : Type 0} {obeys : S → Step → S → Type 0} {all : List (Cluster Bytes)} {ok : Bool} {old new : S}
+    → Formats obeys all ok old new → Formats obeys all false old new
+then-failed f = record { steps = f.steps; ran = f.ran; sides = f.sides; whole = λ e. absurd (cc e) }
+
+-- a node that begins with clusters, over areas that they were put to
+pub formatted-node : (held : Areas) (ordered cs : List (Cluster Bytes)) → ordered ≡ in_order cs
+    → length ordered ≡ length cs → length cs ≤ cluster_limit → AreShort cs → AreasFit held
+    → IsFormatted ordered held (fresh_state (placed_from 0 ordered))
+formatted-node held ordered cs sorted same few short fit =
+    let fewer : length ordered ≤ cluster_limit = omega (arith, same, few) in
+    let shorter = subst AreShort (sym sorted) (order-each (λ c. length c.content ≤ package_limit) cs short) in
+    let is : AreInstalled (with_installed ordered held) (placed_from 0 ordered) ordered =
+    record { places = refl; contents = put-means 0 ordered held fit (omega (arith, fewer)) shorter } in
+    record {
+      node = ap formatted is.contents;
+      sound = installed-sound (with_installed ordered held) (placed_from 0 ordered) ordered is
+          (ap (λ l. names_rise (names_of l)) sorted ∙ order-rises cs) fewer shorter;
+    }

@@ -1,16 +1,19 @@
 -- What a unit of a package leaves of a sound node.
-use Rattle.node_core.proofs.Names.{AllByRecursion, AreCopied, Areas, BeingProcessed, Bool, Bytes, Err, Extent, Holding, IfSome, IsCopiedIn}
-use Rattle.node_core.proofs.Names.{IsPackageReady, IsPlaced, IsRead, IsSomeAnd, IsSound, IsUnit, IsUnitReady, IsWholeFromTransferred, List, NodeState}
-use Rattle.node_core.proofs.Names.{None, Ok, Option, Part, Prepared, Processing, SessionOf, Some, State, StoredTransfer, Transfer, Verdict, all_units}
-use Rattle.node_core.proofs.Names.{ap, arith, changes_to, each-both, each-unmap, eq-eqb, extents_in, extents_of, false, found-has, if◌then◌else◌}
-use Rattle.node_core.proofs.Names.{is-processing, is_in, length, map, nat_lt, nat_tests, node_of, option_map, package_reading, parts_of, parts_read}
-use Rattle.node_core.proofs.Names.{phase_code, plan_kept, processed, refl, session_meaning, slice_index_or, stored_of, stored_units, subst, sym, take}
-use Rattle.node_core.proofs.Names.{taken_in, transfer_meaning, transfer_of, true, unit, units_done, with_length, [], ℕ, ◌+◌, ◌<◌, ◌==◌, ◌∙◌, ◌≡◌}
+use Rattle.node_core.proofs.Names.{AllByRecursion, AreCopied, Areas, BeingProcessed, Bool, Bytes, Err, Extent}
+use Rattle.node_core.proofs.Names.{Holding, IfSome, IsCopiedIn, IsPackageReady, IsPlaced, IsRead, IsSomeAnd, IsSound}
+use Rattle.node_core.proofs.Names.{IsUnitReady, IsWholeFromTransferred, List, NodeState, None, Ok, Option, Part}
+use Rattle.node_core.proofs.Names.{Prepared, Processing, SessionOf, Some, State, StoredTransfer, Transfer, Verdict}
+use Rattle.node_core.proofs.Names.{all_units, ap, arith, changes_to, each-both, each-unmap, eq-eqb, extents_in}
+use Rattle.node_core.proofs.Names.{extents_of, false, found-has, if◌then◌else◌, is-processing, is_in, length, map}
+use Rattle.node_core.proofs.Names.{nat_lt, nat_tests, node_of, option_map, package_reading, parts_of, parts_read}
+use Rattle.node_core.proofs.Names.{phase_code, plan_kept, processed, refl, session_meaning, slice_index_or, stored_of}
+use Rattle.node_core.proofs.Names.{stored_units, subst, sym, take, taken_in, transfer_meaning, transfer_of, true}
+use Rattle.node_core.proofs.Names.{unit, units_done, with_length, ℕ, [], ◌+◌, ◌<◌, ◌==◌, ◌∙◌, ◌≡◌}
 use Rattle.history_query.proofs.Answered.{units-same}
 use Rattle.pm_types.specs.Validity.{IsSound as IsSoundTransfer}
 use Rattle.node_core.proofs.Stored.{found-fact, copied-when, rise, found-is, found-means, only}
 use Rattle.node_core.proofs.Arrived.{marked-order}
-use Rattle.node_core.proofs.Worked.{at_work, moved}
+use Rattle.node_core.proofs.Worked.{IsUnit, at_work, moved}
 
 -- the session with a package in processing
 abbrev pub busy : SessionOf Extent → ℕ → SessionOf Extent
@@ -155,13 +158,12 @@ module _ (v : Holding) (x : SessionOf Extent) (id : ℕ) (p : Prepared) (sound :
 
   -- the stored state after a unit that isn't the last
   abbrev new : State
-  new = (moved v (busy x id) p Processing (record (busy x id) { units_done = x.units_done + 1 }) v.state.running).state
+  new = moved v (busy x id) Processing (record (busy x id) { units_done = x.units_done + 1 }) v.state.running
 
   -- a unit that isn't the last
   pub more-unit : (passed : Bool) → IsUnitReady Processing (at_process v x id) (busy x id)
       → nat_lt (x.units_done + 1) (all_units h.parts) ≡ true
-      → IsUnit (at_process v x id) passed
-      (moved v (busy x id) p Processing (record (busy x id) { units_done = x.units_done + 1 }) v.state.running)
+      → IsUnit (at_process v x id) passed new
   more-unit passed ready more = record {
     node = unit-done passed true more;
     order = marked-order v.areas (at_process v x id).state Processing (busy x id) (Some id)
@@ -169,5 +171,4 @@ module _ (v : Holding) (x : SessionOf Extent) (id : ℕ) (p : Prepared) (sound :
         sound.order sound.order.running;
     copied = hand-copied v.areas new (λ t. refl)
         (subst (AreCopied v.areas (x.units_done + 1) h.parts) (sym extents-are) (bytes-ready ready));
-    entries = refl;
   }

@@ -1,24 +1,29 @@
 -- What the last unit of a package leaves of a sound node.
-use Rattle.node_core.proofs.Names.{AllByRecursion, BeingProcessed, Bool, Bytes, Change, Cluster, Extent, Holding, IsExtent, IsReservedWork, IsSound}
-use Rattle.node_core.proofs.Names.{IsUnit, IsUnitReady, List, None, Part, Prepared, Processed, Processing, Ready, SessionOf, Some, State, Status}
-use Rattle.node_core.proofs.Names.{StoredTransfer, Table, Transfer, Within, all_differ, all_units, ap, append-nil, append_assoc, applies, arith}
-use Rattle.node_core.proofs.Names.{change_meaning, change_place, changes_to, cluster_at, cluster_limit, cluster_meaning, cluster_of, cluster_place}
-use Rattle.node_core.proofs.Names.{different_names, each-append, each-both, each-first, each-imp, each-map, each-unmap, false, found-has, has-append}
-use Rattle.node_core.proofs.Names.{has_cluster, has_name, if◌then◌else◌, is_in, is_of, le-ltb, length, length-append, length-map, length-take, lt-ltb}
-use Rattle.node_core.proofs.Names.{ltb-false, map, map-append, map-map, moved as moved_to, name-swap, names_fit_places, nat_lt, nat_tests, node_of}
-use Rattle.node_core.proofs.Names.{package_limit, package_reading, parts_in, parts_place, phase_code, places_in, plan_kept, refl, session_meaning}
-use Rattle.node_core.proofs.Names.{slice_index_or, stored_of, stored_units, subst, suits, sym, table_of, taken_in, takes_side, transfer_meaning, true}
-use Rattle.node_core.proofs.Names.{with_length, with_stored, with_table, within-left, within-right, within-self, [], ℕ, ◌++◌, ◌+◌, ◌<◌, ◌==◌}
-use Rattle.node_core.proofs.Names.{◌||◌, ◌∙◌, ◌∷◌, ◌≡◌, ◌≤◌}
+use Rattle.node_core.proofs.Names.{AllByRecursion, BeingProcessed, Bool, Bytes, Change, Cluster, Extent, Holding}
+use Rattle.node_core.proofs.Names.{IsExtent, IsReservedWork, IsSound, IsUnitReady, List, None, Part, Processed}
+use Rattle.node_core.proofs.Names.{Processing, SessionOf, Some, State, StoredTransfer, Table, Transfer, Within}
+use Rattle.node_core.proofs.Names.{all_differ, all_units, ap, append-nil, append_assoc, applies, arith}
+use Rattle.node_core.proofs.Names.{change_meaning, change_place, changes_to, cluster_at, cluster_limit}
+use Rattle.node_core.proofs.Names.{cluster_meaning, cluster_of, cluster_place, different_names, each-append}
+use Rattle.node_core.proofs.Names.{each-both, each-first, each-imp, each-map, each-unmap, false, found-has}
+use Rattle.node_core.proofs.Names.{has-append, has_cluster, has_name, if◌then◌else◌, is_in, is_of, le-ltb, length}
+use Rattle.node_core.proofs.Names.{length-append, length-map, length-take, ltb-false, map, map-append, map-map}
+use Rattle.node_core.proofs.Names.{meaning, moved as moved_to, name-swap, names_fit_places, nat_lt, nat_tests}
+use Rattle.node_core.proofs.Names.{node_of, package_limit, package_reading, parts_in, parts_place, phase_code}
+use Rattle.node_core.proofs.Names.{places_in, plan_kept, refl, session_meaning, slice_index_or, stored_of}
+use Rattle.node_core.proofs.Names.{stored_units, subst, suits, sym, table_of, taken_in, takes_side, transfer_meaning}
+use Rattle.node_core.proofs.Names.{true, with_length, with_slots, with_stored, within-left, within-right, within-self}
+use Rattle.node_core.proofs.Names.{ℕ, [], ◌++◌, ◌+◌, ◌<◌, ◌==◌, ◌||◌, ◌∙◌, ◌∷◌, ◌≡◌, ◌≤◌}
 use Rattle.std.proofs.lemmas.List.{map-id}
 use Rattle.pm_types.specs.Clusters.{changes_of}
+use Rattle.pm_types.specs.Work.{end_processing}
 use Rattle.node_core.proofs.Lists.{all-each, each-all, each-second, every}
 use Rattle.node_core.proofs.Named.{differ-few, has-named, none-named}
 use Rattle.node_core.proofs.Phased.{phased-means, phased-placed, phased-slots}
 use Rattle.node_core.proofs.Sound.{table-is}
-use Rattle.node_core.proofs.Worked.{none-copied, ready-at, sound-at, unit-at}
+use Rattle.node_core.proofs.Worked.{IsUnit, at-work, none-copied}
 use Rattle.node_core.proofs.Free.{Pair}
-use Rattle.node_core.proofs.Handled.{InHand, at_process, busy, bytes-ready, bytes_of, changes-ready, extents, in-hand, more-unit, parts-found}
+use Rattle.node_core.proofs.Handled.{InHand, at_process, busy, bytes-ready, bytes_of, changes-ready, extents, in-hand, parts-found}
 use Rattle.node_core.proofs.Handled.{stored-same, unit-done}
 use Rattle.node_core.proofs.Natural.{has-means}
 use Rattle.node_core.proofs.Packages.{parts-read}
@@ -191,10 +196,8 @@ module _ (v : Holding) (x : SessionOf Extent) (id : ℕ) (sound : IsSound (at_pr
   planned-extents = extents-are-extents v.state.running sound.order.clusters (taken_in state) brings short
 
   -- the node after the last unit
-  abbrev pub processed_with : Prepared → Table → List (Change Extent) → Holding
-  processed_with p table changes =
-      let y = record x { changes = changes; processing = None; units_done = x.units_done + 1 } in
-      record v { state = record (with_table table v.state) { status = Ready; session = Some y }; prepared = p }
+  abbrev pub processed_with : List (Change Extent) → State
+  processed_with changes = end_processing (with_slots [] []) state (busy x id) id changes
 
   abbrev after : Table
   after = with_stored id (moved_to Processed) (table_of v.state)
@@ -217,12 +220,12 @@ module _ (v : Holding) (x : SessionOf Extent) (id : ℕ) (sound : IsSound (at_pr
       by t b e due = grind (arith, nat_tests)
 
   -- the last unit
-  pub last-unit : (passed : Bool) (p : Prepared) → IsUnitReady Processing (at_process v x id) (busy x id)
+  pub last-unit : (passed : Bool) → IsUnitReady Processing (at_process v x id) (busy x id)
       → nat_lt (x.units_done + 1) (all_units h.parts) ≡ false
-      → IsUnit (at_process v x id) passed (processed_with p after (x.changes ++ planned))
-  last-unit passed p ready last = record {
+      → IsUnit (at_process v x id) passed (processed_with planned)
+  last-unit passed ready last = record {
     node = unit-done v x id v.prepared sound h passed false last
-        ∙ (λ i. Some (record (node_of (processed_with p after (x.changes ++ planned))) {
+        ∙ (λ i. Some (record (meaning package_reading v.areas (processed_with planned)) {
           transfers =
               sym (phased-means (at_process v x id) sound x.owner id h.transfer h.is Processed was-whole refl) i;
           session =
@@ -251,8 +254,7 @@ module _ (v : Holding) (x : SessionOf Extent) (id : ℕ) (sound : IsSound (at_pr
       places = subst (λ ps. names_fit_places ps ≡ true) places-are later-fits;
       running = sound.order.running;
     };
-    copied = none-copied v.areas (processed_with p after (x.changes ++ planned)).state none-in-processing;
-    entries = refl;
+    copied = none-copied v.areas (processed_with planned) none-in-processing;
   }
     where
       places-are : pairs ++ map change_place planned ≡ map cluster_place v.state.running
@@ -272,15 +274,19 @@ module _ (v : Holding) (x : SessionOf Extent) (id : ℕ) (sound : IsSound (at_pr
           (all-lie v.areas id (x.units_done + 1) h.parts (extents v x id v.prepared sound h) matches
           (ltb-false _ _ last) (bytes-ready v x id v.prepared sound h ready))
 
--- the same, told of a node by its parts
+-- a node with a package in processing, by its parts
 module _ {v w : Holding} (e : v ≡ w) (x : SessionOf Extent) (id : ℕ) (is : x.processing ≡ Some id)
-    (there : v.state.session ≡ Some x)
-    (sound : IsSound w) (q : w.state.status ≡ Processing) where
-  at : v.state.session ≡ Some (busy x id)
-  at = there ∙ ap (λ o. Some (record x { processing = o })) is
+    (there : v.state.session ≡ Some x) (sound : IsSound w) (ready : IsReservedWork w)
+    (q : w.state.status ≡ Processing) where
+  same : w ≡ at_process v x id
+  same = sym e ∙ at-work v Processing (busy x id) (ap (λ (u : Holding). u.state.status) e ∙ q)
+      (there ∙ ap (λ o. Some (record x { processing = o })) is)
 
   whole : IsSound (at_process v x id)
-  whole = sound-at v w Processing (busy x id) e q at sound
+  whole = subst IsSound same sound
+
+  ready-now : IsUnitReady Processing (at_process v x id) (busy x id)
+  ready-now = subst IsReservedWork same ready
 
   hand : InHand v x id
   hand = in-hand v x id whole
@@ -300,72 +306,27 @@ module _ {v w : Holding} (e : v ≡ w) (x : SessionOf Extent) (id : ℕ) (is : x
     pub next-fits : x.units_done < stored_units u.contents
     next-fits = subst (λ n. x.units_done < n) (sym same-units) hand.unfinished
 
-    -- what is ready for its unit
-    module _ (ready : IsReservedWork w) where
-      ready-now : IsUnitReady Processing (at_process v x id) (busy x id)
-      ready-now = ready-at v w Processing (busy x id) e q at ready
+    -- the last unit
+    module _ (last : stored_units u.contents ≤ x.units_done + 1) where
+      plan-ready : plan_kept v.prepared ≡ Some (planned v x id whole hand)
+      plan-ready = changes-ready v x id v.prepared whole hand ready-now
+          (le-ltb (x.units_done + 1) (all_units hand.parts) (subst (λ n. n ≤ x.units_done + 1) same-units last))
 
-      pub more-done : x.units_done + 1 < stored_units u.contents → (passed : Bool) (p : Prepared) (status : Status)
-          → status ≡ Processing
-          → IsUnit w passed (record v {
-            state =
-                record v.state { status = status; session = Some (record x { units_done = x.units_done + 1 }) };
-            prepared = p;
-          })
-      more-done more passed p status stays =
-          subst (IsUnit w passed) (λ i. record v {
-            state = record v.state {
-              status = sym stays i;
-              session =
-                  Some (record x { processing = sym is i; units_done = x.units_done + 1 });
-            };
-            prepared = p;
-          })
-          (unit-at v w Processing (busy x id) e q at passed _ (more-unit v x id p whole hand passed ready-now
-          (lt-ltb (x.units_done + 1) (all_units hand.parts) (subst (λ n. x.units_done + 1 < n) same-units more))))
+      pub some-plan : plan_kept v.prepared ≡ None → ⊥
+      some-plan none = let z = sym none ∙ plan-ready in let f : ⊥ = cc in f
 
-      -- the last unit
-      module _ (last : stored_units u.contents ≤ x.units_done + 1) where
-        last-is : nat_lt (x.units_done + 1) (all_units hand.parts) ≡ false
-        last-is = le-ltb (x.units_done + 1) (all_units hand.parts) (subst (λ n. n ≤ x.units_done + 1) same-units last)
-
-        plan-ready : plan_kept v.prepared ≡ Some (planned v x id whole hand)
-        plan-ready = changes-ready v x id v.prepared whole hand ready-now last-is
-
-        pub some-plan : plan_kept v.prepared ≡ None → ⊥
-        some-plan none = let z = sym none ∙ plan-ready in let f : ⊥ = cc in f
-
-        module _ (plan : List (Change Extent)) (kept : plan_kept v.prepared ≡ Some plan) where
-          same-plan : planned v x id whole hand ≡ plan
-          same-plan = let z = sym plan-ready ∙ kept in cc
-
-          pub has-room : length x.changes + length plan ≤ cluster_limit
-          has-room =
-              let some = room v x id whole hand in
-              let many = ap length (planned-payloads id (brings v x id whole hand) _ (matches v x id whole hand)) in
-              let as_many = match-length (brings v x id whole hand) _ (matches v x id whole hand) in
-              omega (
-                arith,
-                some,
-                many,
-                as_many,
-                ap length same-plan,
-                length-map (planned v x id whole hand) (λ (c : Change Extent). c.part.payload),
-              )
-
-          pub last-done : (passed : Bool) (p : Prepared) (table : Table)
-              → table ≡ with_stored id (moved_to Processed) (table_of v.state)
-              → (changes : List (Change Extent)) → changes ≡ x.changes ++ plan
-              → IsUnit w passed (record v {
-                state = record (with_table table v.state) {
-                  status = Ready;
-                  session = Some (record x { changes = changes; processing = None; units_done = x.units_done + 1 });
-                };
-                prepared = p;
-              })
-          last-done passed p table tables changes longer =
-              subst (IsUnit w passed) (λ i.
-              processed_with v x id whole hand p (sym tables i)
-              ((ap (λ c. x.changes ++ c) same-plan ∙ sym longer) i))
-              (unit-at v w Processing (busy x id) e q at passed _
-              (last-unit v x id whole hand passed p ready-now last-is))
+      pub has-room : (plan : List (Change Extent)) → plan_kept v.prepared ≡ Some plan
+          → length x.changes + length plan ≤ cluster_limit
+      has-room plan kept =
+          let same-plan : planned v x id whole hand ≡ plan = (let z = sym plan-ready ∙ kept in cc) in
+          let some = room v x id whole hand in
+          let many = ap length (planned-payloads id (brings v x id whole hand) _ (matches v x id whole hand)) in
+          let as_many = match-length (brings v x id whole hand) _ (matches v x id whole hand) in
+          omega (
+            arith,
+            some,
+            many,
+            as_many,
+            ap length same-plan,
+            length-map (planned v x id whole hand) (λ (c : Change Extent). c.part.payload),
+          )

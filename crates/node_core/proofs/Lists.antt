@@ -1,4 +1,5 @@
 -- Facts of each member of a list, and lists in which one member is changed.
+use Rattle.std.specs.Prelude.{Err, IsErrAnd, Ok, Result, is_ok}
 use Rattle.node_core.proofs.Names.{AllByRecursion, is_some, Bool, List, Some, and_parts, arith, both_true, cond, false, filter, find}
 use Rattle.node_core.proofs.Names.{if◌then◌else◌, list_all, list_any, map, neither, option_map, refl, true, [], ◌++◌, ◌||◌, ◌∷◌, ◌≡◌}
 
@@ -9,6 +10,15 @@ every f (x ∷ xs) = (f x, every f xs)
 pub each-second : {X : Type 0} (P : X → Type 0) (xs ys : List X) → AllByRecursion P (xs ++ ys) → AllByRecursion P ys
 each-second P [] ys h = h
 each-second P (x ∷ xs) ys h = each-second P xs ys h.1
+
+pub each-first : {X : Type 0} (P : X → Type 0) (xs ys : List X) → AllByRecursion P (xs ++ ys) → AllByRecursion P xs
+each-first P [] ys h = tt
+each-first P (x ∷ xs) ys h = (h.0, each-first P xs ys h.1)
+
+pub each-append : {X : Type 0} (P : X → Type 0) (xs ys : List X) → AllByRecursion P xs → AllByRecursion P ys
+    → AllByRecursion P (xs ++ ys)
+each-append P [] ys h more = more
+each-append P (x ∷ xs) ys h more = (h.0, each-append P xs ys h.1 more)
 
 -- a test that each passes
 pub all-each : {X : Type 0} (p : X → Bool) (xs : List X) → list_all p xs ≡ true → AllByRecursion (λ x. p x ≡ true) xs
@@ -69,3 +79,8 @@ pub change-each : {X : Type 0} (P : X → Type 0) (p : X → Bool) (g : X → X)
     → AllByRecursion P (map (λ x. if p x then g x else x) xs)
 change-each P p g [] changed each = tt
 change-each {X} P p g (x ∷ xs) changed each = grind (arith, change-each P p g xs changed.1 each.1)
+
+-- what holds of a failure holds where a `?` returns one
+pub at-err : {X E : Type 0} (P : Bool → Type 0) (Q : E → Type 0) (r : Result X E) → IsErrAnd r Q → P false → P (is_ok r)
+at-err P Q (Err e) is p = p
+at-err P Q (Ok x) is p = absurd is

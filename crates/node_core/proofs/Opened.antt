@@ -1,5 +1,5 @@
--- A holding whose state is open.
-use Rattle.node_core.proofs.Names.{Holding, State, ap, ◌∙◌, ◌≡◌}
+-- What is stored and ready, where the state is open.
+use Rattle.node_core.proofs.Names.{Readied, State, ap, ◌∙◌, ◌≡◌}
 
-pub within : {h w : Holding} {s : State} → s ≡ h.state → h ≡ w → record h { state = s } ≡ w
-within {h = h} opened same = ap (λ s. record h { state = s }) opened ∙ same
+pub within : {r w : Readied} {s : State} → s ≡ r.state → r ≡ w → record r { state = s } ≡ w
+within {r = r} opened same = ap (λ s. record r { state = s }) opened ∙ same

@@ -1,16 +1,23 @@
 -- A transfer that goes to another phase, and the session with it.
-use Rattle.node_core.proofs.Names.{AllByRecursion, BeingProcessed, Cancel, Done, Extent, Found, Goal, Holding, IsCopied, IsCopiedIn}
-use Rattle.node_core.proofs.Names.{IsInOrder, IsJudged, IsPlaced, IsSound, List, None, Option, Phase, Refusal, Reply, Session}
-use Rattle.node_core.proofs.Names.{SessionOf, Some, State, StoredTransfer, Transfer, Transferred, ap, arith, arrived, both-none}
-use Rattle.node_core.proofs.Names.{cancel_refusals, false, first_refusal, found-has, found_of, header-means, header_of, if◌then◌else◌}
-use Rattle.node_core.proofs.Names.{in_phase, is-processing, is_in, is_of, map, meaning, moved, node_of, not, not-false, option_map}
-use Rattle.node_core.proofs.Names.{option_or, package_reading, parts_read, paused, phase_code, phased, places_in, refl, refusal_by}
-use Rattle.node_core.proofs.Names.{rows-clear, session_meaning, session_refusals, slice_index_or, slots_differ, some_passes}
-use Rattle.node_core.proofs.Names.{status_table, stop_processing, stopped, stored_header, stored_of, sym, take, transfer_meaning}
-use Rattle.node_core.proofs.Names.{transfer_of, true, units_done, with_length, with_phase, [], ℕ, ◌==◌, ◌∙◌, ◌∷◌, ◌≡◌}
-use Rattle.node_core.proofs.Arrived.{marked, copied-by, done-judged}
+use Rattle.node_core.proofs.Names.{AllByRecursion, BeingProcessed, Call, Cancel, Extent, Holding, IsCopied}
+use Rattle.node_core.proofs.Names.{IsCopiedIn, IsInOrder, IsPlaced, IsSound, List, None, Ok, OperationNotPermitted}
+use Rattle.node_core.proofs.Names.{Option, Phase, ServiceBusy, Session, SessionOf, Some, StandsFor, State}
+use Rattle.node_core.proofs.Names.{StoredTransfer, Transfer, Transferred, ap, arith, both-none, cancel_refusals}
+use Rattle.node_core.proofs.Names.{false, first_refusal, found-has, header-means, if◌then◌else◌, in_phase}
+use Rattle.node_core.proofs.Names.{is-processing, is_in, is_none, is_of, led_by, map, meaning, moved, node_of, not}
+use Rattle.node_core.proofs.Names.{not-false, option_map, option_or, package_reading, parts_read, phase_code}
+use Rattle.node_core.proofs.Names.{places_in, put_back, refl, refusal_by, rows-clear, session_meaning}
+use Rattle.node_core.proofs.Names.{session_refusals, slice_index_or, slots_differ, some_passes, status_table}
+use Rattle.node_core.proofs.Names.{stop_processing, stored_header, stored_of, sym, take, transfer_meaning, true}
+use Rattle.node_core.proofs.Names.{units_done, whole, with_bytes, with_length, with_phase, with_slots, ℕ, [], ◌==◌}
+use Rattle.node_core.proofs.Names.{◌∙◌, ◌∷◌, ◌≡◌}
+use Rattle.node_core.proofs.Arrived.{marked, copied-by, led-stands}
 use Rattle.node_core.proofs.Lists.{every, change-each}
-use Rattle.node_core.proofs.Stored.{found-header, rise, changed-means, only-has, some-stored}
+use Rattle.node_core.proofs.Stored.{rise, changed-means, only-has, some-stored}
+
+-- the transfers with that of this id in a phase
+abbrev pub phased : ℕ → Phase → List StoredTransfer → List StoredTransfer
+phased id phase ts = map (λ t. if t.header.id == id then moved phase t else t) ts
 
 -- the slots are as they were
 pub same-slots : (id : ℕ) (phase : Phase) (ts : List StoredTransfer)
@@ -36,7 +43,7 @@ module _ (v : Holding) (sound : IsSound v) (client id : ℕ) (u : StoredTransfer
       (stays ∙ sym whole)
 
   pub phased-means : map (transfer_meaning package_reading v.areas) (phased id phase v.state.transfers)
-      ≡ (with_phase id phase (node_of v)).transfers
+      ≡ (with_phase (with_bytes (Ok [])) id phase (node_of v)).transfers
   phased-means =
       changed-means package_reading v.areas client id (moved phase) (λ t. record t { header = in_phase phase t.header })
       v.state.transfers u (rise v sound) e same-meaning
@@ -72,18 +79,24 @@ module _ (v : Holding) (sound : IsSound v) (client id : ℕ) (u : StoredTransfer
     running = i.running;
   }
 
+-- another's session and a dash refuse by what is stored
+pub session-refused : (v : Holding) (client : ℕ) (call : Call)
+    → first_refusal (session_refusals (node_of v) client call) ≡ first_refusal (session_refusals v.state client call)
+session-refused v client call =
+    ap (λ b. first_refusal ((b, ServiceBusy) ∷ (is_none (status_table v.state.status call), OperationNotPermitted) ∷ []))
+    (go v.state.session)
+  where
+    go : (o : Option (SessionOf Extent)) → some_passes (λ (x : Session). not (x.owner == client))
+        (option_map (session_meaning v.areas) o) ≡ some_passes (λ (x : SessionOf Extent). not (x.owner == client)) o
+    go o = grind arith
+
 -- Cancel is refused by what is stored
-pub cancel-by : {v w : Holding} → v ≡ w → (client id : ℕ) (found : Option Found) (o : Option Refusal)
-    → found ≡ found_of v.state.transfers client id
-    → o ≡ first_refusal (cancel_refusals (option_map (λ f. f.header) found))
-    → first_refusal (session_refusals (node_of w) client (Cancel id)) ≡ None → refusal_by w client (Cancel id) ≡ o
-cancel-by {v = v} {w = w} same client id found o there judged none =
-    ap (λ x. option_or x (first_refusal (cancel_refusals (header_of (transfer_of (node_of w) client id))))) none
-    ∙ ap (λ h. first_refusal (cancel_refusals h))
-    (header-means package_reading w.areas (is_of client id) w.state.transfers
-    ∙ ap (λ (x : Holding). stored_header x.state.transfers client id) (sym same)
-    ∙ found-header v.state.transfers client id ∙ ap (option_map (λ f. f.header)) (sym there))
-    ∙ sym judged
+pub cancel-refused : (v : Holding) (client id : ℕ) → refusal_by v client (Cancel id)
+    ≡ option_or (first_refusal (session_refusals v.state client (Cancel id)))
+    (first_refusal (cancel_refusals (stored_header v.state.transfers client id)))
+cancel-refused v client id = λ i.
+    option_or (session-refused v client (Cancel id) i)
+    (first_refusal (cancel_refusals (header-means package_reading v.areas (is_of client id) v.state.transfers i)))
 
 -- what stopping leaves
 module _ (v : Holding) (sound : IsSound v) (client id : ℕ) (u : StoredTransfer)
@@ -92,21 +105,24 @@ module _ (v : Holding) (sound : IsSound v) (client id : ℕ) (u : StoredTransfer
   abbrev with : Option (SessionOf Extent) → State
   with o = record v.state { session = o }
 
+  abbrev stopped : State → State
+  stopped s = put_back (with_slots [] []) s id
+
   was-whole : (phase_code u.header.phase == 0) ≡ false
   was-whole = ap (λ p. phase_code p == 0) phase
 
-  stopped-means : meaning package_reading v.areas (stopped id v.state) ≡ stop_processing (node_of v) id
+  stopped-means : meaning package_reading v.areas (stopped v.state) ≡ stop_processing (node_of v) id
   stopped-means =
-      ap (λ ts. record (meaning package_reading v.areas (stopped id v.state)) { transfers = ts })
+      ap (λ ts. record (meaning package_reading v.areas (stopped v.state)) { transfers = ts })
       (phased-means v sound client id u e Transferred was-whole refl)
       ∙ ap (λ o. record (stop_processing (node_of v) id) { session = o }) (go v.state.session)
     where
-      go : (o : Option (SessionOf Extent)) → option_map (session_meaning v.areas) (option_map paused o)
+      go : (o : Option (SessionOf Extent)) → option_map (session_meaning v.areas) (option_map (λ (x : SessionOf Extent). record x { processing = None }) o)
           ≡ option_map (λ (x : Session). record x { processing = None }) (option_map (session_meaning v.areas) o)
       go o = grind arith
 
   stopped-order : (o : Option (SessionOf Extent)) → IsInOrder package_reading v.areas (with o)
-      → IsInOrder package_reading v.areas (stopped id (with o))
+      → IsInOrder package_reading v.areas (stopped (with o))
   stopped-order None i = record {
     clusters = i.clusters;
     session = tt;
@@ -118,35 +134,36 @@ module _ (v : Holding) (sound : IsSound v) (client id : ℕ) (u : StoredTransfer
   stopped-order (Some x) i = phased-order v sound client id u e Transferred was-whole refl x None x.units_done i
 
   stopped-copied : (o : Option (SessionOf Extent)) → IsCopied package_reading v.areas (with o)
-      → IsCopied package_reading v.areas (stopped id (with o))
+      → IsCopied package_reading v.areas (stopped (with o))
   stopped-copied o copied =
-      change-each (λ t. IsCopiedIn package_reading v.areas (stopped id (with o)) t t.header.phase) (λ t.
+      change-each (λ t. IsCopiedIn package_reading v.areas (stopped (with o)) t t.header.phase) (λ t.
       t.header.id == id) (moved Transferred)
       v.state.transfers (every (λ t q. tt) v.state.transfers)
-      (copied-by v.areas (with o) (stopped id (with o)) (still o).0 refl (still o).1 v.state.transfers copied)
+      (copied-by v.areas (with o) (stopped (with o)) (still o).0 refl (still o).1 v.state.transfers copied)
     where
-      still : (o : Option (SessionOf Extent)) → (units_done (stopped id (with o)) ≡ units_done (with o))
-          × (places_in (stopped id (with o)) ≡ places_in (with o))
+      still : (o : Option (SessionOf Extent)) → (units_done (stopped (with o)) ≡ units_done (with o))
+          × (places_in (stopped (with o)) ≡ places_in (with o))
       still o = grind arith
 
+  pub stopped-stands : StandsFor v.areas (stopped v.state) (stop_processing (node_of v) id)
+  stopped-stands = record {
+    node = stopped-means;
+    order = stopped-order v.state.session sound.order;
+    copied = stopped-copied v.state.session sound.copied;
+  }
+
 -- Cancel
-pub cancel-judged : (v : Holding) (client id : ℕ) (reply : Reply) (goal : Goal) (w new : Holding) → IsSound v
-    → refusal_by v client (Cancel id) ≡ None → status_table v.state.status (Cancel id) ≡ Some goal
-    → w ≡ record v { state = stopped id v.state } → reply ≡ Done → new ≡ record w { state = arrived goal w.state }
-    → IsJudged v client (Cancel id) reply new
-cancel-judged v client id reply goal w new sound none table stops replies leads =
-    done-judged v client (Cancel id) reply new goal (stopped id v.state) v.prepared
-    (stop_processing (node_of v) id) none refl refl
-    (stopped-means v sound client id there.0 there.1 phase) table
-    (stopped-order v sound client id there.0 there.1 phase v.state.session sound.order)
-    (stopped-copied v sound client id there.0 there.1 phase v.state.session sound.copied) refl replies
-    (leads ∙ ap (λ (x : Holding). record x { state = arrived goal x.state }) stops)
+pub cancel-stands : (v : Holding) (client id : ℕ) → IsSound v → refusal_by v client (Cancel id) ≡ None
+    → StandsFor v.areas (led_by (Cancel id) (put_back (with_slots [] []) v.state id))
+    (led_by (Cancel id) (stop_processing (node_of v) id))
+cancel-stands v client id sound none =
+    led-stands v.areas (put_back (with_slots [] []) v.state id) (stop_processing (node_of v) id) (Cancel id)
+    (stopped-stands v sound client id there.0 there.1 phase)
   where
     clear : AllByRecursion (λ row. row.0 ≡ false) (cancel_refusals (stored_header v.state.transfers client id))
     clear = rows-clear (cancel_refusals (stored_header v.state.transfers client id))
-        (ap (λ h. first_refusal (cancel_refusals h))
-        (sym (header-means package_reading v.areas (is_of client id) v.state.transfers))
-        ∙ (both-none (first_refusal (session_refusals (node_of v) client (Cancel id))) _ none).1)
+        (both-none (first_refusal (session_refusals v.state client (Cancel id))) _
+        (sym (cancel-refused v client id) ∙ none)).1
 
     there : (u : StoredTransfer) × (stored_of v.state.transfers client id ≡ Some u)
     there = some-stored (stored_of v.state.transfers client id) clear.0

@@ -8,6 +8,7 @@ use Rattle.pm_types.specs.Clusters.{changes_of}
 use Rattle.node_core.proofs.Lists.{all-each}
 use Rattle.node_core.proofs.Names.{from_be_bytes, w32, list_all, slice_index_or}
 use Rattle.node_core.proofs.Names.{PartsLie, get_or}
+use Rattle.std.proofs.lemmas.Bool.{le-ltb}
 use Rattle.std.proofs.lemmas.List.{drop_more}
 use Rattle.node_core.proofs.Placing.{Match}
 
@@ -119,6 +120,32 @@ lie-in-all came bytes place (part ∷ parts) le lie =
           (omega (arith, inside, wide, le))) ∙ lie.1,
       lie-in-all came bytes (payload_at (take came bytes) place + length part.payload) parts le lie.2,
     )
+
+-- a piece of payloads that lie in the first bytes is the one of all
+pub piece-front : (came : ℕ) (bytes : Bytes) (place done : ℕ) (extents : List Extent) → came ≤ length bytes
+    → LieWithin (take came bytes) place extents
+    → piece_of (take came bytes) place done extents ≡ piece_of bytes place done extents
+piece-front came bytes place done [] le lie = refl
+piece-front came bytes place done (extent ∷ extents) le lie =
+    let inside = lie.0 in
+    let start : payload_at (take came bytes) place ≡ payload_at bytes place =
+    ap (λ (field : Bytes). place + 8 + from_be_bytes w32 field)
+    (slice-take place 4 came bytes (omega (arith, inside, length-take came bytes, le))) in
+    let at = done * block_limit in
+    let rest = piece-front came bytes (payload_at (take came bytes) place + extent.length)
+    (done - units_of extent.length) extents le lie.1 in
+    (λ i. if nat_lt done (units_of extent.length) then Some (record {
+      from = start i + at;
+      at = at;
+      len = min (extent.length - at) block_limit;
+      to = extent;
+    }) else rest i)
+    ∙ ap (λ n. if nat_lt done (units_of extent.length) then Some (record {
+      from = payload_at bytes place + at;
+      at = at;
+      len = min (extent.length - at) block_limit;
+      to = extent;
+    }) else piece_of bytes (n + extent.length) (done - units_of extent.length) extents) start
 
 module _ (content : Bytes) where
   -- the next unit of parts: the piece that it brings, and what copying that leaves and makes ready
@@ -255,3 +282,25 @@ lie-here content place i xs d lt lie = subst (LieWithin content place) (drop_mor
 pub piece-here : (content : Bytes) (place left i : ℕ) (xs : List Extent) (d : Extent) → i < length xs
     → piece_of content place left (drop i xs) ≡ piece_of content place left (get_or xs i d ∷ drop (i + 1) xs)
 piece-here content place left i xs d lt = ap (piece_of content place left) (drop_more xs i d lt)
+
+-- a part whose units are all done is passed over
+pub piece-next : (content : Bytes) (place left i : ℕ) (xs : List Extent) (d : Extent) → i < length xs
+    → units_of (get_or xs i d).length ≤ left → (next rest : ℕ) → next ≡ payload_at content place + (get_or xs i d).length
+    → rest ≡ left - units_of (get_or xs i d).length
+    → piece_of content next rest (drop (i + 1) xs) ≡ piece_of content place left (drop i xs)
+piece-next content place left i xs d lt done next rest is less =
+    let e = get_or xs i d in
+    (λ j. piece_of content (is j) (less j) (drop (i + 1) xs))
+    ∙ sym (piece-here content place left i xs d lt ∙ ap (λ b. if b then Some (record {
+      from = payload_at content place + left * block_limit;
+      at = left * block_limit;
+      len = min (e.length - left * block_limit) block_limit;
+      to = e;
+    }) else piece_of content (payload_at content place + e.length) (left - units_of e.length) (drop (i + 1) xs))
+    (le-ltb left (units_of e.length) done))
+
+pub lie-next : (content : Bytes) (place i : ℕ) (xs : List Extent) (d : Extent) → i < length xs
+    → LieWithin content place (drop i xs) → (next : ℕ) → next ≡ payload_at content place + (get_or xs i d).length
+    → LieWithin content next (drop (i + 1) xs)
+lie-next content place i xs d lt lie next is =
+    subst (λ p. LieWithin content p (drop (i + 1) xs)) (sym is) (lie-here content place i xs d lt lie).1

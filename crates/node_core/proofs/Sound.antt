@@ -1,16 +1,16 @@
 -- A sound node has a table, and each step leaves it sound.
-use Rattle.node_core.proofs.Names.{Bytes, Call, CallNo, Holding, IsBounded, IsFit, IsReading, IsSound, IsTable, IsTrue, List, NodeState}
-use Rattle.node_core.proofs.Names.{None, Ok, Option, PackageError, Part, Reply, Result, SessionMark, Transfer, Verdict}
-use Rattle.node_core.proofs.Names.{after_call, all_differ, ap, arith, both_true, client_limit, cluster_of, each-both, each-imp}
-use Rattle.node_core.proofs.Names.{each-unmap, ids-mean, ids_of, keeps-fit, length, length-map, map, mark_of, nat_tests, node_of, not}
-use Rattle.node_core.proofs.Names.{numbers_rise, of_client, option_map, package_limit, package_reading, refl, repeat_of, reply_by}
-use Rattle.node_core.proofs.Names.{reply_to, rise-above, rise-tail, slice_index_or, slots_differ, step, step_by, stored_ids, subst, sym}
-use Rattle.node_core.proofs.Names.{synced, table_of, transfer_limit, transfer_meaning, true, verdict_of, verdict_on, [], ℕ, ◌<◌, ◌==◌}
-use Rattle.node_core.proofs.Names.{◌∙◌, ◌∷◌, ◌≡◌, ◌≤◌}
+use Rattle.node_core.proofs.Names.{Bytes, Call, CallNo, Err, Holding, IsBounded, IsFit, IsReading, IsSound, IsTable}
+use Rattle.node_core.proofs.Names.{IsTrue, List, NodeState, None, Ok, PackageError, Part, Result, Transfer, Verdict}
+use Rattle.node_core.proofs.Names.{after_call, all_differ, and_parts, arith, both_true, client_limit, cluster_of}
+use Rattle.node_core.proofs.Names.{each-both, each-imp, each-unmap, ids-mean, ids_of, keeps-fit, length, length-map}
+use Rattle.node_core.proofs.Names.{map, mark_of, nat_tests, node_of, not, numbers_rise, of_client, option_map}
+use Rattle.node_core.proofs.Names.{package_limit, package_reading, placed, refl, repeat_of, reply_to, rise-above}
+use Rattle.node_core.proofs.Names.{rise-tail, slots_differ, step, step_by, stored_ids, subst, sym, synced, table_of}
+use Rattle.node_core.proofs.Names.{transfer_limit, transfer_meaning, true, verdict_of, ℕ, [], ◌<◌, ◌==◌, ◌∷◌, ◌≡◌}
+use Rattle.node_core.proofs.Names.{◌≤◌}
 use Rattle.package_reader.specs.Reading.{are_parts, reading}
 use Rattle.package_reader.proofs.Readings.{reading_are_parts}
 use Rattle.std.proofs.lemmas.Bool.{leb-true}
-use Rattle.node_core.proofs.Names.{Err, and_parts}
 use Rattle.pm_types.specs.declared.replies.Reached.TheVariants.{Done as Answered}
 use Rattle.pm_types.specs.Validity.{IsSound as IsSoundTransfer}
 use Rattle.node_core.proofs.Lists.{each-all}
@@ -82,25 +82,14 @@ pub step-fit : (v : Holding) (client : ℕ) (at : CallNo) (call : Call) → clie
 step-fit v client at call low sound =
     (keeps-fit package_reading reading-is).step (node_of v) client at call low sound.fit
 
--- an executed call leaves it fit
-pub executed-fit : (v new : Holding) (client : ℕ) (at : CallNo) (call : Call) (reply : Reply) → client < client_limit
-    → IsSound v → repeat_of at (of_client v.state.last client) ≡ None → reply ≡ reply_by v client call
-    → node_of new ≡ after_call (node_of v) client at call (verdict_on v client call) reply
-    → IsFit package_reading (node_of new)
-executed-fit v new client at call reply low sound none answers node =
-    let s = node_of v in
-    let w = verdict_on v client call in
-    subst (IsFit package_reading) (ap (λ z. z.0) (step-is s client at call w none)
-    ∙ ap (after_call s client at call w) (sym answers) ∙ sym node) (step-fit v client at call low sound)
-
 -- the ids of a client's transfers are those of what they mean
 pub ids-shown : (v : Holding) (client : ℕ) → stored_ids v.state.transfers client ≡ ids_of (node_of v) client
 ids-shown v client = sym (ids-mean package_reading v.areas client v.state.transfers)
 
 -- what Sync shows of a node
-pub synced-shown : {v w : Holding} → v ≡ w → (client place : ℕ) (session : Option SessionMark) (ids : List ℕ)
-    → session ≡ option_map (mark_of w.state.status) w.state.session → place ≡ client
-    → ids ≡ stored_ids v.state.transfers client
-    → record { session = session; ended = slice_index_or v.state.ended place None; transfers = ids }
-    ≡ synced (node_of w) client
-synced-shown {v = v} {w = w} e client place session ids marks here shown = grind (arith, ids-shown v client)
+pub synced-means : (v : Holding) (client : ℕ) → record {
+  session = option_map (mark_of v.state.status) v.state.session;
+  ended = of_client v.state.ended client;
+  transfers = stored_ids v.state.transfers client;
+} ≡ synced (node_of v) client
+synced-means v client = grind (arith, ids-shown v client)

@@ -1,6 +1,9 @@
 -- What a put behind a transfer's bytes leaves of a node.
+use Rattle.transfer_blocks.specs.Steps.{with_bytes}
+use Rattle.node_core.proofs.Names.{StandsFor, holding}
 use Rattle.node_core.proofs.Names.{AllByRecursion, Areas, AreasFit, Bytes, ExitVerdict, Found, Holding, IsBehind, IsCopiedIn}
-use Rattle.node_core.proofs.Names.{IsKept, IsReady, IsSound, IsVerdict, LeavesOutside, List, None, Prepared}
+use Rattle.node_core.proofs.Names.{IsReady, IsSound, IsVerdict, LeavesOutside, List, None, Prepared}
+use Rattle.node_core.proofs.Names.{data_refusals, stored_header}
 use Rattle.node_core.proofs.Names.{Some, StoredTransfer, Transfer as NodeTransfer, TransferData, TransferExit, and_parts, ap, arith}
 use Rattle.node_core.proofs.Names.{content-here, content_of, each-both, each-imp, each-unmap, eq-eqb, eqb-false}
 use Rattle.node_core.proofs.Names.{exit_refusals, find, first_refusal, found-has, found_of, front_slice, header-means, is_of}
@@ -15,7 +18,6 @@ use Rattle.node_core.proofs.Stored.{found-fact, read-order, copied-when, found-m
 use Rattle.node_core.proofs.Lists.{all-each, every, map-same}
 use Rattle.node_core.proofs.Pieces.{same-copied}
 use Rattle.node_core.proofs.Names.{AreCopied, extents_in}
-use Rattle.node_core.proofs.Judged.{block_refusal, exit_refusal, data-same}
 use Rattle.node_core.proofs.Sound.{table-is}
 
 -- a transfer is the one that was found, or lies in another slot
@@ -35,19 +37,17 @@ apart client id (t ∷ ts) u d e =
       each-imp,
     )
 
--- where they hold the same of each transfer the node is kept
-same-kept : (v : Holding) (slots : List Bytes) (faults : ℕ) (p : Prepared) → IsSound v → v.faults ≤ faults
+-- where they hold the same of each transfer areas stand for the node
+same-stands : (v : Holding) (slots : List Bytes) → IsSound v
     → AllByRecursion (λ t. transfer_meaning package_reading (record v.areas { slots = slots }) t
     ≡ transfer_meaning package_reading v.areas t) v.state.transfers
-    → IsKept v (record { areas = record v.areas { slots = slots }; faults = faults; state = v.state; prepared = p })
-same-kept v slots faults p sound more each = record {
-  state = refl;
+    → StandsFor (record v.areas { slots = slots }) v.state (node_of v)
+same-stands v slots sound each = record {
   node = ap (λ ts. record (node_of v) { transfers = ts })
       (map-same (transfer_meaning package_reading areas)
       (transfer_meaning package_reading v.areas) v.state.transfers each);
   order = read-order v.areas areas v.state each sound.order;
   copied = each-both _ _ _ copied v.state.transfers each sound.copied;
-  faults = more;
 }
   where
     areas : Areas
@@ -95,26 +95,23 @@ module _ (v : Holding) (sound : IsSound v) (client id : ℕ) (u : StoredTransfer
       or-came t other = grind arith
 
 -- a call that is refused needs nothing
-pub refused-block : {v w : Holding} → v ≡ w → (client id counter : ℕ) (block : Bytes)
-    → block_refusal v client id counter block ≢ None
-    → IsReady w client (TransferData id counter block)
-refused-block {w = w} e client id counter block refused none =
-    absurd (refused (ap (λ (x : Holding). block_refusal x client id counter block) e
-    ∙ sym (data-same w client id counter block) ∙ none))
+pub refused-block : (v : Holding) (client id counter : ℕ) (block : Bytes)
+    → first_refusal (data_refusals (stored_header v.state.transfers client id) counter (length block)) ≢ None
+    → IsReady v client (TransferData id counter block)
+refused-block v client id counter block refused none =
+    absurd (refused (sym (ap (λ h. first_refusal (data_refusals h counter (length block)))
+    (header-means package_reading v.areas (is_of client id) v.state.transfers)) ∙ none))
 
-pub refused-exit : {v w : Holding} → v ≡ w → (client id : ℕ) → exit_refusal v client id ≢ None
-    → IsReady w client (TransferExit id)
-refused-exit {w = w} e client id refused none =
-    absurd (refused (ap (λ (x : Holding). exit_refusal x client id) e
-    ∙ ap (λ h. first_refusal (exit_refusals h))
-    (sym (header-means package_reading w.areas (is_of client id) w.state.transfers)) ∙ none))
+pub refused-exit : (v : Holding) (client id : ℕ)
+    → first_refusal (exit_refusals (stored_header v.state.transfers client id)) ≢ None
+    → IsReady v client (TransferExit id)
+refused-exit v client id refused none =
+    absurd (refused (ap (λ h. first_refusal (exit_refusals h))
+    (sym (header-means package_reading v.areas (is_of client id) v.state.transfers)) ∙ none))
 
--- a look-up of a node by its parts
-module _ {v w : Holding} (view : v ≡ w) (sound : IsSound w) (client id : ℕ) (f : Found)
+-- a transfer that was found
+module _ (v : Holding) (own : IsSound v) (client id : ℕ) (f : Found)
     (e : found_of v.state.transfers client id ≡ Some f) where
-  own : IsSound v
-  own = subst IsSound (sym view) sound
-
   -- it is of a stored transfer
   there : (u : StoredTransfer) × (stored_of v.state.transfers client id ≡ Some u)
       × (f ≡ record { header = u.header; slot = u.slot })
@@ -133,68 +130,49 @@ module _ {v w : Holding} (view : v ≡ w) (sound : IsSound w) (client id : ℕ) 
       (found-has (λ t. is_of client id t.header) (λ t. t.header.size ≤ package_limit) v.state.transfers there.0
       (each-imp _ _ (λ t bounded. bounded.size) v.state.transfers (table-is v own).each) there.1).1
 
-  -- what a put leaves is kept, if it fails
-  pub failed-kept : AreasFit v.areas → (n : ℕ) (areas : Areas) (faults : ℕ) (p : Prepared) → v.faults ≤ faults
-      → LeavesOutside (Transfer f.slot) f.header.received n v.areas areas
-      → IsKept w (record { areas = areas; faults = faults; state = v.state; prepared = p })
-  failed-kept fit n areas faults p more left =
+  -- what a put leaves stands for the node, if it fails
+  pub failed-stands : AreasFit v.areas → (n : ℕ) (areas : Areas)
+      → LeavesOutside (Transfer f.slot) f.header.received n v.areas areas → StandsFor areas v.state (node_of v)
+  failed-stands fit n areas left =
       let each = put-stands v own client id there.0 there.1 fit n areas
       (subst (λ (x : Found). LeavesOutside (Transfer x.slot) x.header.received n v.areas areas) there.2 left) in
-      subst (λ (k : Holding × Areas). IsKept k.0 (record {
-        areas = k.1;
-        faults = faults;
-        state = v.state;
-        prepared =
-            p;
-      }))
-      (λ i. (view i, sym left.elsewhere i)) (same-kept v _ faults p own more
-      (each-imp _ _ (λ t same. ap (λ z. transfer_meaning package_reading z t) (sym left.elsewhere)
+      subst (λ (a : Areas). StandsFor a v.state (node_of v)) (sym left.elsewhere)
+      (same-stands v _ own (each-imp _ _ (λ t same. ap (λ z. transfer_meaning package_reading z t) (sym left.elsewhere)
       ∙ same) v.state.transfers each))
 
   -- and if it succeeds
-  pub put-kept : AreasFit v.areas → (block : Bytes) (areas : Areas) (faults : ℕ) (p : Prepared) → v.faults ≤ faults
-      → areas ≡ with_content (Transfer f.slot)
-      (overwritten f.header.received block (content_of (Transfer f.slot) v.areas)) v.areas
-      → IsKept w (record { areas = areas; faults = faults; state = v.state; prepared = p })
-  put-kept fit block areas faults p more put =
-      failed-kept fit (length block) areas faults p more
-      (subst (LeavesOutside (Transfer f.slot) f.header.received (length block) v.areas) (sym put)
-      (put-leaves (Transfer f.slot) v.areas found-slot fit f.header.received block found-lies))
+  pub put-left : AreasFit v.areas → (block : Bytes)
+      → LeavesOutside (Transfer f.slot) f.header.received (length block) v.areas
+      (with_bytes (Transfer f.slot) f.header.received block v.areas)
+  put-left fit block = put-leaves (Transfer f.slot) v.areas found-slot fit f.header.received block found-lies
 
   -- a block that was put is ready
-  pub put-ready : AreasFit v.areas → (counter : ℕ) (block : Bytes) (areas : Areas) (faults : ℕ) (p : Prepared)
-      → areas ≡ with_content (Transfer f.slot)
-      (overwritten f.header.received block (content_of (Transfer f.slot) v.areas)) v.areas
-      → IsReady (record { areas = areas; faults = faults; state = v.state; prepared = p }) client
+  pub put-ready : AreasFit v.areas → (counter : ℕ) (block : Bytes)
+      → IsReady (holding (with_bytes (Transfer f.slot) f.header.received block v.areas) v.state) client
       (TransferData id counter block)
-  put-ready fit counter block areas faults p put none =
+  put-ready fit counter block none =
       let at = f.header.received in
       let area = Transfer f.slot in
+      let areas = with_bytes area at block v.areas in
       each-imp _ _ (λ t behind same. behind (eq-eqb t.header.id id same)) v.state.transfers
       (only-has (IsBehind areas block) client id v.state.transfers there.0 (rise v own) there.1
       (subst (λ (x : Found). slice_range (content_of (Transfer x.slot) areas) x.header.received
       (x.header.received + length block) ≡ block) there.2
-      (ap (λ a. slice_range (content_of area a) at (at + length block)) put
-      ∙ ap (λ c. slice_range c at (at + length block)) (content-here area v.areas found-slot fit _)
+      (ap (λ c. slice_range c at (at + length block)) (content-here area v.areas found-slot fit _)
       ∙ slice-overwritten at block (content_of area v.areas) found-lies)))
 
   -- a verdict on the bytes that were got is ready
-  pub got-ready : (bytes : Bytes) (verdict : ExitVerdict) (areas : Areas) (faults : ℕ) → areas ≡ v.areas
-      → bytes ≡ slice_range (content_of (Transfer f.slot) v.areas) 0 (0 + f.header.received)
+  pub got-ready : (bytes : Bytes) (verdict : ExitVerdict) → bytes ≡ slice_range (content_of (Transfer f.slot) v.areas) 0 (0 + f.header.received)
       → IsVerdict verdict (package_reading bytes)
-      → IsReady (record { areas = areas; faults = faults; state = v.state; prepared = Judged verdict }) client
-      (TransferExit id)
-  got-ready bytes verdict areas faults same got judged none =
+      → IsReady (record v { prepared = Judged verdict }) client (TransferExit id)
+  got-ready bytes verdict got judged none =
       let slot = content_of (Transfer f.slot) v.areas in
       let means = transfer_meaning package_reading in
       let came = got ∙ ap (slice_range slot 0) (zero-add f.header.received) ∙ front_slice f.header.received slot
       ∙ ap (λ (x : Found). take x.header.received (content_of (Transfer x.slot) v.areas)) there.2 in
       subst (IsVerdict verdict)
       (ap package_reading came
-      ∙ sym (ap (λ a.
-      package_reading (option_map_or (λ t. t.bytes)
-      (find (λ t. is_of client id t.header) (map (means a) v.state.transfers)) [])) same
-      ∙ ap (λ o. package_reading (option_map_or (λ t. t.bytes) o []))
+      ∙ sym (ap (λ o. package_reading (option_map_or (λ t. t.bytes) o []))
       (found-means package_reading v.areas client id v.state.transfers
       ∙ ap (option_map (means v.areas)) there.1)))
       judged

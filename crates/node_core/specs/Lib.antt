@@ -6,3 +6,4 @@ pub mod Core
 pub mod Errors
 pub mod Units
 pub mod Format
+pub mod Reserves

@@ -18,20 +18,25 @@ use Rattle.pm_types.specs.declared.status.Status.TheVariants.{Processing, Activa
 use Rattle.pm_types.specs.NodeState.{NodeState, SessionOf}
 use Rattle.pm_types.specs.Clusters.{planned, stored_units, units_of}
 use Rattle.pm_types.specs.Histories.{unit_passes, worked}
-use Rattle.pm_types.specs.Stored.{IsInOrder, transfer_meaning}
+use Rattle.pm_types.specs.Stored.{Areas, State, transfer_meaning}
 use Rattle.transfer_blocks.specs.declared.area.Area.{Area}
 use Rattle.transfer_blocks.specs.declared.area.Area.TheVariants.{Side}
 use Rattle.transfer_blocks.specs.Table.{stored_of}
 use Rattle.package_reader.specs.Lies.{payload_at}
 use Rattle.node_core.specs.declared.copying.NextUnit.{NextUnit}
 use Rattle.node_core.specs.declared.copying.Piece.{Piece}
-use Rattle.pm_types.specs.Work.{unit}
+use Rattle.pm_types.specs.Work.{process, unit, work_on}
+use Rattle.pm_types.specs.Steps.{with_entry}
+use Rattle.pm_types.specs.declared.history.Happened.TheVariants.{Unit as UnitAfter}
+use Rattle.std.specs.Option.{option_map_or}
+use Rattle.std.specs.Prelude.{option_and_then}
 use Rattle.node_core.specs.declared.plan.Planned.{Planned as Lent}
 use Rattle.node_core.specs.declared.prepared.Prepared.{Prepared}
 use Rattle.node_core.specs.declared.prepared.Prepared.TheVariants.{Changes as Planned, Clusters}
-use Rattle.node_core.specs.Core.{Holding, node_of}
+use Rattle.node_core.specs.Core.{Holding, IsSound, Readied, kept_by, node_of, over}
+use Rattle.node_core.specs.Sessions.{contents_of}
 use Rattle.node_core.specs.Packages.{package_reading}
-use Rattle.node_core.specs.Places.{AreCopied, IsCopied, extents_in}
+use Rattle.node_core.specs.Places.{AreCopied, extents_in}
 
 -- the unit that was done, or that there is none
 abbrev pub answer_of : Status → Bool → Option NodeState → Worked
@@ -45,13 +50,6 @@ answer_to fails s = answer_of s.status (unit_passes fails s) (unit s (unit_passe
 -- the node afterwards: with the unit and its line, where there is one
 abbrev pub after_work : List (List ℕ) → NodeState → NodeState
 after_work fails s = unwrap_or (worked s (unit_passes fails s)) s
-
--- a unit was done, and its line isn't written yet
-pub record IsUnit (old : Holding) (passed : Bool) (new : Holding) : Type 0 where
-  pub node : unit (node_of old) passed ≡ Some (node_of new)
-  pub order : IsInOrder package_reading new.areas new.state
-  pub copied : IsCopied package_reading new.areas new.state
-  pub entries : new.state.entries ≡ old.state.entries
 
 -- the clusters that are ready
 abbrev pub clusters_kept : Prepared → Option (List (Cluster Extent))
@@ -92,6 +90,36 @@ IsUnitReady _ v x = ⊤
 abbrev pub IsReservedWork : Holding → Type 0
 IsReservedWork v = IfSome v.state.session (IsUnitReady v.state.status v)
 
+-- over each areas over which the node is sound and all is ready for its next unit, this holds
+abbrev pub AllWorkReady : Readied → (Holding → Type 0) → Type 0
+AllWorkReady r P = (areas : Areas) → IsSound (over areas r) → IsReservedWork (over areas r) → P (over areas r)
+
+-- over some areas the node is sound, and all is ready for its next unit
+abbrev pub SomeWorkReady : Readied → Type 0
+SomeWorkReady r = (areas : Areas) × IsSound (over areas r) × IsReservedWork (over areas r)
+
+-- the stored state after a unit of a package, whose last one plans the changes that are ready
+abbrev pub process_stored : Readied → SessionOf Extent → ℕ → State
+process_stored r x id =
+    process (kept_by r) (stored_units (contents_of (stored_of r.state.transfers x.owner id)))
+    (unwrap_or (plan_kept r.prepared) []) r.state x id
+
+-- the stored state after the next unit, where there is one
+abbrev pub unit_stored : Readied → Bool → Option State
+unit_stored r passed =
+    option_and_then (λ x. work_on (kept_by r) (process_stored r x) r.state x passed r.state.status) r.state.session
+
+-- the stored state after work that gave this answer: with the unit and its line
+abbrev pub state_worked : Readied → Worked → State
+state_worked r (Unit passed after) = option_map_or (with_entry (UnitAfter after)) (unit_stored r passed) r.state
+state_worked r (Nothing status) = r.state
+
+-- work was done: the answer and the node are the definition's, and the node is sound
+pub record IsWorked (old : Holding) (fails : List (List ℕ)) (worked : Worked) (new : Holding) : Type 0 where
+  pub answer : worked ≡ answer_to fails (node_of old)
+  pub node : node_of new ≡ after_work fails (node_of old)
+  pub sound : IsSound new
+
 -- the cluster that would run
 abbrev pub planned_of : Lent → Cluster Extent
 planned_of c = record { name = c.name.now; version = c.version.now; needs = c.needs.now; content = c.content }
@@ -117,19 +145,20 @@ abbrev pub side_of : Extent → Area
 side_of extent = Side extent.place extent.side
 
 -- the unit that comes next: of the package in processing, behind the units done
-pub record IsUnitOf (v : Holding) (n : NextUnit) : Type 0 where
+pub record IsUnitOf (s : State) (n : NextUnit) : Type 0 where
   pub x : SessionOf Extent
   pub id : ℕ
   pub transfer : StoredTransfer
-  pub session : v.state.session ≡ Some x
+  pub session : s.session ≡ Some x
   pub processing : x.processing ≡ Some id
-  pub stored : stored_of v.state.transfers x.owner id ≡ Some transfer
+  pub stored : stored_of s.transfers x.owner id ≡ Some transfer
   pub slot : n.slot ≡ transfer.slot
   pub done : n.done ≡ x.units_done
-  pub extents : n.extents.items ≡ extents_in v.state transfer
+  pub extents : n.extents.items ≡ extents_in s transfer
   pub changes : option_map (λ v. v.items) n.changes
-      ≡ changes_due x.units_done id transfer.contents (extents_in v.state transfer)
+      ≡ changes_due x.units_done id transfer.contents (extents_in s transfer)
 
-abbrev pub IsNextUnit : Holding → Option NextUnit → Type 0
-IsNextUnit v None = ⊥
-IsNextUnit v (Some n) = IsUnitOf v n
+-- there is none where no package is in processing
+abbrev pub IsNextUnit : State → Option NextUnit → Type 0
+IsNextUnit s None = IfSome s.session (λ x. IfSome x.processing (λ id. stored_of s.transfers x.owner id ≡ None))
+IsNextUnit s (Some n) = IsUnitOf s n

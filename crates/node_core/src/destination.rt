@@ -4,47 +4,42 @@ ghost use Rattle.ucm_base.specs.Limits.{cluster_limit};
 ghost use Rattle.transfer_blocks.specs.Table.{is_free, lowest_free};
 ghost use Rattle.node_core.specs.Places.{extent_of, extents_of, running_at, taken_in};
 
-use crate::held::Held;
 use crate::session_rules::cluster_at;
-use pm_types::{Change, Cluster, Extent};
+use pm_types::{Change, Cluster, Extent, State};
 use std::alloc::{AllocError, Global};
-use transfer_blocks::Staging;
 use ucm_base::limits::CLUSTER_LIMIT;
 use ucm_base::{Action, ClusterName, Part};
 
-impl<S: Staging> Held<S> {
-    /// Where the payloads of parts go, in order: for the parts behind it a part counts as planned.
-    pub(crate) fn extents(
-        &self,
-        alloc: Global,
-        parts: &[Part<u32>],
-    ) -> Result<Vec<Extent>, AllocError>
-        ensures { IfOk result (λ extents. extents.items
-            ≡ extents_of self.now.state.running (taken_in self.now.state) parts.now) }
-    {
-        let mut taken = self.taken(alloc)?;
-        let mut extents = Vec::new(alloc);
-        for part in parts {
-            let extent = extent_of(self.state.running.as_slice(), taken.as_slice(), part);
-            taken.push(extent.place)?;
-            extents.push(extent)?;
-        }
-        Ok(extents)
+/// Where the payloads of parts go, in order: for the parts behind it a part counts as planned.
+pub(crate) fn extents(
+    alloc: Global,
+    state: &State,
+    parts: &[Part<u32>],
+) -> Result<Vec<Extent>, AllocError>
+    ensures { IfOk result (λ extents. extents.items
+        ≡ extents_of state.now.running (taken_in state.now) parts.now) }
+{
+    let mut taken = taken(alloc, state)?;
+    let mut extents = Vec::new(alloc);
+    for part in parts {
+        let extent = extent_of(state.running.as_slice(), taken.as_slice(), part);
+        taken.push(extent.place)?;
+        extents.push(extent)?;
     }
+    Ok(extents)
+}
 
-    /// The places that running clusters, saved clusters and planned changes have.
-    #[tactic(auto, using(crate::proofs::Free::taken_none, crate::proofs::Free::taken_some))]
-    fn taken(&self, alloc: Global) -> Result<Vec<u8>, AllocError>
-        ensures { IfOk result (λ taken. taken.items ≡ taken_in self.now.state) }
-    {
-        let state = &self.state;
-        let mut taken = places(alloc, state.running.as_slice())?;
-        if let Some(session) = &state.session {
-            taken.append(&mut places(alloc, session.saved.as_slice())?)?;
-            taken.append(&mut planned_places(alloc, session.changes.as_slice())?)?;
-        }
-        Ok(taken)
+/// The places that running clusters, saved clusters and planned changes have.
+#[tactic(auto, using(crate::proofs::Free::taken_none, crate::proofs::Free::taken_some))]
+fn taken(alloc: Global, state: &State) -> Result<Vec<u8>, AllocError>
+    ensures { IfOk result (λ taken. taken.items ≡ taken_in state.now) }
+{
+    let mut taken = places(alloc, state.running.as_slice())?;
+    if let Some(session) = &state.session {
+        taken.append(&mut places(alloc, session.saved.as_slice())?)?;
+        taken.append(&mut planned_places(alloc, session.changes.as_slice())?)?;
     }
+    Ok(taken)
 }
 
 /// The places of clusters.

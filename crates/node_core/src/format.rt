@@ -1,42 +1,48 @@
 //! A node that begins with installed clusters.
-ghost use Rattle.std.specs.Prelude.{◌≡◌, ◌≤◌, ◌<◌, ◌++◌, ◌∷◌, [], length, map, IfOk, OnOk, IsErrOf, IsTrue};
+ghost use Rattle.std.specs.Prelude.{◌≡◌, ◌≤◌, ◌++◌, ◌∷◌, [], length, map, IfOk, OnOk, IsErrOf, IsTrue, is_ok};
 ghost use Rattle.std.specs.List.{AllByRecursion};
 ghost use Rattle.ucm_base.specs.Limits.{cluster_limit, package_limit};
 ghost use Rattle.ucm_base.specs.Names.{all_differ};
 ghost use Rattle.pm_types.specs.Histories.{formatted};
-ghost use Rattle.pm_types.specs.Stored.{meaning};
-ghost use Rattle.transfer_blocks.specs.declared.area.Area.TheVariants.{Side};
-ghost use Rattle.transfer_blocks.specs.Areas.{content_of, no_contents, with_content};
+ghost use Rattle.pm_types.specs.Stored.{Areas, meaning};
+ghost use Rattle.transfer_blocks.specs.Areas.{AreasFit};
 ghost use Rattle.fault_count.specs.Faults.{HasRisen};
-ghost use Rattle.node_core.specs.Core.{IsSound, holding};
-ghost use Rattle.node_core.specs.Format.{AreInstalled, in_order, named_before, placed};
 ghost use Rattle.node_core.specs.Packages.{package_reading};
+ghost use Rattle.node_core.specs.Core.{IsSound, holding};
+ghost use Rattle.node_core.specs.Format.{Formats, IsFormatted, in_order, named_before, placed, placed_from, with_installed};
 
 use crate::node::ReserveError;
 use pm_types::{Cluster, Clusters, Extent, State};
 use std::alloc::{AllocError, Global};
-use transfer_blocks::{Area, Staging, StagingError};
+use transfer_blocks::{Area, Staging};
 use ucm_base::{Block, ClusterName};
 
 /// A cluster that a node begins with, and its bytes.
 pub type Installed = Cluster<Block>;
 
 /// The state of a node that begins with these clusters and has done nothing. Each one's bytes are put to the first side
-/// of its place; the places go from 0 up by rising names.
+/// of its place; the places go from 0 up by rising names. What the areas held before doesn't matter, and after an error
+/// only first sides may hold other bytes.
 pub fn format_areas<S: Staging>(
     alloc: Global,
     staging: &mut S,
     installed: Vec<Installed>,
 ) -> Result<State, ReserveError>
-    requires empty { S.areas staging.old ≡ no_contents }
+    requires fit { S.is_fit staging.old }
     requires differ { IsTrue (all_differ (map (λ c. c.name) installed.items)) }
     requires few { length installed.items ≤ cluster_limit }
     requires short { AllByRecursion (λ c. length c.content ≤ package_limit) installed.items }
     ensures node { IfOk result (λ s. meaning package_reading (S.areas staging.new) s
         ≡ formatted (in_order installed.items)) }
     ensures sound { IfOk result (λ s.
-        IsSound (holding (S.areas staging.new) (S.fault_count staging.new) s)) }
+        IsSound (holding (S.areas staging.new) s)) }
+    ensures holds { IfOk result (λ s. (held : Areas) → AreasFit held
+        → IsFormatted (in_order installed.items) held s) }
+    // What was done to the staging: with the clause above it holds of each image of a device.
+    ensures formats { Formats S.obeys (in_order installed.items) (is_ok result)
+        staging.old staging.new }
     ensures entries { IfOk result (λ s. s.entries ≡ 0) }
+    ensures fit { S.is_fit staging.new }
     ensures cause { IsErrOf result ReserveError.StagingFailed
         → HasRisen (S.fault_count staging.old) (S.fault_count staging.new) }
     ensures faults { S.fault_count staging.old ≤ S.fault_count staging.new }
@@ -77,11 +83,14 @@ fn install<S: Staging>(
     staging: &mut S,
     clusters: Vec<Installed>,
 ) -> Result<Clusters, ReserveError>
-    requires empty { S.areas staging.old ≡ no_contents }
+    requires fit { S.is_fit staging.old }
     requires few { length clusters.items ≤ cluster_limit }
     requires short { AllByRecursion (λ c. length c.content ≤ package_limit) clusters.items }
-    ensures installed { IfOk result (λ running.
-        AreInstalled (S.areas staging.new) running clusters.items) }
+    ensures placed { IfOk result (λ running. running ≡ placed_from 0 clusters.items) }
+    ensures areas { IfOk result (λ _. S.areas staging.new
+        ≡ with_installed clusters.items (S.areas staging.old)) }
+    ensures formats { Formats S.obeys clusters.items (is_ok result) staging.old staging.new }
+    ensures fit { S.is_fit staging.new }
     ensures cause { IsErrOf result ReserveError.StagingFailed
         → HasRisen (S.fault_count staging.old) (S.fault_count staging.new) }
     ensures faults { S.fault_count staging.old ≤ S.fault_count staging.new }
@@ -89,24 +98,11 @@ fn install<S: Staging>(
     let mut running = Vec::with_capacity(alloc, clusters.len())?;
     for cluster in clusters {
         let place = running.len() as u8;
-        put(staging, place, cluster.content.as_slice())?;
+        let bytes = cluster.content.as_slice();
+        staging.put(Area::Side { place, side: 0 }, 0, bytes)?;
         add(&mut running, place, cluster)?;
     }
     Ok(Clusters::of(running))
-}
-
-/// Puts a cluster's bytes to the first side of a place where nothing lies.
-fn put<S: Staging>(staging: &mut S, place: u8, bytes: &[u8]) -> Result<(), StagingError>
-    requires place { place < cluster_limit }
-    requires empty { content_of (Side place 0) (S.areas staging.old) ≡ [] }
-    requires short { length bytes.now ≤ package_limit }
-    ensures put { OnOk result
-        (S.areas staging.new ≡ with_content (Side place 0) bytes.now (S.areas staging.old)) }
-    ensures cause { IsErrOf result StagingError.Failed
-        → HasRisen (S.fault_count staging.old) (S.fault_count staging.new) }
-    ensures faults { S.fault_count staging.old ≤ S.fault_count staging.new }
-{
-    staging.put(Area::Side { place, side: 0 }, 0, bytes)
 }
 
 /// Adds a cluster whose bytes lie on the first side of the place.

@@ -15,13 +15,14 @@ ghost use Rattle.node_core.specs.Packages.{package_reading};
 mod copying;
 mod destination;
 mod format;
-mod held;
 mod node;
 mod opening;
 mod plan;
 mod prepared;
-mod process;
 mod query;
+mod ready;
+mod replies;
+mod reserving;
 mod session_rules;
 mod sessions;
 mod transfers;
@@ -30,6 +31,7 @@ mod units;
 pub use format::{Installed, format_areas};
 pub use node::{Core, ReserveError};
 pub use prepared::Prepared;
+pub use ready::Ready;
 
 /// What the laws of nodes and campaigns ask of a reading holds of that of software packages.
 pub fn packages_have_parts()

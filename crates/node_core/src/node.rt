@@ -1,15 +1,17 @@
 //! A node in memory.
-ghost use Rattle.std.specs.Prelude.{◌≡◌, ◌<◌, ◌≤◌, ◌+◌, ◌↔◌, false, OnOk, IsErrOf};
+ghost use Rattle.std.specs.Prelude.{◌≡◌, ◌<◌, ◌≤◌, ◌+◌, ◌↔◌, false, OnOk, IsErrOf, is_ok};
 ghost use Rattle.pm_types.specs.NodeState.{is_working};
 ghost use Rattle.ucm_base.specs.Limits.{entry_limit};
 ghost use Rattle.fault_count.specs.Faults.{HasRisen};
 ghost use Rattle.node_laws.specs.Fit.{IsFit};
 ghost use Rattle.node_core.specs.Packages.{package_reading};
-ghost use Rattle.node_core.specs.Core.{IsReserved, IsSound, holding, node_of, step_by};
-ghost use Rattle.node_core.specs.Units.{IsReservedWork, after_work, answer_to};
+ghost use Rattle.node_core.specs.Core.{IsReserved, IsSound, holding, node_of, over, state_after, step_by, under};
+ghost use Rattle.node_core.specs.Reserves.{Brings, Copies, Reserves};
+ghost use Rattle.node_core.specs.Units.{IsReservedWork, after_work, answer_to, state_worked};
 
-use crate::held::Held;
-use crate::prepared::Prepared;
+use crate::copying::reserve_unit;
+use crate::ready::Ready;
+use crate::reserving::prepare;
 use pm_types::{Call, Reached, State, Status, Worked};
 use std::alloc::{AllocError, Global};
 use std::marker::Model;
@@ -49,34 +51,64 @@ impl From<StagingError> for ReserveError {
     }
 }
 
-/// A node, seen as its stored state, its areas, and what is ready for the next call.
+/// A staging, and the node whose areas it keeps.
+#[derive(Drop)]
+pub(crate) struct Held<S: Staging> {
+    pub(crate) staging: S,
+    pub(crate) ready: Ready,
+}
+
+/// A node that keeps its areas in a staging, and what is ready for its next call or unit.
 #[derive(Drop)]
 pub struct Core<S: Staging> {
     pub(crate) held: Held<S>,
 }
 
 impl<S: Staging> Model for Core<S> {
-    ghost use Rattle.node_core.specs.Core.{Holding, IsSound};
+    ghost use Rattle.node_core.specs.Core.{IsSound, Owning, over};
 
-    ghost Value = { Holding };
+    ghost Value = { Owning S };
 
-    ghost view = { λ c. c.held };
+    ghost view = { λ c. record {
+      staging = c.held.staging;
+      held = over (S.areas c.held.staging) c.held.ready;
+    } };
 
-    ghost invariant = { λ c. IsSound c.held };
+    ghost invariant = { λ c. IsSound (over (S.areas c.held.staging) c.held.ready)
+        × S.is_fit c.held.staging };
 }
 
 impl<S: Staging> Core<S> {
     /// A node that goes on from this state. It takes no memory.
     pub fn new(staging: S, state: State) -> Core<S>
-        requires { IsSound (holding (S.areas staging) (S.fault_count staging) state) }
-        ensures { result ≡ holding (S.areas staging) (S.fault_count staging) state }
+        requires sound { IsSound (holding (S.areas staging) state) }
+        requires fit { S.is_fit staging }
+        ensures { result ≡ record {
+          staging = staging;
+          held = holding (S.areas staging) state;
+        } }
     {
-        let held = Held {
-            staging,
-            state,
-            prepared: Prepared::Nothing,
-        };
+        let ready = Ready::of(state);
+        let held = Held { staging, ready };
         Core { held }
+    }
+
+    /// The staging and the state, as where nothing was reserved. It takes no memory.
+    pub fn parts(self) -> (S, State)
+        ensures parts { result ≡ (self.staging, self.held.state) }
+        ensures sound { IsSound (holding (S.areas result.0) result.1) }
+        ensures fit { S.is_fit result.0 }
+    {
+        (self.held.staging, self.held.ready.into_state())
+    }
+
+    /// The staging, and the state with what a reserve took. It takes no memory.
+    pub fn ready(self) -> (S, Ready)
+        ensures parts { result ≡ (self.staging, under self.held) }
+        ensures sound { IsSound (over (S.areas result.0) result.1) }
+        ensures fit { S.is_fit result.0 }
+    {
+        (self.held.staging, self.held.ready)
     }
 
     /// Takes all memory that the call needs, stages a block that the table accepts behind the bytes that came, and
@@ -88,69 +120,138 @@ impl<S: Staging> Core<S> {
         no: CallNo,
         call: &Call,
     ) -> Result<(), ReserveError>
-        ensures state { self.new.state ≡ self.old.state }
-        ensures node { node_of self.new ≡ node_of self.old }
-        ensures reserved { OnOk result (IsReserved self.new client no call.now) }
+        ensures state { self.new.held.state ≡ self.old.held.state }
+        ensures node { node_of self.new.held ≡ node_of self.old.held }
+        ensures reserved { OnOk result (IsReserved self.new.held client no call.now) }
+        // What was done to the staging, so that it holds of each image of a device, too.
+        ensures reserves { Reserves S.obeys S.areas self.old.held.state
+            (Brings self.old.held.state client call.now)
+            (λ held. IsReserved (over held (under self.new.held)) client no call.now)
+            (is_ok result) self.old.staging self.new.staging }
         ensures cause { IsErrOf result ReserveError.StagingFailed
-            → HasRisen self.old.faults self.new.faults }
-        ensures faults { self.old.faults ≤ self.new.faults }
+            → HasRisen (S.fault_count self.old.staging) (S.fault_count self.new.staging) }
+        ensures faults { S.fault_count self.old.staging ≤ S.fault_count self.new.staging }
     {
-        if self.held.repeated(client, no).is_some() {
-            return Ok(());
-        }
-        match call {
-            Call::TransferData { id, counter, bytes } => {
-                self.held.stage(client, *id, *counter, bytes.as_slice())
-            }
-            Call::TransferExit { id } => self.held.read(alloc, client, *id),
-            Call::ProcessSwPackage { id, tag } => self.held.open(alloc, client, *id, *tag),
-            Call::Activate => self.held.look(alloc, client),
-            _ => Ok(()),
-        }
+        self.held.reserve(alloc, client, no, call)
+    }
+
+    /// What `exec` would give of a call that was reserved. It takes no memory and changes nothing.
+    pub fn foresee(&self, client: ClientId, no: CallNo, call: &Call) -> Reached
+        requires reserved { IsReserved self.now.held client no call.now }
+        requires entries { self.now.held.state.entries < entry_limit }
+        ensures reached { result ≡ (step_by self.now.held client no call.now).1 }
+    {
+        self.held.ready.foresee(client, no, call)
     }
 
     /// Executes a numbered call after `reserve` of the same. It takes no memory.
     pub fn exec(&mut self, client: ClientId, no: CallNo, call: &Call) -> Reached
-        requires reserved { IsReserved self.old client no call.now }
-        requires entries { self.old.state.entries < entry_limit }
-        ensures reached { result ≡ (step_by self.old client no call.now).1 }
-        ensures node { node_of self.new ≡ (step_by self.old client no call.now).0 }
-        ensures valid { IsFit package_reading (node_of self.new) }
-        ensures faults { self.new.faults ≡ self.old.faults }
-        ensures entries { self.new.state.entries ≤ self.old.state.entries + 1 }
+        requires reserved { IsReserved self.old.held client no call.now }
+        requires entries { self.old.held.state.entries < entry_limit }
+        ensures reached { result ≡ (step_by self.old.held client no call.now).1 }
+        ensures node { node_of self.new.held ≡ (step_by self.old.held client no call.now).0 }
+        ensures state { self.new.held.state
+            ≡ state_after (under self.old.held) client no call.now result }
+        ensures valid { IsFit package_reading (node_of self.new.held) }
+        ensures staging { self.new.staging ≡ self.old.staging }
+        ensures entries { self.new.held.state.entries ≤ self.old.held.state.entries + 1 }
     {
-        match self.held.repeated(client, no) {
-            Some(reached) => reached,
-            None => Reached::Done(self.held.execute(client, no, call)),
-        }
+        self.held.ready.exec(client, no, call)
     }
 
     /// Takes all memory that the next unit of work needs, and copies what it brings of a package. The node stays as
     /// it is.
     pub fn reserve_work(&mut self, alloc: Global) -> Result<(), ReserveError>
-        ensures state { self.new.state ≡ self.old.state }
-        ensures node { node_of self.new ≡ node_of self.old }
-        ensures reserved { OnOk result (IsReservedWork self.new) }
+        ensures state { self.new.held.state ≡ self.old.held.state }
+        ensures node { node_of self.new.held ≡ node_of self.old.held }
+        ensures reserved { OnOk result (IsReservedWork self.new.held) }
+        // What was done to the staging, so that it holds of each image of a device, too.
+        ensures reserves { Reserves S.obeys S.areas self.old.held.state (Copies self.old.held.state)
+            (λ held. IsReservedWork (over held (under self.new.held)))
+            (is_ok result) self.old.staging self.new.staging }
         ensures cause { IsErrOf result ReserveError.StagingFailed
-            → HasRisen self.old.faults self.new.faults }
-        ensures faults { self.old.faults ≤ self.new.faults }
+            → HasRisen (S.fault_count self.old.staging) (S.fault_count self.new.staging) }
+        ensures faults { S.fault_count self.old.staging ≤ S.fault_count self.new.staging }
     {
         self.held.reserve_work(alloc)
+    }
+
+    /// What `work` would answer of a unit that was reserved. It takes no memory and changes nothing.
+    pub fn foresee_work(&self, fails: &[ClusterName]) -> Worked
+        requires reserved { IsReservedWork self.now.held }
+        requires entries { self.now.held.state.entries < entry_limit }
+        ensures answer { result ≡ answer_to fails.now (node_of self.now.held) }
+    {
+        self.held.ready.foresee_work(fails)
     }
 
     /// Does the next unit of work after `reserve_work`, where clusters of these names fail when they are verified. It
     /// takes no memory.
     pub fn work(&mut self, fails: &[ClusterName]) -> Worked
-        requires reserved { IsReservedWork self.old }
-        requires entries { self.old.state.entries < entry_limit }
-        ensures answer { result ≡ answer_to fails.now (node_of self.old) }
-        ensures nothing { (result ≡ Worked.Nothing self.old.state.status)
-            ↔ (is_working self.old.state.status ≡ false) }
-        ensures node { node_of self.new ≡ after_work fails.now (node_of self.old) }
-        ensures valid { IsFit package_reading (node_of self.new) }
-        ensures faults { self.new.faults ≡ self.old.faults }
-        ensures entries { self.new.state.entries ≤ self.old.state.entries + 1 }
+        requires reserved { IsReservedWork self.old.held }
+        requires entries { self.old.held.state.entries < entry_limit }
+        ensures answer { result ≡ answer_to fails.now (node_of self.old.held) }
+        ensures nothing { (result ≡ Worked.Nothing self.old.held.state.status)
+            ↔ (is_working self.old.held.state.status ≡ false) }
+        ensures node { node_of self.new.held ≡ after_work fails.now (node_of self.old.held) }
+        ensures state { self.new.held.state ≡ state_worked (under self.old.held) result }
+        ensures valid { IsFit package_reading (node_of self.new.held) }
+        ensures staging { self.new.staging ≡ self.old.staging }
+        ensures entries { self.new.held.state.entries ≤ self.old.held.state.entries + 1 }
     {
-        self.held.work(fails)
+        self.held.ready.work(fails)
+    }
+}
+
+impl<S: Staging> Held<S> {
+    fn reserve(
+        &mut self,
+        alloc: Global,
+        client: ClientId,
+        no: CallNo,
+        call: &Call,
+    ) -> Result<(), ReserveError>
+        requires sound { IsSound (over (S.areas self.old.staging) self.old.ready) }
+        requires fit { S.is_fit self.old.staging }
+        ensures state { self.new.ready.state ≡ self.old.ready.state }
+        ensures reserves { Reserves S.obeys S.areas self.old.ready.state
+            (Brings self.old.ready.state client call.now)
+            (λ held. IsReserved (over held self.new.ready) client no call.now)
+            (is_ok result) self.old.staging self.new.staging }
+        ensures fit { S.is_fit self.new.staging }
+        ensures cause { IsErrOf result ReserveError.StagingFailed
+            → HasRisen (S.fault_count self.old.staging) (S.fault_count self.new.staging) }
+        ensures faults { S.fault_count self.old.staging ≤ S.fault_count self.new.staging }
+    {
+        if self.ready.repeated(client, no).is_some() {
+            return Ok(());
+        }
+        let prepared = prepare(alloc, &mut self.staging, &self.ready, client, call)?;
+        self.ready.prepared = prepared;
+        Ok(())
+    }
+
+    fn reserve_work(&mut self, alloc: Global) -> Result<(), ReserveError>
+        requires sound { IsSound (over (S.areas self.old.staging) self.old.ready) }
+        requires fit { S.is_fit self.old.staging }
+        ensures state { self.new.ready.state ≡ self.old.ready.state }
+        ensures reserves { Reserves S.obeys S.areas self.old.ready.state
+            (Copies self.old.ready.state)
+            (λ held. IsReservedWork (over held self.new.ready))
+            (is_ok result) self.old.staging self.new.staging }
+        ensures fit { S.is_fit self.new.staging }
+        ensures cause { IsErrOf result ReserveError.StagingFailed
+            → HasRisen (S.fault_count self.old.staging) (S.fault_count self.new.staging) }
+        ensures faults { S.fault_count self.old.staging ≤ S.fault_count self.new.staging }
+    {
+        match self.ready.state.status {
+            Status::Processing => {
+                let state = &self.ready.state;
+                let prepared = reserve_unit(alloc, &mut self.staging, state)?;
+                self.ready.prepared = prepared;
+                Ok(())
+            }
+            _ => Ok(self.ready.reserve_clusters(alloc)?),
+        }
     }
 }

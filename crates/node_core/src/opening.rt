@@ -1,88 +1,81 @@
 //! What is made ready before a session begins, and before its changes are activated.
-ghost use Rattle.std.specs.Prelude.{◌≡◌, map, option_map, IfOk, OnOk, IsErrOf};
+ghost use Rattle.std.specs.Prelude.{◌≡◌, map, option_map, IfOk};
 ghost use Rattle.pm_types.specs.declared.calls.Call.TheVariants.{Activate, ProcessSwPackage};
 ghost use Rattle.pm_types.specs.Clusters.{planned, unmet_among};
-ghost use Rattle.pm_types.specs.Sessions.{activate_refusal};
+ghost use Rattle.pm_types.specs.Sessions.{activate_refusal, new_session};
 ghost use Rattle.dependency_check.specs.Clusters.{needing};
-ghost use Rattle.fault_count.specs.Faults.{HasRisen};
-ghost use Rattle.node_core.specs.Core.{IsKept, IsReady, IsSound, node_of};
+ghost use Rattle.pm_types.specs.Stored.{Areas};
+ghost use Rattle.node_core.specs.Core.{IsReady, IsSound, over};
 ghost use Rattle.node_core.specs.Units.{planned_of};
-ghost use Rattle.node_core.specs.Sessions.{missing_dependencies, needing_of, opened};
+ghost use Rattle.node_core.specs.Sessions.{missing_dependencies, needing_of};
 
-use crate::held::Held;
-use crate::node::ReserveError;
 use crate::plan::{Planned, plan};
 use crate::prepared::Prepared;
+use crate::ready::Ready;
+use crate::sessions::session_refusal;
 use dependency_check::{Needing, missing};
-use pm_types::{Call, Change, Changes, Clusters, Extent, Refusal, Session};
+use pm_types::{Call, Change, Changes, Clusters, Extent, Refusal, Session, State};
 use std::alloc::{AllocError, Global};
-use transfer_blocks::Staging;
 use ucm_base::ClientId;
 
-impl<S: Staging> Held<S> {
-    /// Makes the session ready that a package begins, where none is there.
+impl Ready {
+    /// The session that a package begins, where none is there.
     pub(crate) fn open(
-        &mut self,
+        &self,
         alloc: Global,
         client: ClientId,
         id: u32,
         tag: u32,
-    ) -> Result<(), ReserveError>
-        requires sound { IsSound self.old }
-        ensures kept { IsKept self.old self.new }
-        ensures ready { OnOk result (IsReady self.new client (ProcessSwPackage id tag)) }
-        ensures cause { IsErrOf result ReserveError.StagingFailed
-            → HasRisen self.old.faults self.new.faults }
-    {
-        if self.state.session.is_some() || self.processing(client, id, tag).is_err() {
-            return Ok(());
-        }
-        self.prepared = Prepared::Session(self.opened(alloc, client, tag)?);
-        Ok(())
-    }
-
-    /// Makes what refuses an activation ready, where the session and the table let it pass.
-    pub(crate) fn look(&mut self, alloc: Global, client: ClientId) -> Result<(), ReserveError>
-        requires sound { IsSound self.old }
-        ensures kept { IsKept self.old self.new }
-        ensures ready { OnOk result (IsReady self.new client Activate) }
-        ensures cause { IsErrOf result ReserveError.StagingFailed
-            → HasRisen self.old.faults self.new.faults }
-    {
-        if self.goal(client, &Call::Activate).is_err() {
-            return Ok(());
-        }
-        self.prepared = Prepared::Unmet(self.find_unmet(alloc)?);
-        Ok(())
-    }
-
-    /// What refuses the planned clusters.
-    fn find_unmet(&self, alloc: Global) -> Result<Option<Refusal>, AllocError>
-        ensures { IfOk result (λ why. why ≡ activate_refusal (node_of self.now)) }
+    ) -> Result<Prepared, AllocError>
+        ensures { IfOk result (λ p. (areas : Areas) → IsSound (over areas self.now)
+            → IsReady (over areas (record self.now { prepared = p })) client
+            (ProcessSwPackage id tag)) }
     {
         let state = &self.state;
-        match &state.session {
-            Some(session) => unmet_refusal(alloc, &session.saved, session.changes.as_slice()),
-            None => unmet_refusal(alloc, &state.running, &[]),
+        if state.session.is_some() || self.process_refusal(client, id, tag).is_some() {
+            return Ok(Prepared::Nothing);
         }
+        Ok(Prepared::Session(begin(alloc, state, client, tag)?))
     }
 
-    /// A session that begins on the running clusters.
-    fn opened(&self, alloc: Global, client: ClientId, tag: u32) -> Result<Session, AllocError>
-        ensures { IfOk result (λ x. x ≡ opened self.now.state.running client tag) }
+    /// What refuses an activation, where the session and the table let it pass.
+    pub(crate) fn look(&self, alloc: Global, client: ClientId) -> Result<Prepared, AllocError>
+        ensures { IfOk result (λ p. (areas : Areas) → IsSound (over areas self.now)
+            → IsReady (over areas (record self.now { prepared = p })) client Activate) }
     {
         let state = &self.state;
-        Ok(Session {
-            owner: client,
-            tag,
-            saved: state.running.copied(alloc)?,
-            changes: Changes::new(alloc)?,
-            processing: None,
-            units_done: 0,
-            verified: 0,
-            outcome: None,
-        })
+        if session_refusal(state, client, &Call::Activate).is_some() {
+            return Ok(Prepared::Nothing);
+        }
+        let why = find_unmet(alloc, state)?;
+        Ok(Prepared::Unmet(why))
     }
+}
+
+/// What refuses the planned clusters.
+fn find_unmet(alloc: Global, state: &State) -> Result<Option<Refusal>, AllocError>
+    ensures { IfOk result (λ why. why ≡ activate_refusal state.now) }
+{
+    match &state.session {
+        Some(session) => unmet_refusal(alloc, &session.saved, session.changes.as_slice()),
+        None => unmet_refusal(alloc, &state.running, &[]),
+    }
+}
+
+/// A session that begins on the running clusters.
+fn begin(alloc: Global, state: &State, client: ClientId, tag: u32) -> Result<Session, AllocError>
+    ensures { IfOk result (λ x. x ≡ new_session state.now client tag) }
+{
+    Ok(Session {
+        owner: client,
+        tag,
+        saved: state.running.copied(alloc)?,
+        changes: Changes::new(alloc)?,
+        processing: None,
+        units_done: 0,
+        verified: 0,
+        outcome: None,
+    })
 }
 
 /// The refusal of the clusters that would run after changes, where they leave a need unmet.

@@ -1,11 +1,16 @@
 //! The clusters that would run after the planned changes.
-ghost use Rattle.std.specs.Prelude.{◌≡◌, filter, map, not, IfOk};
+ghost use Rattle.std.specs.Prelude.{◌≡◌, ◌≢◌, filter, map, not, IfOk, OnOk};
 ghost use Rattle.std.specs.Str.{bytes_eq};
 ghost use Rattle.ucm_base.specs.Names.{name_lt};
 ghost use Rattle.pm_types.specs.Clusters.{brought, changed_by, planned, with_cluster};
-ghost use Rattle.node_core.specs.Units.{planned_of};
+ghost use Rattle.node_core.specs.Core.{over};
+ghost use Rattle.node_core.specs.Units.{IsReservedWork, planned_of};
+ghost use Rattle.pm_types.specs.Stored.{Areas};
+ghost use Rattle.pm_types.specs.declared.status.Status.TheVariants.{Processing};
 
-use pm_types::{Change, Cluster, Clusters, Extent, Session};
+use crate::prepared::Prepared;
+use crate::ready::Ready;
+use pm_types::{Change, Cluster, Clusters, Extent, Session, Status};
 use std::alloc::{AllocError, Global};
 use ucm_base::{Action, ClusterName, Needs, Part, VersionText};
 
@@ -161,4 +166,25 @@ fn without<'a>(
         .filter(|other| other.name != name)
         .copied()
         .collect(alloc)
+}
+
+impl Ready {
+    /// Makes ready the clusters that run after the next unit, where it changes them.
+    pub(crate) fn reserve_clusters(&mut self, alloc: Global) -> Result<(), AllocError>
+        ensures state { self.new.state ≡ self.old.state }
+        ensures ready { OnOk result (self.old.state.status ≢ Processing
+            → (areas : Areas) → IsReservedWork (over areas self.new)) }
+    {
+        let state = &self.state;
+        let Some(session) = &state.session else {
+            return Ok(());
+        };
+        let clusters = match state.status {
+            Status::Activating => planned_clusters(alloc, session)?,
+            Status::RollingBack => session.saved.copied(alloc)?,
+            _ => return Ok(()),
+        };
+        self.prepared = Prepared::Clusters(clusters);
+        Ok(())
+    }
 }

@@ -1,6 +1,7 @@
 //! What is made ready before a call or a unit, so that making it takes no memory.
 ghost use Rattle.std.specs.Prelude.{◌≡◌, None, option_map, unwrap_or};
 ghost use Rattle.node_core.specs.Prepared.{session_kept, unmet_kept, verdict_in, verdict_kept};
+ghost use Rattle.transfer_blocks.specs.Table.{bad_refusal};
 ghost use Rattle.node_core.specs.Units.{clusters_kept, plan_kept};
 
 use pm_types::{Change, Clusters, ExitVerdict, Extent, Refusal, Session};
@@ -40,6 +41,17 @@ impl Prepared {
         match mem::replace(self, Prepared::Nothing) {
             Prepared::Verdict(verdict) => verdict,
             _ => ExitVerdict::Bad(Refusal::InvalidManifest),
+        }
+    }
+
+    /// What the bytes are refused with by the verdict that is ready, if they are.
+    pub(crate) fn bad(&self) -> Option<Refusal>
+        ensures { result ≡ bad_refusal (verdict_in (verdict_kept self.now)) }
+    {
+        match self {
+            Prepared::Verdict(ExitVerdict::Good(_)) => None,
+            Prepared::Verdict(ExitVerdict::Bad(refusal)) => Some(*refusal),
+            _ => Some(Refusal::InvalidManifest),
         }
     }
 

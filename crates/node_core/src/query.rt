@@ -3,12 +3,11 @@ ghost use Rattle.std.specs.Prelude.{◌≡◌, IfOk};
 ghost use Rattle.pm_types.specs.declared.queries.Query.TheVariants.{GetSwProcessProgress};
 ghost use Rattle.pm_types.specs.Queries.{answer};
 ghost use Rattle.history_query.specs.Shown.{progress_answer};
-ghost use Rattle.node_core.specs.Core.{IsSound, node_of};
+ghost use Rattle.node_core.specs.Core.{AllSound, SomeSound, node_of};
 
-use crate::held::Held;
 use crate::node::Core;
 use history_query::{change_info, cluster_info, history, packages, process_progress};
-use pm_types::{Answer, Query, Refusal, Status};
+use pm_types::{Answer, Query, Refusal, State, Status};
 use std::alloc::{AllocError, Global};
 use transfer_blocks::Staging;
 use ucm_base::ClientId;
@@ -21,59 +20,60 @@ impl<S: Staging> Core<S> {
         client: ClientId,
         query: &Query,
     ) -> Result<Answer, AllocError>
-        ensures { IfOk result (λ a. a ≡ answer (node_of self.now) client query.now) }
+        ensures { IfOk result (λ a. a ≡ answer (node_of self.now.held) client query.now) }
     {
-        self.held.answer(alloc, client, query)
+        answer(alloc, &self.held.ready.state, client, query)
     }
 
     /// How much of the client's transfer is processed, in percent. It takes no memory.
     pub fn progress(&self, client: ClientId, id: u32) -> Result<u8, Refusal>
         ensures { progress_answer result
-            ≡ answer (node_of self.now) client (GetSwProcessProgress id) }
+            ≡ answer (node_of self.now.held) client (GetSwProcessProgress id) }
     {
-        self.held.progress(client, id)
+        progress(&self.held.ready.state, client, id)
     }
 
     /// The node's status.
     pub fn status(&self) -> Status
-        ensures { result ≡ (node_of self.now).status }
+        ensures { result ≡ (node_of self.now.held).status }
     {
-        self.held.state.status
+        self.held.ready.state.status
     }
 }
 
-impl<S: Staging> Held<S> {
-    fn answer(&self, alloc: Global, client: ClientId, query: &Query) -> Result<Answer, AllocError>
-        requires sound { IsSound self.now }
-        ensures { IfOk result (λ a. a ≡ answer (node_of self.now) client query.now) }
-    {
-        let state = &self.state;
-        match query {
-            Query::CurrentStatus => Ok(Answer::Status(state.status)),
-            Query::GetSwClusterInfo => Ok(Answer::Clusters(cluster_info(alloc, &state.running)?)),
-            Query::GetSwClusterChangeInfo => {
-                Ok(Answer::Changes(change_info(alloc, state.session.as_ref())?))
-            }
-            Query::GetSwPackages => {
-                let transfers = state.transfers.list.as_slice();
-                Ok(Answer::Packages(packages(alloc, transfers, client)?))
-            }
-            Query::GetSwProcessProgress { id } => Ok(shown(self.progress(client, *id))),
-            Query::GetHistory { ge, lt } => {
-                Ok(Answer::History(history(alloc, &state.lines, *ge, *lt)?))
-            }
+fn answer(
+    alloc: Global,
+    state: &State,
+    client: ClientId,
+    query: &Query,
+) -> Result<Answer, AllocError>
+    requires sound { SomeSound state.now }
+    ensures { AllSound state.now (λ node. IfOk result (λ a. a ≡ answer node client query.now)) }
+{
+    match query {
+        Query::CurrentStatus => Ok(Answer::Status(state.status)),
+        Query::GetSwClusterInfo => Ok(Answer::Clusters(cluster_info(alloc, &state.running)?)),
+        Query::GetSwClusterChangeInfo => {
+            Ok(Answer::Changes(change_info(alloc, state.session.as_ref())?))
+        }
+        Query::GetSwPackages => {
+            let transfers = state.transfers.list.as_slice();
+            Ok(Answer::Packages(packages(alloc, transfers, client)?))
+        }
+        Query::GetSwProcessProgress { id } => Ok(shown(progress(state, client, *id))),
+        Query::GetHistory { ge, lt } => {
+            Ok(Answer::History(history(alloc, &state.lines, *ge, *lt)?))
         }
     }
+}
 
-    fn progress(&self, client: ClientId, id: u32) -> Result<u8, Refusal>
-        requires sound { IsSound self.now }
-        ensures { progress_answer result
-            ≡ answer (node_of self.now) client (GetSwProcessProgress id) }
-    {
-        let state = &self.state;
-        let transfers = state.transfers.list.as_slice();
-        process_progress(transfers, state.session.as_ref(), client, id)
-    }
+fn progress(state: &State, client: ClientId, id: u32) -> Result<u8, Refusal>
+    requires sound { SomeSound state.now }
+    ensures { AllSound state.now (λ node.
+        progress_answer result ≡ answer node client (GetSwProcessProgress id)) }
+{
+    let transfers = state.transfers.list.as_slice();
+    process_progress(transfers, state.session.as_ref(), client, id)
 }
 
 /// A progress, or its refusal, as an answer.

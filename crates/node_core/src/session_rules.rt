@@ -5,10 +5,12 @@ ghost use Rattle.ucm_base.specs.Versions.{is_newer};
 ghost use Rattle.pm_types.specs.Clusters.{cluster_at, has_cluster};
 ghost use Rattle.pm_types.specs.NodeState.{some_passes};
 ghost use Rattle.pm_types.specs.Refusals.{first_refusal};
-ghost use Rattle.pm_types.specs.Sessions.{cancel_refusals, is_update, part_refusals, parts_refusal, status_table, suits};
-ghost use Rattle.node_core.specs.Sessions.{added, count_of, goal_of, has_wrong_tag, is_brought, is_planned, package_refusals};
+ghost use Rattle.pm_types.specs.Sessions.{cancel_refusals, is_update, is_wrong_tag, part_refusals, parts_refusal, status_table, suits};
+ghost use Rattle.node_core.specs.Sessions.{added, count_of, goal_of, is_brought, is_planned, package_refusals};
 
-use pm_types::{Call, Change, Cluster, Extent, Header, Outcome, Phase, Refusal, Session, Status};
+use pm_types::{
+    Call, Change, Cluster, Extent, Header, Outcome, Phase, Refusal, Session, State, Status,
+};
 use std::cmp::Ordering;
 use transfer_blocks::Found;
 use ucm_base::limits::CLUSTER_LIMIT;
@@ -64,15 +66,15 @@ pub(crate) fn cancel_refusal(found: Option<Found>) -> Option<Refusal>
 }
 
 /// Whether the tag isn't the one that the client's session has: the master has one, others have none.
-fn has_wrong_tag(session: &Option<Session>, client: ClientId, tag: u32) -> bool
-    ensures { result ≡ has_wrong_tag session.now client tag }
+fn has_wrong_tag(state: &State, client: ClientId, tag: u32) -> bool
+    ensures { result ≡ is_wrong_tag state.now client tag }
 {
     let is_wrong = if client.number() == 0 {
         tag == 0
     } else {
         tag != 0
     };
-    match session {
+    match &state.session {
         Some(session) => is_wrong || session.tag != tag,
         None => is_wrong,
     }
@@ -80,15 +82,15 @@ fn has_wrong_tag(session: &Option<Session>, client: ClientId, tag: u32) -> bool
 
 /// Why a package isn't processed, before its parts are looked at.
 pub(crate) fn package_refusal(
-    session: &Option<Session>,
+    state: &State,
     client: ClientId,
     tag: u32,
     found: Option<Found>,
 ) -> Option<Refusal>
     ensures { result ≡ first_refusal
-        (package_refusals session.now client tag (option_map (λ f. f.header) found)) }
+        (package_refusals state.now client tag (option_map (λ f. f.header) found)) }
 {
-    if has_wrong_tag(session, client, tag) {
+    if has_wrong_tag(state, client, tag) {
         return Some(Refusal::OperationNotPermitted);
     }
     let Some(found) = found else {

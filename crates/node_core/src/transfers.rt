@@ -1,115 +1,75 @@
-//! The calls that bring a package in blocks.
-ghost use Rattle.std.specs.Prelude.{◌≡◌, ◌≢◌, ◌≤◌, length, map, IfOk, OnOk, IsErrOf};
-ghost use Rattle.pm_types.specs.declared.calls.Call.TheVariants.{DeleteTransfer, TransferData, TransferExit, TransferStart};
+//! What is made ready before a block is taken, and before a transfer is closed.
+ghost use Rattle.std.specs.Prelude.{◌≡◌, ◌≢◌, ◌≤◌, is_ok, length, map, IfOk, IsErrOf};
+ghost use Rattle.pm_types.specs.declared.calls.Call.TheVariants.{TransferData, TransferExit};
 ghost use Rattle.fault_count.specs.Faults.{HasRisen};
-ghost use Rattle.node_core.specs.Core.{IsJudged, IsKept, IsReady, IsSound};
+ghost use Rattle.node_core.specs.Core.{IsReady, IsSound, holding, over};
+ghost use Rattle.node_core.specs.Reserves.{Brings, Reserves};
 ghost use Rattle.node_core.specs.Packages.{package_reading, refusal_of};
 ghost use Rattle.node_core.specs.Prepared.{IsVerdict, stored_part};
 ghost use Rattle.ucm_base.specs.Limits.{part_limit};
 
-use crate::held::Held;
 use crate::node::ReserveError;
 use crate::prepared::Prepared;
 use package_reader::{PackageError, Span, read_package};
-use pm_types::{Contents, ExitVerdict, Refusal, Reply};
+use pm_types::{Contents, ExitVerdict, Refusal, State};
 use std::alloc::{AllocError, Global};
-use transfer_blocks::{Area, Staging, find_ending, find_taking, table};
+use transfer_blocks::{Area, Staging, find_ending, find_taking};
 use ucm_base::{ClientId, Part};
 
-impl<S: Staging> Held<S> {
-    /// TransferStart.
-    pub(crate) fn start(&mut self, client: ClientId, size: u64) -> Reply
-        requires sound { IsSound self.old }
-        ensures judged { IsJudged self.old client (TransferStart size) result self.new }
-        ensures faults { self.new.faults ≡ self.old.faults }
-    {
-        let state = &mut self.state;
-        table::start(&mut state.transfers, client, size)
-    }
+/// Stages a block that the table accepts behind the bytes that came.
+pub(crate) fn stage<S: Staging>(
+    staging: &mut S,
+    state: &State,
+    client: ClientId,
+    id: u32,
+    counter: u64,
+    block: &[u8],
+) -> Result<(), ReserveError>
+    requires fit { S.is_fit staging.old }
+    requires sound { IsSound (holding (S.areas staging.old) state.now) }
+    ensures reserves { Reserves S.obeys S.areas state.now
+        (Brings state.now client (TransferData id counter block.now))
+        (λ held. IsReady (holding held state.now) client (TransferData id counter block.now))
+        (is_ok result) staging.old staging.new }
+    ensures fit { S.is_fit staging.new }
+    ensures cause { IsErrOf result ReserveError.StagingFailed
+        → HasRisen (S.fault_count staging.old) (S.fault_count staging.new) }
+    ensures faults { S.fault_count staging.old ≤ S.fault_count staging.new }
+{
+    let length = block.len() as u64;
+    let Some(found) = find_taking(&state.transfers.list, client, id, counter, length) else {
+        return Ok(());
+    };
+    let area = Area::Transfer { slot: found.slot };
+    staging.put(area, found.header.received, block)?;
+    Ok(())
+}
 
-    /// TransferData, of a block that lies behind the bytes that came.
-    pub(crate) fn block(&mut self, client: ClientId, id: u32, counter: u64, block: &[u8]) -> Reply
-        requires sound { IsSound self.old }
-        requires ready { IsReady self.old client (TransferData id counter block.now) }
-        ensures judged { IsJudged self.old client (TransferData id counter block.now)
-            result self.new }
-        ensures faults { self.new.faults ≡ self.old.faults }
-    {
-        let length = block.len() as u64;
-        let state = &mut self.state;
-        table::block(&mut state.transfers, client, id, counter, length)
-    }
-
-    /// TransferExit, by the verdict that is ready.
-    pub(crate) fn exit(&mut self, client: ClientId, id: u32) -> Reply
-        requires sound { IsSound self.old }
-        requires ready { IsReady self.old client (TransferExit id) }
-        ensures judged { IsJudged self.old client (TransferExit id) result self.new }
-        ensures faults { self.new.faults ≡ self.old.faults }
-    {
-        let verdict = self.prepared.take_verdict();
-        let state = &mut self.state;
-        table::exit(&mut state.transfers, client, id, verdict)
-    }
-
-    /// DeleteTransfer.
-    pub(crate) fn delete(&mut self, client: ClientId, id: u32) -> Reply
-        requires sound { IsSound self.old }
-        ensures judged { IsJudged self.old client (DeleteTransfer id) result self.new }
-        ensures faults { self.new.faults ≡ self.old.faults }
-    {
-        let state = &mut self.state;
-        table::delete(&mut state.transfers, client, id)
-    }
-
-    /// Stages a block that the table accepts behind the bytes that came.
-    pub(crate) fn stage(
-        &mut self,
-        client: ClientId,
-        id: u32,
-        counter: u64,
-        block: &[u8],
-    ) -> Result<(), ReserveError>
-        requires sound { IsSound self.old }
-        ensures kept { IsKept self.old self.new }
-        ensures ready { OnOk result
-            (IsReady self.new client (TransferData id counter block.now)) }
-        ensures cause { IsErrOf result ReserveError.StagingFailed
-            → HasRisen self.old.faults self.new.faults }
-    {
-        let length = block.len() as u64;
-        let state = &self.state;
-        let list = &state.transfers.list;
-        let Some(found) = find_taking(list, client, id, counter, length) else {
-            return Ok(());
-        };
-        let area = Area::Transfer { slot: found.slot };
-        self.staging.put(area, found.header.received, block)?;
-        Ok(())
-    }
-
-    /// Reads the bytes of a transfer that can be closed, and keeps what they are.
-    pub(crate) fn read(
-        &mut self,
-        alloc: Global,
-        client: ClientId,
-        id: u32,
-    ) -> Result<(), ReserveError>
-        requires sound { IsSound self.old }
-        ensures kept { IsKept self.old self.new }
-        ensures ready { OnOk result (IsReady self.new client (TransferExit id)) }
-        ensures cause { IsErrOf result ReserveError.StagingFailed
-            → HasRisen self.old.faults self.new.faults }
-    {
-        let state = &self.state;
-        let Some(found) = find_ending(&state.transfers.list, client, id) else {
-            return Ok(());
-        };
-        let area = Area::Transfer { slot: found.slot };
-        let bytes = self.staging.get(area, 0, found.header.received as usize)?;
-        self.prepared = Prepared::Verdict(verdict(alloc, bytes.as_slice())?);
-        Ok(())
-    }
+/// Reads the bytes of a transfer that can be closed, and makes ready what they are.
+pub(crate) fn read<S: Staging>(
+    alloc: Global,
+    staging: &mut S,
+    state: &State,
+    client: ClientId,
+    id: u32,
+) -> Result<Prepared, ReserveError>
+    requires fit { S.is_fit staging.old }
+    requires sound { IsSound (holding (S.areas staging.old) state.now) }
+    ensures reserves { Reserves S.obeys S.areas state.now (Brings state.now client (TransferExit id))
+        (λ held. IfOk result (λ p.
+        IsReady (over held (record { state = state.now; prepared = p })) client (TransferExit id)))
+        (is_ok result) staging.old staging.new }
+    ensures fit { S.is_fit staging.new }
+    ensures cause { IsErrOf result ReserveError.StagingFailed
+        → HasRisen (S.fault_count staging.old) (S.fault_count staging.new) }
+    ensures faults { S.fault_count staging.old ≤ S.fault_count staging.new }
+{
+    let Some(found) = find_ending(&state.transfers.list, client, id) else {
+        return Ok(Prepared::Nothing);
+    };
+    let area = Area::Transfer { slot: found.slot };
+    let bytes = staging.get(area, 0, found.header.received as usize)?;
+    Ok(Prepared::Verdict(verdict(alloc, bytes.as_slice())?))
 }
 
 /// What the bytes of a transfer are.

@@ -1,158 +1,132 @@
-//! Units of work.
-ghost use Rattle.std.specs.Prelude.{◌≡◌, ◌≢◌, ◌<◌, ◌≤◌, ◌+◌, true, false, None, OnOk, IsErrOf, option_map};
-ghost use Rattle.fault_count.specs.Faults.{HasRisen};
+//! Units of work: what the next one answers, and what it does.
+ghost use Rattle.std.specs.Prelude.{◌≡◌, ◌<◌, ◌≤◌, ◌+◌, [], Some, IfSome, if◌then◌else◌, length, nat_lt, option_map};
 ghost use Rattle.ucm_base.specs.Limits.{entry_limit};
 ghost use Rattle.ucm_base.specs.Names.{has_name};
-ghost use Rattle.pm_types.specs.declared.status.Status.TheVariants.{Activating, CleaningUp, Processing, RollingBack, Verifying};
+ghost use Rattle.pm_types.specs.declared.history.Happened.TheVariants.{Unit as UnitAfter};
+ghost use Rattle.pm_types.specs.declared.status.Status.TheVariants.{Activated, Processing, RollingBack, Verifying};
+ghost use Rattle.pm_types.specs.Clusters.{planned, stored_units};
 ghost use Rattle.pm_types.specs.Histories.{passes, unit_passes};
 ghost use Rattle.pm_types.specs.Steps.{with_entry};
-ghost use Rattle.pm_types.specs.Stored.{IsInOrder};
-ghost use Rattle.pm_types.specs.Work.{unit};
-ghost use Rattle.node_core.specs.Core.{IsKept, IsSound, node_of};
+ghost use Rattle.pm_types.specs.Stored.{Areas, meaning};
+ghost use Rattle.pm_types.specs.Work.{activate_unit, end_mark, end_session, roll_back_unit, verify_unit};
+ghost use Rattle.node_core.specs.Core.{node_of, over, table_of};
 ghost use Rattle.node_core.specs.Packages.{package_reading};
-ghost use Rattle.node_core.specs.Places.{IsCopied};
-ghost use Rattle.node_core.specs.Units.{IsReservedWork, IsUnit, after_work, answer_to};
+ghost use Rattle.node_core.specs.Sessions.{contents_of};
+ghost use Rattle.node_core.specs.Units.{AllWorkReady, IsWorked, SomeWorkReady, answer_to, clusters_kept, process_stored, state_worked, unit_stored};
+ghost use Rattle.transfer_blocks.specs.Table.{IsTable, stored_of, with_slots};
 
-use crate::held::Held;
-use crate::node::ReserveError;
-use crate::plan::planned_clusters;
-use crate::prepared::Prepared;
-use pm_types::{EndMark, Happened, Outcome, Session, Status, Worked};
-use std::alloc::{AllocError, Global};
-use transfer_blocks::{Staging, table};
+use crate::ready::Ready;
+use pm_types::{EndMark, Happened, Phase, Session, State, Status, Worked};
+use transfer_blocks::{lookup, table};
 use ucm_base::ClusterName;
 
-impl<S: Staging> Held<S> {
-    /// Makes ready what the next unit needs.
-    pub(crate) fn reserve_work(&mut self, alloc: Global) -> Result<(), ReserveError>
-        requires sound { IsSound self.old }
-        ensures kept { IsKept self.old self.new }
-        ensures ready { OnOk result (IsReservedWork self.new) }
-        ensures cause { IsErrOf result ReserveError.StagingFailed
-            → HasRisen self.old.faults self.new.faults }
+impl Ready {
+    /// Does the next unit of work, for which all is ready, where clusters of these names fail when they are verified.
+    /// It takes no memory.
+    pub fn work(&mut self, fails: &[ClusterName]) -> Worked
+        requires reserved { SomeWorkReady self.old }
+        requires entries { self.old.state.entries < entry_limit }
+        ensures worked { AllWorkReady self.old (λ v.
+            IsWorked v fails.now result (over v.areas self.new)) }
+        ensures state { self.new.state ≡ state_worked self.old result }
+        ensures entries { self.new.state.entries ≤ self.old.state.entries + 1 }
     {
-        match self.state.status {
-            Status::Processing => self.reserve_unit(alloc),
-            _ => {
-                self.reserve_clusters(alloc)?;
-                Ok(())
-            }
+        let passed = unit_passes(&self.state, fails);
+        let Some(after) = self.status_after(passed) else {
+            return nothing(&self.state);
+        };
+        self.do_unit(passed);
+        enter(&mut self.state);
+        Worked::Unit { passed, after }
+    }
+
+    /// What the next unit of work would answer.
+    pub(crate) fn foresee_work(&self, fails: &[ClusterName]) -> Worked
+        ensures { AllWorkReady self.now (λ v. result ≡ answer_to fails.now (node_of v)) }
+    {
+        let passed = unit_passes(&self.state, fails);
+        match self.status_after(passed) {
+            Some(after) => Worked::Unit { passed, after },
+            None => nothing(&self.state),
         }
     }
 
-    /// Makes ready the clusters that run after the next unit, where it changes them.
-    fn reserve_clusters(&mut self, alloc: Global) -> Result<(), AllocError>
-        requires sound { IsSound self.old }
-        ensures kept { IsKept self.old self.new }
-        ensures ready { OnOk result
-            (self.old.state.status ≢ Processing → IsReservedWork self.new) }
-        ensures faults { self.new.faults ≡ self.old.faults }
+    /// The status behind the next unit, where there is one.
+    fn status_after(&self, passed: bool) -> Option<Status>
+        ensures { result ≡ option_map (λ s. s.status) (unit_stored self.now passed) }
     {
         let state = &self.state;
         let Some(session) = &state.session else {
-            return Ok(());
+            return None;
         };
-        let clusters = match state.status {
-            Status::Activating => planned_clusters(alloc, session)?,
-            Status::RollingBack => session.saved.copied(alloc)?,
-            _ => return Ok(()),
-        };
-        self.prepared = Prepared::Clusters(clusters);
-        Ok(())
-    }
-
-    /// Does the next unit, for which all is ready, and writes its line.
-    pub(crate) fn work(&mut self, fails: &[ClusterName]) -> Worked
-        requires sound { IsSound self.old }
-        requires reserved { IsReservedWork self.old }
-        requires entries { self.old.state.entries < entry_limit }
-        ensures answer { result ≡ answer_to fails.now (node_of self.old) }
-        ensures node { node_of self.new ≡ after_work fails.now (node_of self.old) }
-        ensures order { IsInOrder package_reading self.new.areas self.new.state }
-        ensures copied { IsCopied package_reading self.new.areas self.new.state }
-        ensures faults { self.new.faults ≡ self.old.faults }
-        ensures entries { self.new.state.entries ≤ self.old.state.entries + 1 }
-    {
-        let passed = self.unit_passes(fails);
-        if !self.unit(passed) {
-            return Worked::Nothing {
-                status: self.state.status,
-            };
-        }
-        self.enter();
-        Worked::Unit {
-            passed,
-            after: self.state.status,
+        match state.status {
+            Status::Processing => {
+                let id = session.processing?;
+                Some(status_processed(state, session, id))
+            }
+            Status::Activating => Some(Status::Verifying),
+            Status::Verifying => {
+                let count = session.changes.as_slice().len();
+                Some(status_verified(session.verified, count, passed))
+            }
+            Status::RollingBack => Some(Status::RolledBack),
+            Status::CleaningUp => Some(Status::Idle),
+            Status::Idle | Status::Ready | Status::Activated | Status::RolledBack => None,
         }
     }
 
     /// Does the next unit, where there is one.
-    fn unit(&mut self, passed: bool) -> bool
-        requires sound { IsSound self.old }
-        requires reserved { IsReservedWork self.old }
-        ensures done { result ≡ true → IsUnit self.old passed self.new }
-        ensures none { result ≡ false → unit (node_of self.old) passed ≡ None }
-        ensures same { result ≡ false → self.new ≡ self.old }
-        ensures faults { self.new.faults ≡ self.old.faults }
+    fn do_unit(&mut self, passed: bool)
+        requires reserved { SomeWorkReady self.old }
+        ensures { IfSome (unit_stored self.old passed) (λ s. self.new.state ≡ s) }
     {
         match self.state.status {
-            Status::Processing => self.process_unit(passed),
-            Status::Activating => self.activate_unit(passed),
-            Status::Verifying => self.verify_unit(passed),
-            Status::RollingBack => self.roll_back_unit(passed),
-            Status::CleaningUp => self.clean_up_unit(passed),
-            Status::Idle | Status::Ready | Status::Activated | Status::RolledBack => return false,
+            Status::Processing => self.process_unit(),
+            Status::Activating => self.activate_unit(),
+            Status::Verifying => verify_unit(&mut self.state, passed),
+            Status::RollingBack => self.roll_back_unit(),
+            Status::CleaningUp => clean_up_unit(&mut self.state),
+            Status::Idle | Status::Ready | Status::Activated | Status::RolledBack => {}
         }
-        true
     }
 
-    /// Writes a unit's line.
-    fn enter(&mut self)
-        requires entries { self.old.state.entries < entry_limit }
-        requires order { IsInOrder package_reading self.old.areas self.old.state }
-        requires copied { IsCopied package_reading self.old.areas self.old.state }
-        ensures node { node_of self.new
-            ≡ with_entry (Happened.Unit self.old.state.status) (node_of self.old) }
-        ensures order { IsInOrder package_reading self.new.areas self.new.state }
-        ensures copied { IsCopied package_reading self.new.areas self.new.state }
-        ensures faults { self.new.faults ≡ self.old.faults }
-        ensures entries { self.new.state.entries ≡ self.old.state.entries + 1 }
-        ensures status { self.new.state.status ≡ self.old.state.status }
+    /// One unit more of the package in processing; with its last one the package is processed.
+    fn process_unit(&mut self)
+        requires status { self.old.state.status ≡ Processing }
+        requires reserved { SomeWorkReady self.old }
+        ensures { IfSome self.old.state.session (λ x.
+            IfSome x.processing (λ id. self.new.state ≡ process_stored self.old x id)) }
     {
         let state = &mut self.state;
-        let after = state.status;
-        state.lines.push(state.entries, Happened::Unit { after });
-        state.entries += 1;
-    }
-
-    /// The verdict of the next unit: true outside Verifying.
-    fn unit_passes(&self, fails: &[ClusterName]) -> bool
-        ensures { result ≡ unit_passes fails.now (node_of self.now) }
-    {
-        self.state.status != Status::Verifying || self.passes(fails)
-    }
-
-    /// Whether the change that is verified next is of a cluster that doesn't fail.
-    fn passes(&self, fails: &[ClusterName]) -> bool
-        ensures { result ≡ passes fails.now (node_of self.now) }
-    {
-        let state = &self.state;
-        let Some(session) = &state.session else {
-            return true;
+        let Some(session) = &mut state.session else {
+            return;
         };
-        match session.changes.as_slice().get(session.verified as usize) {
-            Some(change) => !has_name(fails, &change.part.manifest.name),
-            None => true,
+        let Some(id) = session.processing else {
+            return;
+        };
+        let Some(transfer) = lookup::stored(&state.transfers.list, session.owner, id) else {
+            return;
+        };
+        let units = transfer.contents.units();
+        session.units_done += 1;
+        if u64::from(session.units_done) < units {
+            return;
         }
+        let Some(changes) = self.prepared.take_changes() else {
+            return;
+        };
+        session.changes.append(changes);
+        session.processing = None;
+        state.status = Status::Ready;
+        table::set_phase(&mut state.transfers, id, Phase::Processed);
     }
 
     /// The planned clusters, which are ready, run, and none is verified.
-    fn activate_unit(&mut self, passed: bool)
-        requires status { self.old.state.status ≡ Activating }
-        requires sound { IsSound self.old }
-        requires reserved { IsReservedWork self.old }
-        ensures unit { IsUnit self.old passed self.new }
-        ensures faults { self.new.faults ≡ self.old.faults }
+    fn activate_unit(&mut self)
+        requires ready { IfSome self.old.state.session (λ x.
+            clusters_kept self.old.prepared ≡ Some (planned x.changes x.saved)) }
+        ensures { IfSome self.old.state.session (λ x.
+            self.new.state ≡ activate_unit self.old.state x) }
     {
         let state = &mut self.state;
         let Some(session) = &mut state.session else {
@@ -166,36 +140,12 @@ impl<S: Staging> Held<S> {
         state.running = clusters;
     }
 
-    /// One change more is verified, or the node turns back.
-    fn verify_unit(&mut self, passed: bool)
-        requires status { self.old.state.status ≡ Verifying }
-        requires sound { IsSound self.old }
-        ensures unit { IsUnit self.old passed self.new }
-        ensures faults { self.new.faults ≡ self.old.faults }
-    {
-        let state = &mut self.state;
-        if !passed {
-            state.status = Status::RollingBack;
-            return;
-        }
-        let Some(session) = &mut state.session else {
-            return;
-        };
-        let count = session.changes.as_slice().len();
-        session.verified += 1;
-        if (session.verified as usize) < count {
-            return;
-        }
-        state.status = Status::Activated;
-    }
-
     /// The saved clusters, which are ready, run again.
-    fn roll_back_unit(&mut self, passed: bool)
-        requires status { self.old.state.status ≡ RollingBack }
-        requires sound { IsSound self.old }
-        requires reserved { IsReservedWork self.old }
-        ensures unit { IsUnit self.old passed self.new }
-        ensures faults { self.new.faults ≡ self.old.faults }
+    fn roll_back_unit(&mut self)
+        requires ready { IfSome self.old.state.session (λ x.
+            clusters_kept self.old.prepared ≡ Some x.saved) }
+        ensures { IfSome self.old.state.session (λ x.
+            self.new.state ≡ roll_back_unit self.old.state x) }
     {
         let Some(clusters) = self.prepared.take_clusters() else {
             return;
@@ -204,30 +154,118 @@ impl<S: Staging> Held<S> {
         state.status = Status::RolledBack;
         state.running = clusters;
     }
+}
 
-    /// The session is over: its owner's end mark is kept, and the transfers that were processed are gone.
-    fn clean_up_unit(&mut self, passed: bool)
-        requires status { self.old.state.status ≡ CleaningUp }
-        requires sound { IsSound self.old }
-        ensures unit { IsUnit self.old passed self.new }
-        ensures faults { self.new.faults ≡ self.old.faults }
-    {
-        let state = &mut self.state;
-        state.status = Status::Idle;
-        table::clean(&mut state.transfers);
-        if let Some(session) = state.session.take() {
-            state.ended[session.owner.number() as usize] = end_mark(session.tag, session.outcome);
-        }
+/// The answer where there is no unit to do.
+fn nothing(state: &State) -> Worked
+    ensures { result ≡ Worked.Nothing state.now.status }
+{
+    Worked::Nothing {
+        status: state.status,
     }
 }
 
-/// How a session with this tag ends.
-fn end_mark(tag: u32, outcome: Option<Outcome>) -> Option<EndMark>
-    ensures { result ≡ option_map (λ o. record { tag = tag; outcome = o }) outcome }
+/// One change more is verified, or the node turns back.
+fn verify_unit(state: &mut State, passed: bool)
+    requires more { IfSome state.old.session (λ x. x.verified < length x.changes) }
+    ensures { IfSome state.old.session (λ x. state.new ≡ verify_unit state.old x passed) }
 {
-    match outcome {
-        Some(outcome) => Some(EndMark { tag, outcome }),
+    let Some(session) = &mut state.session else {
+        return;
+    };
+    let count = session.changes.as_slice().len();
+    state.status = status_verified(session.verified, count, passed);
+    if passed {
+        session.verified += 1;
+    }
+}
+
+/// The session is over: its owner's end mark is kept, and the transfers that were processed are gone.
+fn clean_up_unit(state: &mut State)
+    requires table { IsTable (table_of state.old) }
+    ensures { IfSome state.old.session (λ x.
+        state.new ≡ end_session (with_slots [] []) state.old x) }
+{
+    state.status = Status::Idle;
+    table::clean(&mut state.transfers);
+    if let Some(session) = state.session.take() {
+        state.ended[session.owner.number() as usize] = end_mark(&session);
+    }
+}
+
+/// Writes a unit's line.
+fn enter(state: &mut State)
+    requires entries { state.old.entries < entry_limit }
+    ensures { state.new ≡ with_entry (UnitAfter state.old.status) state.old }
+{
+    let after = state.status;
+    state.lines.push(state.entries, Happened::Unit { after });
+    state.entries += 1;
+}
+
+/// The status behind a unit of the package in processing.
+fn status_processed(state: &State, session: &Session, id: u32) -> Status
+    ensures { result ≡ (if nat_lt (session.now.units_done + 1)
+        (stored_units (contents_of (stored_of state.now.transfers session.now.owner id)))
+        then Processing else Status.Ready) }
+{
+    let units = match lookup::stored(&state.transfers.list, session.owner, id) {
+        Some(transfer) => transfer.contents.units(),
+        None => 0,
+    };
+    if u64::from(session.units_done) + 1 < units {
+        Status::Processing
+    } else {
+        Status::Ready
+    }
+}
+
+/// The status behind the verification of one of so many changes, where these were verified.
+fn status_verified(verified: u8, count: usize, passed: bool) -> Status
+    ensures { result ≡ (if passed then (if nat_lt (verified + 1) count
+        then Verifying else Activated) else RollingBack) }
+{
+    if !passed {
+        Status::RollingBack
+    } else if (verified as usize) + 1 < count {
+        Status::Verifying
+    } else {
+        Status::Activated
+    }
+}
+
+/// How a session ends.
+fn end_mark(session: &Session) -> Option<EndMark>
+    ensures { result ≡ end_mark session.now }
+{
+    match session.outcome {
+        Some(outcome) => Some(EndMark {
+            tag: session.tag,
+            outcome,
+        }),
         None => None,
+    }
+}
+
+/// The verdict of the next unit: true outside Verifying.
+fn unit_passes(state: &State, fails: &[ClusterName]) -> bool
+    ensures { (areas : Areas)
+        → result ≡ unit_passes fails.now (meaning package_reading areas state.now) }
+{
+    state.status != Status::Verifying || passes(state, fails)
+}
+
+/// Whether the change that is verified next is of a cluster that doesn't fail.
+fn passes(state: &State, fails: &[ClusterName]) -> bool
+    ensures { (areas : Areas)
+        → result ≡ passes fails.now (meaning package_reading areas state.now) }
+{
+    let Some(session) = &state.session else {
+        return true;
+    };
+    match session.changes.as_slice().get(session.verified as usize) {
+        Some(change) => !has_name(fails, &change.part.manifest.name),
+        None => true,
     }
 }
 

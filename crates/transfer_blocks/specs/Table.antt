@@ -15,7 +15,7 @@ use Rattle.pm_types.specs.declared.transfers.ExitVerdict.TheVariants.{Good, Bad}
 use Rattle.pm_types.specs.declared.transfers.Header.{Header}
 use Rattle.pm_types.specs.NodeState.{outlasts}
 use Rattle.pm_types.specs.Stored.{slots_differ}
-use Rattle.pm_types.specs.Transfers.{is_of, fresh, grown, in_phase}
+use Rattle.pm_types.specs.Transfers.{Keeping, is_of, fresh, grown, in_phase}
 use Rattle.transfer_blocks.specs.declared.found.Found.{Found}
 use Rattle.transfer_blocks.specs.declared.lookup.Placed.{Placed}
 
@@ -54,6 +54,16 @@ is_free slots slot = list_all (λ other. not (other == slot)) slots
 -- the lowest of so many slots that is free
 abbrev pub lowest_free : ℕ → List ℕ → ℕ
 lowest_free limit slots = unwrap_or (find (is_free slots) (range_with_len 0 limit)) 0
+
+-- transfers without their bytes: one that begins has the lowest free slot, and one that is whole brings these parts
+abbrev pub with_slots : List StoredTransfer → List (Part ℕ) → Keeping StoredTransfer
+with_slots transfers parts = record {
+  header = λ t. t.header;
+  headed = λ h t. record t { header = h };
+  begun = λ h. record { header = h; slot = lowest_free transfer_limit (slots_of transfers); contents = [] };
+  longer = λ bytes t. record t { header = grown (length bytes) t.header };
+  whole = λ t. record t { header = in_phase Transferred t.header; contents = parts };
+}
 
 -- the refusal of what isn't a package, and the parts of what is one
 abbrev pub bad_refusal : ExitVerdict → Option Refusal

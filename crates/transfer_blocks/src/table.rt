@@ -7,10 +7,58 @@ ghost use Rattle.pm_types.specs.Steps.{refused_or};
 ghost use Rattle.pm_types.specs.Transfers.{start_refusals, data_refusals, exit_refusals, delete_refusals, grown, in_phase};
 ghost use Rattle.transfer_blocks.specs.Table.{IsTable, bad_refusal, cleaned, good_parts, moved, received, stored_header, unless_refused, whole, with_fresh, with_stored, without};
 
-use crate::judge::{data_refusal, delete_refusal, exit_refusal, start_refusal};
-use crate::lookup::{lowest_free, place_of, place_of_id};
+use crate::judge;
+use crate::lookup::{find, lowest_free, place_of, place_of_id};
 use pm_types::{ExitVerdict, Header, Phase, Refusal, Reply, Transfers};
 use ucm_base::ClientId;
+
+/// What TransferStart is refused with, if anything.
+pub fn start_refusal(transfers: &Transfers, size: u64) -> Option<Refusal>
+    ensures { result ≡ first_refusal
+        (start_refusals transfers.now.next_id (length transfers.now.list) size) }
+{
+    let count = transfers.list.as_slice().len() as u64;
+    judge::start_refusal(transfers.next_id, count, size)
+}
+
+/// What TransferData of a block of this length is refused with, if anything.
+pub fn block_refusal(
+    transfers: &Transfers,
+    client: ClientId,
+    id: u32,
+    counter: u64,
+    length: u64,
+) -> Option<Refusal>
+    ensures { result ≡ first_refusal
+        (data_refusals (stored_header transfers.now.list client id) counter length) }
+{
+    match find(&transfers.list, client, id) {
+        Some(found) => judge::data_refusal(&found.header, counter, length),
+        None => Some(Refusal::InvalidTransferId),
+    }
+}
+
+/// What TransferExit is refused with before the bytes are read, if anything.
+pub fn exit_refusal(transfers: &Transfers, client: ClientId, id: u32) -> Option<Refusal>
+    ensures { result ≡ first_refusal
+        (exit_refusals (stored_header transfers.now.list client id)) }
+{
+    match find(&transfers.list, client, id) {
+        Some(found) => judge::exit_refusal(&found.header),
+        None => Some(Refusal::InvalidTransferId),
+    }
+}
+
+/// What DeleteTransfer is refused with, if anything.
+pub fn delete_refusal(transfers: &Transfers, client: ClientId, id: u32) -> Option<Refusal>
+    ensures { result ≡ first_refusal
+        (delete_refusals (stored_header transfers.now.list client id)) }
+{
+    match find(&transfers.list, client, id) {
+        Some(found) => judge::delete_refusal(&found.header),
+        None => Some(Refusal::InvalidTransferId),
+    }
+}
 
 /// TransferStart: a transfer of this size begins, in the lowest free slot.
 pub fn start(transfers: &mut Transfers, client: ClientId, size: u64) -> Reply
@@ -23,7 +71,7 @@ pub fn start(transfers: &mut Transfers, client: ClientId, size: u64) -> Reply
 {
     let list = transfers.list.as_slice();
     let id = transfers.next_id;
-    if let Some(refusal) = start_refusal(id, list.len() as u64, size) {
+    if let Some(refusal) = judge::start_refusal(id, list.len() as u64, size) {
         return Reply::Refused(refusal);
     }
     let slot = lowest_free(list);
@@ -59,7 +107,7 @@ pub fn block(
         return Reply::Refused(Refusal::InvalidTransferId);
     };
     let header = at.header;
-    if let Some(refusal) = data_refusal(&header, counter, length) {
+    if let Some(refusal) = judge::data_refusal(&header, counter, length) {
         return Reply::Refused(refusal);
     }
     transfers.list.set_header(at.place, grown(header, length));
@@ -80,7 +128,7 @@ pub fn exit(transfers: &mut Transfers, client: ClientId, id: u32, verdict: ExitV
         return Reply::Refused(Refusal::InvalidTransferId);
     };
     let header = at.header;
-    if let Some(refusal) = exit_refusal(&header) {
+    if let Some(refusal) = judge::exit_refusal(&header) {
         return Reply::Refused(refusal);
     }
     match verdict {
@@ -105,7 +153,7 @@ pub fn delete(transfers: &mut Transfers, client: ClientId, id: u32) -> Reply
     let Some(at) = place_of(&transfers.list, client, id) else {
         return Reply::Refused(Refusal::InvalidTransferId);
     };
-    if let Some(refusal) = delete_refusal(&at.header) {
+    if let Some(refusal) = judge::delete_refusal(&at.header) {
         return Reply::Refused(refusal);
     }
     transfers.list.remove(id);

@@ -1,6 +1,8 @@
-use Rattle.node_core.proofs.Names.{AllByRecursion, IsSound, holding, length, package_limit, subst, sym, ◌≤◌}
+use Rattle.node_core.proofs.Names.{AllByRecursion, IsSound, ap, formatted, fresh_state, holding, in_order, length, meaning}
+use Rattle.node_core.proofs.Names.{package_limit, package_reading, placed_from, refl, subst, sym, ◌∙◌, ◌≡◌, ◌≤◌}
+use Rattle.node_core.specs.Format.{IsFormatted, with_installed}
 use Rattle.node_core.proofs.Ordered.{order-each}
-use Rattle.node_core.proofs.Formatted.{formatted-sound}
+use Rattle.node_core.proofs.Formatted.{formatted-node}
 use Rattle.node_core.proofs.format.format_areas.Goals as goal
 
 pub install-requires-clause-short : goal.install-requires-clause-short
@@ -8,11 +10,23 @@ install-requires-clause-short g c =
     subst (AllByRecursion (λ x. length x.content ≤ package_limit)) (sym c.in_ok-ordered.ensures.sorted)
     (order-each (λ x. length x.content ≤ package_limit) c.args.installed.items c.requires.short)
 
+pub returns-clause-holds : goal.returns-clause-holds
+returns-clause-holds g c held fit =
+    let sorted = c.in_ok-ordered.ensures.sorted in
+    subst (λ s. IsFormatted (in_order c.args.installed.items) held s)
+    (sym (c.in_ok-state.ensures ∙ ap fresh_state (c.in_ok-running.ensures.placed ∙ ap (placed_from 0) sorted)))
+    (formatted-node held (in_order c.args.installed.items) c.args.installed.items refl
+    (ap length (sym sorted) ∙ c.in_ok-ordered.ensures.length) c.requires.few c.requires.short fit)
+
+pub returns-clause-node : goal.returns-clause-node
+returns-clause-node g c =
+    let areas = c.in_ok-running.ensures.areas ∙ ap (λ l. with_installed l (g.S.Staging.areas c.args.staging.now)) c.in_ok-ordered.ensures.sorted in
+    subst (λ a. meaning package_reading a c.in_ok-state.state ≡ formatted (in_order c.args.installed.items)) (sym areas)
+    (returns-clause-holds g c (g.S.Staging.areas c.args.staging.now) (g.met.S.Staging.areas_fit c.args.staging.now)).node
+
 pub returns-clause-sound : goal.returns-clause-sound
 returns-clause-sound g c =
-    let areas = g.S.Staging.areas c.install.new.staging in
-    let faults = g.S.Staging.fault_count c.install.new.staging in
-    subst (λ s. IsSound (holding areas faults s)) (sym c.in_ok-state.ensures)
-    (formatted-sound areas faults c.in_ok-running.running c.in_ok-ordered.ordered.items c.args.installed.items
-    c.in_ok-running.ensures.installed c.in_ok-ordered.ensures.sorted c.in_ok-ordered.ensures.length c.requires.few
-    c.requires.short)
+    let areas = c.in_ok-running.ensures.areas ∙ ap (λ l. with_installed l (g.S.Staging.areas c.args.staging.now)) c.in_ok-ordered.ensures.sorted in
+    let is = (returns-clause-holds g c (g.S.Staging.areas c.args.staging.now) (g.met.S.Staging.areas_fit c.args.staging.now)).sound in
+    subst (λ a. IsSound (holding a c.in_ok-state.state)) (sym areas)
+    (record { fit = is.fit; order = is.order; copied = is.copied })

@@ -1,50 +1,106 @@
-use Rattle.node_core.proofs.Names.{ap, append_assoc, arith, into_iter_items, length, sym, [], ◌++◌, ◌∙◌, ◌∷◌, ◌≡◌}
-use Rattle.node_core.proofs.Formatted.{next-installed, next-short, none-installed}
-use Rattle.node_core.proofs.Names.{AreInstalled, refl, subst}
-use Rattle.std.proofs.Common.{rules}
+use Rattle.node_core.proofs.Names.{ap, append-nil, append_assoc, arith, false, into_iter_items, length, sym, true, [], ◌++◌, ◌∙◌, ◌∷◌, ◌≡◌}
+use Rattle.std.proofs.lemmas.List.{nil_from_length}
+use Rattle.node_core.specs.Format.{Formats}
+use Rattle.node_core.proofs.Lists.{at-err}
+use Rattle.node_core.proofs.Formatted.{all-formats, next-areas, next-failed, next-place, next-placed, next-ran, next-short}
 use Rattle.node_core.proofs.format.install.Goals as goal
 
-pub loop-cluster-init : goal.loop-cluster-init
-loop-cluster-init g c = (
-  refl,
-  subst (λ l. AreInstalled (g.S.Staging.areas c.args.staging.now) l []) (sym c.in_ok-running.ensures.items)
-      (none-installed _ c.requires.empty),
-  omega arith,
-  search rules,
-)
+pub put-requires-clause-area : goal.put-requires-clause-area
+put-requires-clause-area g c =
+    let at = c.loop-cluster in
+    let x = c.in-Some.cluster in
+    let rest = into_iter_items c.next.new.self in
+    let whole = ap (λ l. at.yielded ++ l) (sym c.in-Some.ensures.steps.0) ∙ at.invariant.0
+    ∙ c.into_iter-cluster-iterator.ensures.into_iter_gives.0 in (
+      next-place at.yielded rest c.args.clusters.items x whole c.requires.few at.running.items at.invariant.1
+          c.len-place.result (c.len-place.ensures ∙ at.running.ok.0),
+      omega arith,
+    )
+
+pub overflow_cast-place : goal.overflow_cast-place
+overflow_cast-place g c =
+    let at = c.loop-cluster in
+    let x = c.in-Some.cluster in
+    let rest = into_iter_items c.next.new.self in
+    let whole = ap (λ l. at.yielded ++ l) (sym c.in-Some.ensures.steps.0) ∙ at.invariant.0
+    ∙ c.into_iter-cluster-iterator.ensures.into_iter_gives.0 in
+    let low =
+    next-place at.yielded rest c.args.clusters.items x whole c.requires.few at.running.items at.invariant.1
+    c.len-place.result (c.len-place.ensures ∙ at.running.ok.0) in
+    omega (arith, low)
 
 pub add-requires : goal.add-requires
 add-requires g c =
     let at = c.loop-cluster in
-    let steps : into_iter_items at.cluster-iterator ≡ c.in-Some.cluster ∷ into_iter_items c.next.new.self =
-    c.in-Some.ensures.steps.0 in
-    let whole = ap (λ l. at.yielded ++ l) (sym steps) ∙ at.invariant.0
+    let x = c.in-Some.cluster in
+    let rest = into_iter_items c.next.new.self in
+    let whole = ap (λ l. at.yielded ++ l) (sym c.in-Some.ensures.steps.0) ∙ at.invariant.0
     ∙ c.into_iter-cluster-iterator.ensures.into_iter_gives.0 in
-    record {
-      short =
-          next-short at.yielded (into_iter_items c.next.new.self) c.args.clusters.items c.in-Some.cluster whole
-          c.requires.short;
-    }
+    record { short = next-short at.yielded rest c.args.clusters.items x whole c.requires.short }
+
+pub returns-in_err-put-clause-formats : goal.returns-in_err-put-clause-formats
+returns-in_err-put-clause-formats g c =
+    let at = c.loop-cluster in
+    let x = c.in-Some.cluster in
+    let rest = into_iter_items c.next.new.self in
+    let whole = ap (λ l. at.yielded ++ l) (sym c.in-Some.ensures.steps.0) ∙ at.invariant.0
+    ∙ c.into_iter-cluster-iterator.ensures.into_iter_gives.0 in
+    at-err (λ ok. Formats g.S.Staging.obeys c.args.clusters.items ok c.args.staging.now c.put.new.self) _
+    c.from_residual-in_err-put.result c.from_residual-in_err-put.ensures.1
+    (next-failed g.S.Staging.obeys at.yielded rest c.args.clusters.items x whole c.requires.few c.requires.short
+    c.args.staging.now at.staging c.put.new.self at.invariant.2 at.running.items at.invariant.1 c.len-place.result
+    (c.len-place.ensures ∙ at.running.ok.0) c.as_slice-bytes.result.now c.as_slice-bytes.ensures.bytes
+    false c.in_err-put.ensures.obeys)
+
+pub returns-in_err-add-clause-formats : goal.returns-in_err-add-clause-formats
+returns-in_err-add-clause-formats g c =
+    let at = c.loop-cluster in
+    let x = c.in-Some.cluster in
+    let rest = into_iter_items c.next.new.self in
+    let whole = ap (λ l. at.yielded ++ l) (sym c.in-Some.ensures.steps.0) ∙ at.invariant.0
+    ∙ c.into_iter-cluster-iterator.ensures.into_iter_gives.0 in
+    at-err (λ ok. Formats g.S.Staging.obeys c.args.clusters.items ok c.args.staging.now c.put.new.self) _
+    c.from_residual-in_err-add.result c.from_residual-in_err-add.ensures.1
+    (next-failed g.S.Staging.obeys at.yielded rest c.args.clusters.items x whole c.requires.few c.requires.short
+    c.args.staging.now at.staging c.put.new.self at.invariant.2 at.running.items at.invariant.1 c.len-place.result
+    (c.len-place.ensures ∙ at.running.ok.0) c.as_slice-bytes.result.now c.as_slice-bytes.ensures.bytes
+    true c.in_ok-put.ensures.obeys)
 
 pub loop-cluster-preserved : goal.loop-cluster-preserved
 loop-cluster-preserved g c =
     let at = c.loop-cluster in
     let x = c.in-Some.cluster in
     let rest = into_iter_items c.next.new.self in
-    let steps : into_iter_items at.cluster-iterator ≡ x ∷ rest = c.in-Some.ensures.steps.0 in
-    let whole = ap (λ l. at.yielded ++ l) (sym steps) ∙ at.invariant.0
+    let whole = ap (λ l. at.yielded ++ l) (sym c.in-Some.ensures.steps.0) ∙ at.invariant.0
     ∙ c.into_iter-cluster-iterator.ensures.into_iter_gives.0 in (
-      append_assoc at.yielded (x ∷ []) _ ∙ ap (λ l. at.yielded ++ l) (sym steps) ∙ at.invariant.0,
-      next-installed (g.S.Staging.areas at.staging) (g.S.Staging.areas c.put.new.staging)
-          (g.met.S.Staging.areas_fit at.staging) at.running.items c.add.new.running.items at.yielded rest
-          c.args.clusters.items x c.len-place.result c.as_slice.result.now
-          at.invariant.1 whole c.requires.few (c.len-place.ensures
-          ∙ at.running.ok.0) c.as_slice.ensures.bytes c.in_ok-put.ensures.put c.in_ok-add.ensures,
-      let so_far = at.invariant.2 in
+      append_assoc at.yielded (x ∷ []) _ ∙ ap (λ l. at.yielded ++ l) (sym c.in-Some.ensures.steps.0) ∙ at.invariant.0,
+      next-placed g.S.Staging.obeys at.yielded rest c.args.clusters.items x whole c.requires.few c.requires.short
+          c.args.staging.now at.staging c.put.new.self at.invariant.2 at.running.items at.invariant.1 c.len-place.result
+          (c.len-place.ensures ∙ at.running.ok.0) c.as_slice-bytes.result.now c.as_slice-bytes.ensures.bytes
+          c.add.new.running.items c.in_ok-add.ensures,
+      next-ran g.S.Staging.obeys at.yielded rest c.args.clusters.items x whole c.requires.few c.requires.short
+          c.args.staging.now at.staging c.put.new.self at.invariant.2 at.running.items at.invariant.1 c.len-place.result
+          (c.len-place.ensures ∙ at.running.ok.0) c.as_slice-bytes.result.now c.as_slice-bytes.ensures.bytes
+          c.in_ok-put.ensures.obeys,
+      next-areas g.S.Staging.obeys at.yielded rest c.args.clusters.items x whole c.requires.few c.requires.short
+          c.args.staging.now at.staging c.put.new.self at.invariant.2 at.running.items at.invariant.1 c.len-place.result
+          (c.len-place.ensures ∙ at.running.ok.0) c.as_slice-bytes.result.now c.as_slice-bytes.ensures.bytes
+          (g.S.Staging.areas c.args.staging.now) (g.S.Staging.areas at.staging) (g.S.Staging.areas c.put.new.self)
+          at.invariant.3 c.in_ok-put.ensures.put,
+      c.in_ok-put.ensures.fit,
+      (let so_far = at.invariant.5 in
           let more = c.in_ok-put.ensures.faults in
-          omega (arith, so_far, more),
-      let was = at.invariant.3 in
+          omega (arith, so_far, more)),
+      (let was = at.invariant.6 in
           let gone = c.in-Some.ensures.steps.1 in
-          let short = ap length steps in
-          omega (arith, was, gone, short),
+          let short = ap length c.in-Some.ensures.steps.0 in
+          omega (arith, was, gone, short)),
     )
+
+pub returns-clause-formats : goal.returns-clause-formats
+returns-clause-formats g c =
+    let at = c.loop-cluster in
+    let none = nil_from_length (into_iter_items at.cluster-iterator) (sym at.invariant.6 ∙ c.in-None.ensures.steps.0) in
+    all-formats g.S.Staging.obeys at.yielded c.args.clusters.items c.args.staging.now at.staging
+    (sym (append-nil at.yielded) ∙ ap (λ l. at.yielded ++ l) (sym none) ∙ at.invariant.0
+    ∙ c.into_iter-cluster-iterator.ensures.into_iter_gives.0) c.requires.few c.requires.short at.invariant.2

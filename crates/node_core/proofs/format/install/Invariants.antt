@@ -1,9 +1,14 @@
-use Rattle.node_core.proofs.Names.{AreInstalled, into_iter_items, into_iter_len, length, ◌++◌, ◌≡◌, ◌≤◌}
+use Rattle.node_core.proofs.Names.{into_iter_items, into_iter_len, length, placed_from, ◌++◌, ◌≡◌, ◌≤◌}
+use Rattle.node_core.specs.Format.{installs, with_installed}
+use Rattle.transfer_blocks.specs.Steps.{Ran}
 use Rattle.node_core.proofs.format.install.Given as goal
 
 abbrev pub invariant-loop-cluster : goal.invariant-loop-cluster
 invariant-loop-cluster g l =
     (l.yielded ++ into_iter_items l.cluster-iterator ≡ into_iter_items l.initial.cluster-iterator)
-    × AreInstalled (g.S.Staging.areas l.staging) l.running.items l.yielded
+    × (l.running.items ≡ placed_from 0 l.yielded)
+    × Ran g.S.Staging.obeys (installs 0 l.yielded) l.initial.staging l.staging
+    × (g.S.Staging.areas l.staging ≡ with_installed l.yielded (g.S.Staging.areas l.initial.staging))
+    × g.S.Staging.is_fit l.staging
     × (g.S.Staging.fault_count l.initial.staging ≤ g.S.Staging.fault_count l.staging)
     × (into_iter_len l.cluster-iterator ≡ length (into_iter_items l.cluster-iterator))

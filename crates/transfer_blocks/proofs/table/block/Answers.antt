@@ -1,4 +1,4 @@
-use Rattle.std.proofs.Common.{◌≡◌, ◌≤◌, ◌+◌, ◌==◌, ap, refl, subst, sym, arith}
+use Rattle.std.proofs.Common.{◌≤◌, ◌+◌, ◌==◌, refl, subst, sym, arith}
 use Rattle.std.proofs.lemmas.Bool.{and_parts, eqb-true}
 use Rattle.pm_types.specs.Transfers.{grown}
 use Rattle.pm_types.specs.declared.state.StoredTransfer.{StoredTransfer}

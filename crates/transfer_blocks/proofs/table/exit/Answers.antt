@@ -1,4 +1,4 @@
-use Rattle.std.proofs.Common.{◌≡◌, ◌==◌, ◌∙◌, ap, refl, sym}
+use Rattle.std.proofs.Common.{◌==◌, ◌∙◌, ap, refl, sym}
 use Rattle.std.proofs.lemmas.Bool.{and_parts, eqb-true}
 use Rattle.pm_types.specs.Transfers.{in_phase}
 use Rattle.pm_types.specs.declared.state.StoredTransfer.{StoredTransfer}

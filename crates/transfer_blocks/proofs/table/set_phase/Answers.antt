@@ -1,4 +1,4 @@
-use Rattle.std.proofs.Common.{◌≡◌, ap, sym, refl}
+use Rattle.std.proofs.Common.{ap, sym, refl}
 use Rattle.std.proofs.lemmas.Bool.{eqb-true}
 use Rattle.pm_types.specs.Transfers.{in_phase}
 use Rattle.pm_types.specs.declared.state.StoredTransfer.{StoredTransfer}

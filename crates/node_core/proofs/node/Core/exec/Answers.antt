@@ -1,18 +1,39 @@
-use Rattle.node_core.proofs.Names.{sym}
-use Rattle.node_core.proofs.Sound.{executed-fit}
+use Rattle.node_core.proofs.Names.{ap, state_after, step_by, under, ◌∙◌}
+use Rattle.node_core.proofs.Owned.{held-is, reserved-is}
 use Rattle.node_core.proofs.node.Core.exec.Goals as goal
 
-pub invariant_of-self : goal.invariant_of-self
-invariant_of-self g c = record {
-  fit = executed-fit _ c.execute.new.self c.args.client c.args.no c.args.call.now c.execute.result
-      c.repeated.ensures.client c.self.invariant (sym c.in-None.ensures.repeat) c.execute.ensures.reply
-      c.execute.ensures.node;
-  order = c.execute.ensures.order;
-  copied = c.execute.ensures.copied;
-}
+pub exec-requires-clause-reserved : goal.exec-requires-clause-reserved
+exec-requires-clause-reserved g c = (
+  g.S.Staging.areas c.self.inside.held.staging,
+  c.self.invariant.0,
+  reserved-is c.self.view_is c.args.client c.args.no c.args.call.now c.requires.reserved,
+)
 
-pub returns-in-None-clause-valid : goal.returns-in-None-clause-valid
-returns-in-None-clause-valid g c =
-    executed-fit _ c.execute.new.self c.args.client c.args.no c.args.call.now c.execute.result
-    c.repeated.ensures.client c.self.invariant (sym c.in-None.ensures.repeat) c.execute.ensures.reply
-    c.execute.ensures.node
+pub invariant_of-self : goal.invariant_of-self
+invariant_of-self g c = (
+  (c.exec.ensures.executed (g.S.Staging.areas c.self.inside.held.staging) c.self.invariant.0
+      (reserved-is c.self.view_is c.args.client c.args.no c.args.call.now c.requires.reserved)).sound,
+  c.self.invariant.1,
+)
+
+pub returns-clause-reached : goal.returns-clause-reached
+returns-clause-reached g c =
+    (c.exec.ensures.executed (g.S.Staging.areas c.self.inside.held.staging) c.self.invariant.0
+    (reserved-is c.self.view_is c.args.client c.args.no c.args.call.now c.requires.reserved)).reached
+    ∙ ap (λ h. (step_by h c.args.client c.args.no c.args.call.now).1) (held-is c.self.view_is)
+
+pub returns-clause-node : goal.returns-clause-node
+returns-clause-node g c =
+    (c.exec.ensures.executed (g.S.Staging.areas c.self.inside.held.staging) c.self.invariant.0
+    (reserved-is c.self.view_is c.args.client c.args.no c.args.call.now c.requires.reserved)).node
+    ∙ ap (λ h. (step_by h c.args.client c.args.no c.args.call.now).0) (held-is c.self.view_is)
+
+pub returns-clause-state : goal.returns-clause-state
+returns-clause-state g c =
+    c.exec.ensures.state
+    ∙ ap (λ h. state_after (under h) c.args.client c.args.no c.args.call.now c.exec.result) (held-is c.self.view_is)
+
+pub returns-clause-valid : goal.returns-clause-valid
+returns-clause-valid g c =
+    (c.exec.ensures.executed (g.S.Staging.areas c.self.inside.held.staging) c.self.invariant.0
+    (reserved-is c.self.view_is c.args.client c.args.no c.args.call.now c.requires.reserved)).sound.fit

@@ -1,21 +1,38 @@
-use Rattle.node_core.proofs.Names.{Holding, after_work, answer_to, ap, node_of, ◌∙◌}
-use Rattle.node_core.proofs.Worked.{worked-fit}
+use Rattle.node_core.proofs.Names.{after_work, answer_to, ap, node_of, state_worked, under, ◌∙◌}
+use Rattle.node_core.proofs.Owned.{held-is, work-reserved-is}
 use Rattle.node_core.proofs.node.Core.work.Goals as goal
 
+pub work-requires-clause-reserved : goal.work-requires-clause-reserved
+work-requires-clause-reserved g c = (
+  g.S.Staging.areas c.self.inside.held.staging,
+  c.self.invariant.0,
+  work-reserved-is c.self.view_is c.requires.reserved,
+)
+
 pub invariant_of-self : goal.invariant_of-self
-invariant_of-self g c = record {
-  fit = worked-fit _ c.work.new.self c.args.fails.now c.self.invariant c.work.ensures.node;
-  order = c.work.ensures.order;
-  copied = c.work.ensures.copied;
-}
+invariant_of-self g c = (
+  (c.work.ensures.worked (g.S.Staging.areas c.self.inside.held.staging) c.self.invariant.0
+      (work-reserved-is c.self.view_is c.requires.reserved)).sound,
+  c.self.invariant.1,
+)
 
 pub returns-clause-answer : goal.returns-clause-answer
-returns-clause-answer g c = c.work.ensures.answer
-    ∙ ap (λ (v : Holding). answer_to c.args.fails.now (node_of v)) c.self.view_is
+returns-clause-answer g c =
+    (c.work.ensures.worked (g.S.Staging.areas c.self.inside.held.staging) c.self.invariant.0
+    (work-reserved-is c.self.view_is c.requires.reserved)).answer
+    ∙ ap (λ h. answer_to c.args.fails.now (node_of h)) (held-is c.self.view_is)
 
 pub returns-clause-node : goal.returns-clause-node
-returns-clause-node g c = c.work.ensures.node
-    ∙ ap (λ (v : Holding). after_work c.args.fails.now (node_of v)) c.self.view_is
+returns-clause-node g c =
+    (c.work.ensures.worked (g.S.Staging.areas c.self.inside.held.staging) c.self.invariant.0
+    (work-reserved-is c.self.view_is c.requires.reserved)).node
+    ∙ ap (λ h. after_work c.args.fails.now (node_of h)) (held-is c.self.view_is)
+
+pub returns-clause-state : goal.returns-clause-state
+returns-clause-state g c =
+    c.work.ensures.state ∙ ap (λ h. state_worked (under h) c.work.result) (held-is c.self.view_is)
 
 pub returns-clause-valid : goal.returns-clause-valid
-returns-clause-valid g c = worked-fit _ c.work.new.self c.args.fails.now c.self.invariant c.work.ensures.node
+returns-clause-valid g c =
+    (c.work.ensures.worked (g.S.Staging.areas c.self.inside.held.staging) c.self.invariant.0
+    (work-reserved-is c.self.view_is c.requires.reserved)).sound.fit

@@ -1,0 +1,190 @@
+use Rattle.node_core.proofs.Names.{Areas, Extent, Holding, IsNextUnit, IsUnitOf, LeavesOutside, LieWithin, List, Some, ap}
+use Rattle.node_core.proofs.Names.{content_of, false, holding, length, parts_place, piece_of, refl, side_of, slice_range, subst}
+use Rattle.node_core.proofs.Names.{sym, true, ◌+◌, ◌∙◌, ◌≡◌, ◌≤◌}
+use Rattle.transfer_blocks.specs.declared.area.Area.TheVariants.{Transfer}
+use Rattle.transfer_blocks.specs.Steps.{with_bytes}
+use Rattle.node_core.specs.Reserves.{Writes}
+use Rattle.node_core.proofs.Copied.{needs}
+use Rattle.node_core.proofs.Reserved.{failed-reserves, no-unit, none-ready, nothing-reserves, piece-own, reads-failed}
+use Rattle.node_core.proofs.Reserved.{reads-reserve, sound-stands, unit-reserves}
+use Rattle.node_core.proofs.Runs.{reads-none, writes-then}
+use Rattle.node_core.proofs.copying.reserve_unit.Goals as goal
+
+pub returns-in_err-next-clause-reserves : goal.returns-in_err-next-clause-reserves
+returns-in_err-next-clause-reserves g c =
+    reads-failed g.S.Staging.obeys g.S.Staging.areas c.args.state.now c.args.staging.now c.args.staging.now _
+    c.from_residual.result c.from_residual.ensures.1 (λ done. tt) c.requires.sound (reads-none _ false _) refl
+
+pub returns-in_default-clause-reserves : goal.returns-in_default-clause-reserves
+returns-in_default-clause-reserves g c =
+    let s = c.args.state.now in
+    nothing-reserves g.S.Staging.obeys g.S.Staging.areas s _ _ true _ (λ done. tt)
+    (sound-stands (holding (g.S.Staging.areas c.args.staging.now) s) c.requires.sound)
+    (λ ok held fit stand. no-unit (holding held s) c.requires.status
+    (subst (IsNextUnit s) c.in_default.is c.in_ok-next.ensures))
+
+pub find_piece-requires-clause-slot : goal.find_piece-requires-clause-slot
+find_piece-requires-clause-slot g c =
+    let s = c.args.state.now in
+    let v : Holding = holding (g.S.Staging.areas c.args.staging.now) s in
+    let next = c.in-Some.next in
+    let u : IsUnitOf s next = subst (IsNextUnit s) c.in-Some.is c.in_ok-next.ensures in
+    (needs v c.requires.sound c.requires.status u).slot-is
+
+pub find_piece-requires-clause-lie : goal.find_piece-requires-clause-lie
+find_piece-requires-clause-lie g c =
+    let s = c.args.state.now in
+    let v : Holding = holding (g.S.Staging.areas c.args.staging.now) s in
+    let next = c.in-Some.next in
+    let u : IsUnitOf s next = subst (IsNextUnit s) c.in-Some.is c.in_ok-next.ensures in
+    subst (λ (es : List Extent). LieWithin (content_of (Transfer next.slot) v.areas) (parts_place (length es)) es)
+    (sym c.as_slice.ensures.value) (needs v c.requires.sound c.requires.status u).lie
+
+pub find_piece-requires-clause-short : goal.find_piece-requires-clause-short
+find_piece-requires-clause-short g c =
+    let s = c.args.state.now in
+    let v : Holding = holding (g.S.Staging.areas c.args.staging.now) s in
+    let next = c.in-Some.next in
+    let u : IsUnitOf s next = subst (IsNextUnit s) c.in-Some.is c.in_ok-next.ensures in
+    (g.met.S.Staging.areas_fit c.args.staging.now).contents (Transfer next.slot)
+    (needs v c.requires.sound c.requires.status u).slot-is
+
+pub returns-in_err-piece-clause-reserves : goal.returns-in_err-piece-clause-reserves
+returns-in_err-piece-clause-reserves g c =
+    reads-failed g.S.Staging.obeys g.S.Staging.areas c.args.state.now c.args.staging.now c.find_piece.new.staging _
+    c.from_residual-in_err-piece.result c.from_residual-in_err-piece.ensures.1 (λ done. tt) c.requires.sound
+    c.in_err-piece.ensures.reads c.in_err-piece.ensures.areas
+
+pub returns-in_default-2-clause-reserves : goal.returns-in_default-2-clause-reserves
+returns-in_default-2-clause-reserves g c =
+    let s = c.args.state.now in
+    let v : Holding = holding (g.S.Staging.areas c.args.staging.now) s in
+    let next = c.in-Some.next in
+    let u : IsUnitOf s next = subst (IsNextUnit s) c.in-Some.is c.in_ok-next.ensures in
+    absurd ((needs v c.requires.sound c.requires.status u).some
+    (ap (λ (es : List Extent). piece_of (content_of (Transfer next.slot) v.areas) (parts_place (length es)) next.done es)
+    (sym c.as_slice.ensures.value) ∙ sym c.in_ok-piece.ensures.piece ∙ c.in_default-2.is))
+
+pub returns-then-piece-eq0-clause-reserves : goal.returns-then-piece-eq0-clause-reserves
+returns-then-piece-eq0-clause-reserves g c =
+    let s = c.args.state.now in
+    let v : Holding = holding (g.S.Staging.areas c.args.staging.now) s in
+    let next = c.in-Some.next in
+    let u : IsUnitOf s next = subst (IsNextUnit s) c.in-Some.is c.in_ok-next.ensures in
+    let piece = c.in-Some-2.piece in
+    let found : piece_of (content_of (Transfer next.slot) v.areas) (parts_place (length next.extents.items)) next.done
+    next.extents.items ≡ Some piece =
+    ap (λ (es : List Extent). piece_of (content_of (Transfer next.slot) v.areas) (parts_place (length es)) next.done es)
+    (sym c.as_slice.ensures.value) ∙ sym c.in_ok-piece.ensures.piece ∙ c.in-Some-2.is in
+    reads-reserve g.S.Staging.obeys g.S.Staging.areas s _ _ c.args.staging.now c.find_piece.new.staging true (λ done. tt)
+    c.in_ok-piece.ensures.reads c.in_ok-piece.ensures.areas (sound-stands v c.requires.sound)
+    (λ ok. none-ready v c.requires.sound c.requires.status u piece found c.planning-planned.result
+    c.planning-planned.ensures c.if-piece-eq0.true)
+
+pub copy-requires-clause-slot : goal.copy-requires-clause-slot
+copy-requires-clause-slot g c =
+    let s = c.args.state.now in
+    let v : Holding = holding (g.S.Staging.areas c.args.staging.now) s in
+    let next = c.in-Some.next in
+    let u : IsUnitOf s next = subst (IsNextUnit s) c.in-Some.is c.in_ok-next.ensures in
+    (needs v c.requires.sound c.requires.status u).slot-is
+
+pub copy-requires-clause-area : goal.copy-requires-clause-area
+copy-requires-clause-area g c =
+    let s = c.args.state.now in
+    let v : Holding = holding (g.S.Staging.areas c.args.staging.now) s in
+    let next = c.in-Some.next in
+    let u : IsUnitOf s next = subst (IsNextUnit s) c.in-Some.is c.in_ok-next.ensures in
+    let piece = c.in-Some-2.piece in
+    let found : piece_of (content_of (Transfer next.slot) v.areas) (parts_place (length next.extents.items)) next.done
+    next.extents.items ≡ Some piece =
+    ap (λ (es : List Extent). piece_of (content_of (Transfer next.slot) v.areas) (parts_place (length es)) next.done es)
+    (sym c.as_slice.ensures.value) ∙ sym c.in_ok-piece.ensures.piece ∙ c.in-Some-2.is in
+    (piece-own v c.requires.sound c.requires.status u piece found).area
+
+pub copy-requires-clause-range : goal.copy-requires-clause-range
+copy-requires-clause-range g c =
+    let s = c.args.state.now in
+    let v : Holding = holding (g.S.Staging.areas c.args.staging.now) s in
+    let next = c.in-Some.next in
+    let u : IsUnitOf s next = subst (IsNextUnit s) c.in-Some.is c.in_ok-next.ensures in
+    let piece = c.in-Some-2.piece in
+    let found : piece_of (content_of (Transfer next.slot) v.areas) (parts_place (length next.extents.items)) next.done
+    next.extents.items ≡ Some piece =
+    ap (λ (es : List Extent). piece_of (content_of (Transfer next.slot) v.areas) (parts_place (length es)) next.done es)
+    (sym c.as_slice.ensures.value) ∙ sym c.in_ok-piece.ensures.piece ∙ c.in-Some-2.is in
+    subst (λ (a : Areas). piece.from + piece.len ≤ length (content_of (Transfer next.slot) a))
+    (sym c.in_ok-piece.ensures.areas) (piece-own v c.requires.sound c.requires.status u piece found).range
+
+pub copy-requires-clause-done : goal.copy-requires-clause-done
+copy-requires-clause-done g c =
+    let s = c.args.state.now in
+    let v : Holding = holding (g.S.Staging.areas c.args.staging.now) s in
+    let next = c.in-Some.next in
+    let u : IsUnitOf s next = subst (IsNextUnit s) c.in-Some.is c.in_ok-next.ensures in
+    let piece = c.in-Some-2.piece in
+    let found : piece_of (content_of (Transfer next.slot) v.areas) (parts_place (length next.extents.items)) next.done
+    next.extents.items ≡ Some piece =
+    ap (λ (es : List Extent). piece_of (content_of (Transfer next.slot) v.areas) (parts_place (length es)) next.done es)
+    (sym c.as_slice.ensures.value) ∙ sym c.in_ok-piece.ensures.piece ∙ c.in-Some-2.is in
+    subst (λ (a : Areas). piece.at ≤ length (content_of (side_of piece.to) a)) (sym c.in_ok-piece.ensures.areas)
+    (piece-own v c.requires.sound c.requires.status u piece found).begin
+
+pub copy-requires-clause-fits : goal.copy-requires-clause-fits
+copy-requires-clause-fits g c =
+    let s = c.args.state.now in
+    let v : Holding = holding (g.S.Staging.areas c.args.staging.now) s in
+    let next = c.in-Some.next in
+    let u : IsUnitOf s next = subst (IsNextUnit s) c.in-Some.is c.in_ok-next.ensures in
+    let piece = c.in-Some-2.piece in
+    let found : piece_of (content_of (Transfer next.slot) v.areas) (parts_place (length next.extents.items)) next.done
+    next.extents.items ≡ Some piece =
+    ap (λ (es : List Extent). piece_of (content_of (Transfer next.slot) v.areas) (parts_place (length es)) next.done es)
+    (sym c.as_slice.ensures.value) ∙ sym c.in_ok-piece.ensures.piece ∙ c.in-Some-2.is in
+    (piece-own v c.requires.sound c.requires.status u piece found).fits
+
+pub returns-in_err-copy-clause-reserves : goal.returns-in_err-copy-clause-reserves
+returns-in_err-copy-clause-reserves g c =
+    let s = c.args.state.now in
+    let v : Holding = holding (g.S.Staging.areas c.args.staging.now) s in
+    let next = c.in-Some.next in
+    let u : IsUnitOf s next = subst (IsNextUnit s) c.in-Some.is c.in_ok-next.ensures in
+    let piece = c.in-Some-2.piece in
+    let found : piece_of (content_of (Transfer next.slot) v.areas) (parts_place (length next.extents.items)) next.done
+    next.extents.items ≡ Some piece =
+    ap (λ (es : List Extent). piece_of (content_of (Transfer next.slot) v.areas) (parts_place (length es)) next.done es)
+    (sym c.as_slice.ensures.value) ∙ sym c.in_ok-piece.ensures.piece ∙ c.in-Some-2.is in
+    let writes = subst (λ (a : Areas). Writes g.S.Staging.obeys (side_of piece.to) piece.at
+    (slice_range (content_of (Transfer next.slot) a) piece.from (piece.from + piece.len)) false c.find_piece.new.staging
+    c.copy.new.staging) c.in_ok-piece.ensures.areas c.in_err-copy.ensures.writes in
+    let left = subst (λ (a : Areas). LeavesOutside (side_of piece.to) piece.at piece.len a
+    (g.S.Staging.areas c.copy.new.staging)) c.in_ok-piece.ensures.areas c.in_err-copy.ensures.left in
+    failed-reserves _ c.from_residual-in_err-copy.result c.from_residual-in_err-copy.ensures.1
+    (unit-reserves g.S.Staging.obeys g.S.Staging.areas s c.args.staging.now c.copy.new.staging c.requires.sound
+    c.requires.status u piece found c.planning-planned.result c.planning-planned.ensures c.if-piece-eq0.false
+    (g.met.S.Staging.areas_fit c.args.staging.now) false
+    (writes-then _ _ _ _ false _ _ _ c.in_ok-piece.ensures.reads writes) (λ e. absurd (cc e)) left)
+
+pub returns-clause-reserves : goal.returns-clause-reserves
+returns-clause-reserves g c =
+    let s = c.args.state.now in
+    let v : Holding = holding (g.S.Staging.areas c.args.staging.now) s in
+    let next = c.in-Some.next in
+    let u : IsUnitOf s next = subst (IsNextUnit s) c.in-Some.is c.in_ok-next.ensures in
+    let piece = c.in-Some-2.piece in
+    let found : piece_of (content_of (Transfer next.slot) v.areas) (parts_place (length next.extents.items)) next.done
+    next.extents.items ≡ Some piece =
+    ap (λ (es : List Extent). piece_of (content_of (Transfer next.slot) v.areas) (parts_place (length es)) next.done es)
+    (sym c.as_slice.ensures.value) ∙ sym c.in_ok-piece.ensures.piece ∙ c.in-Some-2.is in
+    let writes = subst (λ (a : Areas). Writes g.S.Staging.obeys (side_of piece.to) piece.at
+    (slice_range (content_of (Transfer next.slot) a) piece.from (piece.from + piece.len)) true c.find_piece.new.staging
+    c.copy.new.staging) c.in_ok-piece.ensures.areas c.in_ok-copy.ensures.writes in
+    let left = subst (λ (a : Areas). LeavesOutside (side_of piece.to) piece.at piece.len a
+    (g.S.Staging.areas c.copy.new.staging)) c.in_ok-piece.ensures.areas c.in_ok-copy.ensures.left in
+    unit-reserves g.S.Staging.obeys g.S.Staging.areas s c.args.staging.now c.copy.new.staging c.requires.sound
+    c.requires.status u piece found c.planning-planned.result c.planning-planned.ensures c.if-piece-eq0.false
+    (g.met.S.Staging.areas_fit c.args.staging.now) true
+    (writes-then _ _ _ _ true _ _ _ c.in_ok-piece.ensures.reads writes)
+    (λ e. subst (λ (a : Areas). g.S.Staging.areas c.copy.new.staging ≡ with_bytes (side_of piece.to) piece.at
+    (slice_range (content_of (Transfer next.slot) a) piece.from (piece.from + piece.len)) a)
+    c.in_ok-piece.ensures.areas c.in_ok-copy.ensures.put) left

@@ -1,0 +1,56 @@
+use Rattle.node_core.proofs.Names.{Holding, None, Some, State, ap, exit_refusals, false, first_refusal, found_of, holding, refl}
+use Rattle.node_core.proofs.Names.{stored_header, subst, sym, true, zero-add, ◌∙◌, ◌≡◌, ◌≢◌}
+use Rattle.node_core.specs.declared.prepared.Prepared.TheVariants.{Verdict as Judged}
+use Rattle.node_core.proofs.Reserved.{exit-ready, nothing-reserves, reads-failed, reads-reserve, sound-stands}
+use Rattle.node_core.proofs.Runs.{reads-none, reads-one, reads-then}
+use Rattle.node_core.proofs.Staging.{found-lies, found-slot, got-ready, refused-exit}
+use Rattle.node_core.proofs.transfers.read.Goals as goal
+
+pub returns-in_default-clause-reserves : goal.returns-in_default-clause-reserves
+returns-in_default-clause-reserves g c =
+    nothing-reserves g.S.Staging.obeys g.S.Staging.areas c.args.state.now _ _ true _ (λ done. tt)
+    (sound-stands (holding (g.S.Staging.areas c.args.staging.now) c.args.state.now) c.requires.sound)
+    (λ ok held fit stand. refused-exit (holding held c.args.state.now) c.args.client c.args.id
+    (subst (λ (s : State). first_refusal (exit_refusals (stored_header s.transfers c.args.client c.args.id)) ≢ None)
+    c.state.view_is (c.in_default.ensures.refused refl)))
+
+pub get-requires-clause-area : goal.get-requires-clause-area
+get-requires-clause-area g c =
+    let is : found_of c.args.state.now.transfers c.args.client c.args.id ≡ Some c.in-Some.found =
+    ap (λ (s : State). found_of s.transfers c.args.client c.args.id) (sym c.state.view_is) ∙ c.in-Some.ensures.found in
+    found-slot (holding (g.S.Staging.areas c.args.staging.now) c.args.state.now) c.requires.sound c.args.client c.args.id
+    c.in-Some.found is
+
+pub get-requires-clause-range : goal.get-requires-clause-range
+get-requires-clause-range g c =
+    let is : found_of c.args.state.now.transfers c.args.client c.args.id ≡ Some c.in-Some.found =
+    ap (λ (s : State). found_of s.transfers c.args.client c.args.id) (sym c.state.view_is) ∙ c.in-Some.ensures.found in
+    rw (zero-add c.in-Some.found.header.received)
+    (found-lies (holding (g.S.Staging.areas c.args.staging.now) c.args.state.now) c.requires.sound c.args.client c.args.id
+    c.in-Some.found is)
+
+pub returns-in_err-bytes-clause-reserves : goal.returns-in_err-bytes-clause-reserves
+returns-in_err-bytes-clause-reserves g c =
+    reads-failed g.S.Staging.obeys g.S.Staging.areas c.args.state.now c.args.staging.now c.get.new.self _
+    c.from_residual.result c.from_residual.ensures.1 (λ done. tt) c.requires.sound
+    (reads-one _ false _ _ c.in_err-bytes.ensures.obeys) c.in_err-bytes.ensures.areas
+
+pub returns-in_err-verdict-clause-reserves : goal.returns-in_err-verdict-clause-reserves
+returns-in_err-verdict-clause-reserves g c =
+    reads-failed g.S.Staging.obeys g.S.Staging.areas c.args.state.now c.args.staging.now c.get.new.self _
+    c.from_residual-in_err-verdict.result c.from_residual-in_err-verdict.ensures.1 (λ done. tt) c.requires.sound
+    (reads-then g.S.Staging.obeys false c.args.staging.now c.get.new.self c.get.new.self
+    (reads-one _ true _ _ c.in_ok-bytes.ensures.obeys) (reads-none _ false _)) c.in_ok-bytes.ensures.areas
+
+pub returns-clause-reserves : goal.returns-clause-reserves
+returns-clause-reserves g c =
+    let s = c.args.state.now in
+    let v : Holding = holding (g.S.Staging.areas c.args.staging.now) s in
+    let is : found_of s.transfers c.args.client c.args.id ≡ Some c.in-Some.found =
+    ap (λ (s : State). found_of s.transfers c.args.client c.args.id) (sym c.state.view_is) ∙ c.in-Some.ensures.found in
+    let ready = got-ready v c.requires.sound c.args.client c.args.id c.in-Some.found is c.as_slice.result.now
+    c.in_ok-verdict.field-0 (c.as_slice.ensures.value ∙ c.in_ok-bytes.ensures.bytes) c.in_ok-verdict.ensures in
+    reads-reserve g.S.Staging.obeys g.S.Staging.areas s _ _ c.args.staging.now c.get.new.self true (λ done. tt)
+    (reads-one _ true _ _ c.in_ok-bytes.ensures.obeys) c.in_ok-bytes.ensures.areas (sound-stands v c.requires.sound)
+    (λ ok held fit stand. exit-ready (record v { prepared = Judged c.in_ok-verdict.field-0 }) held c.args.client c.args.id
+    stand ready)
