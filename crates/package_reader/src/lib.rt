@@ -23,6 +23,3 @@ pub use packed::{Packages, Packed};
 pub use print::{PrintError, are_parts, is_too_large, package_size, print_package, seal_package};
 pub use read::{Contents, read_package};
 pub use span::Span;
-
-#[cfg(test)]
-mod tests;

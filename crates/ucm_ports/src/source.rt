@@ -8,7 +8,7 @@ use crate::PortError;
 use std::alloc::{AllocError, Global};
 
 /// The bytes that one call of [`read_all`] asks for at a time.
-const PIECE: usize = 8192;
+const PIECE: usize = 65_536;
 
 /// Where bytes come from.
 pub trait Source {

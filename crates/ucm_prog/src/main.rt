@@ -15,8 +15,6 @@ mod pack;
 mod plain;
 mod replay;
 mod status;
-#[cfg(test)]
-mod tests;
 
 use disk_mem::MemDisk;
 use status::ExitStatus;

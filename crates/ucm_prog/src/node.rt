@@ -25,8 +25,8 @@ pub fn begin(
     attached: &[u8],
 ) -> Result<Core<MemStaging>, AllocError>
     requires { IsAllowed installed.now }
-    ensures node { IfOk result (λ core. node_of core ≡ begun attached.now installed.now) }
-    ensures entries { IfOk result (λ core. core.state.entries ≡ 0) }
+    ensures node { IfOk result (λ core. node_of core.held ≡ begun attached.now installed.now) }
+    ensures entries { IfOk result (λ core. core.held.state.entries ≡ 0) }
 {
     let clusters = clusters_of(alloc, installed, attached)?;
     format_node(alloc, clusters)
@@ -68,8 +68,8 @@ fn format_node(alloc: Global, clusters: Vec<Cluster<Block>>) -> Result<Core<MemS
     requires differ { IsTrue (all_differ (map (λ c. c.name) clusters.items)) }
     requires few { length clusters.items ≤ cluster_limit }
     requires short { AllByRecursion (λ c. length c.content ≤ package_limit) clusters.items }
-    ensures node { IfOk result (λ core. node_of core ≡ formatted (in_order clusters.items)) }
-    ensures entries { IfOk result (λ core. core.state.entries ≡ 0) }
+    ensures node { IfOk result (λ core. node_of core.held ≡ formatted (in_order clusters.items)) }
+    ensures entries { IfOk result (λ core. core.held.state.entries ≡ 0) }
 {
     let mut staging = MemStaging::new(alloc)?;
     match format_areas(alloc, &mut staging, clusters) {
@@ -87,12 +87,12 @@ pub fn execute(
     no: CallNo,
     call: &Call,
 ) -> Result<Given, AllocError>
-    requires { core.old.state.entries < entry_limit }
+    requires { core.old.held.state.entries < entry_limit }
     ensures given { IfOk result (λ given. given
-        ≡ Given.Reached (called (node_of core.old) client no call.now).1) }
-    ensures node { OnOk result (node_of core.new
-        ≡ (called (node_of core.old) client no call.now).0) }
-    ensures entries { core.new.state.entries ≤ core.old.state.entries + 1 }
+        ≡ Given.Reached (called (node_of core.old.held) client no call.now).1) }
+    ensures node { OnOk result (node_of core.new.held
+        ≡ (called (node_of core.old.held) client no call.now).0) }
+    ensures entries { core.new.held.state.entries ≤ core.old.held.state.entries + 1 }
 {
     match core.reserve(alloc, client, no, call) {
         Ok(()) => Ok(Given::Reached(core.exec(client, no, call))),
@@ -107,11 +107,11 @@ pub fn work(
     core: &mut Core<MemStaging>,
     fails: &[ClusterName],
 ) -> Result<Given, AllocError>
-    requires { core.old.state.entries < entry_limit }
+    requires { core.old.held.state.entries < entry_limit }
     ensures given { IfOk result (λ given. given
-        ≡ Given.Worked (answer_to fails.now (node_of core.old))) }
-    ensures node { OnOk result (node_of core.new ≡ after_work fails.now (node_of core.old)) }
-    ensures entries { core.new.state.entries ≤ core.old.state.entries + 1 }
+        ≡ Given.Worked (answer_to fails.now (node_of core.old.held))) }
+    ensures node { OnOk result (node_of core.new.held ≡ after_work fails.now (node_of core.old.held)) }
+    ensures entries { core.new.held.state.entries ≤ core.old.held.state.entries + 1 }
 {
     match core.reserve_work(alloc) {
         Ok(()) => Ok(Given::Worked(core.work(fails))),

@@ -54,9 +54,9 @@ fn lines(
     attached: &[u8],
     events: &[EventLine],
 ) -> Result<String, AllocError>
-    requires { core.state.entries ≡ 0 }
+    requires { core.held.state.entries ≡ 0 }
     ensures { IfOk result (λ text. string_bytes text
-        ≡ texts_of script.now attached.now (node_of core) events.now) }
+        ≡ texts_of script.now attached.now (node_of core.held) events.now) }
 {
     let mut core = core;
     let mut text = String::new(alloc);
@@ -85,12 +85,12 @@ fn give(
     attached: &[u8],
     event: &Event,
 ) -> Result<Given, AllocError>
-    requires { core.old.state.entries < entry_limit }
+    requires { core.old.held.state.entries < entry_limit }
     ensures given { IfOk result (λ given. given
-        ≡ given_by script.now attached.now (node_of core.old) event.now) }
-    ensures node { OnOk result (node_of core.new
-        ≡ after_event script.now attached.now (node_of core.old) event.now) }
-    ensures entries { core.new.state.entries ≤ core.old.state.entries + 1 }
+        ≡ given_by script.now attached.now (node_of core.old.held) event.now) }
+    ensures node { OnOk result (node_of core.new.held
+        ≡ after_event script.now attached.now (node_of core.old.held) event.now) }
+    ensures entries { core.new.held.state.entries ≤ core.old.held.state.entries + 1 }
 {
     match event {
         Event::Call { client, no, call } => {

@@ -5,7 +5,7 @@ use Rattle.ucm_prog.proofs.replay.lines.Given as goal
 
 abbrev pub invariant-events : goal.invariant-events
 invariant-events l = record {
-  text : texts_of l.script l.attached (node_of l.initial.core) l.events ≡ string_bytes l.text
-      ++ texts_of l.script l.attached (node_of l.core) (drop l.event-index l.events);
-  entries : l.core.state.entries ≤ l.event-index;
+  text : texts_of l.script l.attached (node_of l.initial.core.held) l.events ≡ string_bytes l.text
+      ++ texts_of l.script l.attached (node_of l.core.held) (drop l.event-index l.events);
+  entries : l.core.held.state.entries ≤ l.event-index;
 }

@@ -1,5 +1,5 @@
 //! What is printed of parts and read again; what bytes are refused by stands in the scenarios.
-use crate::{Packed, PrintError, is_too_large, print_package, seal_package};
+use package_reader::{Packed, PrintError, is_too_large, print_package, seal_package};
 use sha2::{Digest, Sha256};
 use std::alloc::Global;
 use std::test::Fail;
