@@ -2,3 +2,4 @@ pub mod Flagged
 pub mod Appended
 pub mod Codes
 pub mod Worked
+pub mod Within

@@ -1,5 +1,8 @@
 -- A campaign as its callers see it.
-use Rattle.std.specs.Prelude.{◌≡◌, Bool, true, false, None}
+use Rattle.std.specs.Prelude.{◌≡◌, ℕ, ◌+◌, ◌≤◌, Bool, true, false, List, length, take, Option, Some, None}
+use Rattle.ucm_base.specs.Limits.{campaign_limit}
+use Rattle.campaign_core.specs.declared.events.CampaignResult.{CampaignResult}
+use Rattle.campaign_core.specs.declared.fold.Current.{Current}
 use Rattle.campaign_core.specs.declared.events.MasterEvent.{MasterEvent}
 use Rattle.campaign_core.specs.declared.events.MasterEvent.TheVariants.{Start, Begin, Enter}
 use Rattle.campaign_core.specs.declared.fold.Fold.{Fold}
@@ -8,6 +11,10 @@ use Rattle.campaign_core.specs.declared.fold.Fold.{Fold}
 pub record Standing : Type 0 where
   pub fold : Fold
   pub ready : Bool
+
+-- the first of these campaigns
+abbrev pub IsFront : List (ℕ × CampaignResult) → List (ℕ × CampaignResult) → Type 0
+IsFront first all = first ≡ take (length first) all
 
 -- whether an event is about the current campaign
 abbrev pub is_of_current : MasterEvent → Bool
@@ -23,3 +30,12 @@ FindsNone f e = (is_of_current e ≡ true) × (f.current ≡ None)
 abbrev pub is_entry : MasterEvent → Bool
 is_entry (Enter _) = true
 is_entry _ = false
+
+-- whether a campaign is current, as a number
+abbrev pub running : Option Current → ℕ
+running None = 0
+running (Some c) = 1
+
+-- the earlier campaigns and a current one are no more than a master keeps
+abbrev pub IsWithin : Fold → Type 0
+IsWithin f = length f.earlier + running f.current ≤ campaign_limit

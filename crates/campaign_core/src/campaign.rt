@@ -16,20 +16,23 @@ use std::marker::Model;
 #[derive(Drop)]
 pub struct Campaign {
     fold: Fold,
-    /// The earlier campaigns again, with room for one more, once they are reserved.
-    next: Option<Vec<(u32, CampaignResult)>>,
+    /// The first of the earlier campaigns again; all of them, with room for one more, where the memory is reserved. The
+    /// two lists change places when a campaign is entered, so no event copies what the other ones entered.
+    next: Vec<(u32, CampaignResult)>,
+    ready: bool,
 }
 
 impl Model for Campaign {
-    ghost use Rattle.std.specs.Prelude.{◌≡◌, ◌<◌, IfSome, is_some, vec_len, vec_capacity};
-    ghost use Rattle.campaign_core.specs.Standing.{Standing};
+    ghost use Rattle.std.specs.Prelude.{◌≡◌, ◌<◌, true, vec_len, vec_capacity};
+    ghost use Rattle.campaign_core.specs.Standing.{Standing, IsFront};
 
     ghost Value = { Standing };
 
-    ghost view = { λ a. record { fold = a.fold; ready = is_some a.next } };
+    ghost view = { λ a. record { fold = a.fold; ready = a.ready } };
 
-    ghost invariant = { λ a. IfSome a.next
-        (λ v. (v.items ≡ a.fold.earlier) × (vec_len v < vec_capacity v)) };
+    ghost invariant = { λ a. IsFront a.next.items a.fold.earlier
+        × (a.ready ≡ true
+        → (a.next.items ≡ a.fold.earlier) × (vec_len a.next < vec_capacity a.next)) };
 }
 
 impl Campaign {
@@ -44,7 +47,12 @@ impl Campaign {
     pub fn at(fold: Fold) -> Campaign
         ensures { result ≡ record { fold = fold; ready = false } }
     {
-        Campaign { fold, next: None }
+        let next = fold.earlier.none();
+        Campaign {
+            fold,
+            next,
+            ready: false,
+        }
     }
 
     /// The fold of the events so far.
@@ -58,7 +66,7 @@ impl Campaign {
     pub fn is_ready(&self) -> bool
         ensures { result ≡ self.now.ready }
     {
-        self.next.is_some()
+        self.ready
     }
 
     /// Takes the memory of the next event.
@@ -67,8 +75,9 @@ impl Campaign {
         ensures fold { self.new.fold ≡ self.old.fold }
         ensures stays_ready { self.old.ready ≡ true → self.new.ready ≡ true }
     {
-        if self.next.is_none() {
-            self.next = Some(self.fold.earlier.with_room()?);
+        if !self.ready {
+            self.fold.earlier.make_room(&mut self.next)?;
+            self.ready = true;
         }
         Ok(())
     }
@@ -106,13 +115,11 @@ impl Campaign {
         requires { self.old.ready ≡ true }
         ensures { self.new.fold ≡ after_event self.old.fold (MasterEvent.Enter given) }
     {
-        let Some(mut next) = self.next.take() else {
-            unreachable!();
-        };
         if let Some(current) = self.fold.current.take() {
-            next.push_reserved((current.campaign, given));
+            self.next.push_reserved((current.campaign, given));
         }
-        self.fold.earlier = CampaignList::of(next);
+        self.fold.earlier.change_places(&mut self.next);
+        self.ready = false;
     }
 
     /// The state of the campaign. It takes no memory.
@@ -134,20 +141,5 @@ impl Campaign {
         ensures { IfOk result (λ list. list ≡ self.now.fold.earlier) }
     {
         Ok(CampaignList::of(self.fold.earlier.copy()?))
-    }
-}
-
-#[cfg(test)]
-mod tests {
-    use super::*;
-    use std::test::Fail;
-
-    #[test]
-    fn what_takes_memory_succeeds_where_there_is_some(rt: HostRuntime) -> Result<(), Fail> {
-        let mut campaign = Campaign::new(rt.alloc());
-        campaign.reserve()?;
-        assert!(rt; campaign.apply(&MasterEvent::Start { epoch: 1 }).is_ok());
-        assert!(rt; campaign.history()?.as_slice().is_empty());
-        Ok(())
     }
 }

@@ -1,12 +1,14 @@
 //! What the master's list says: the epoch, the earlier campaigns and the current one.
-ghost use Rattle.std.specs.Prelude.{◌≡◌, ◌+◌, ◌<◌, ◌-◌, is_none, is_some, Option, None, IfOk, vec_len, vec_capacity};
+ghost use Rattle.std.specs.Prelude.{◌≡◌, ◌+◌, ◌<◌, ◌-◌, is_none, is_some, Option, None, [], IfOk, OnOk, vec_len, vec_capacity};
 ghost use Rattle.campaign_core.specs.Campaign.{all_ended, all_yes, begun, end_of, first_no, first_cause, has_ended, is_marked, is_undecided, nothing_yet, vote_of, voted_no, voted_yes};
 ghost use Rattle.campaign_core.specs.Nodes.{any_flag, flag_of};
+ghost use Rattle.campaign_core.specs.Standing.{IsFront};
 
 use crate::{CampaignResult, Cause, Decision, Phase, Vote};
 use pm_types::Outcome;
 use std::alloc::{AllocError, Global};
 use std::marker::Model;
+use std::mem;
 use ucm_base::{NodeId, NodeSet};
 
 /// Numbers of earlier campaigns with their results, in order, seen as their list.
@@ -46,14 +48,31 @@ impl CampaignList {
         Vec::from_slice(*self.items.allocator(), self.items.as_slice())
     }
 
-    /// A copy with room for one campaign more.
-    pub(crate) fn with_room(&self) -> Result<Vec<(u32, CampaignResult)>, AllocError>
-        ensures items { IfOk result (λ v. v.items ≡ self.now) }
-        ensures room { IfOk result (λ v. vec_len v < vec_capacity v) }
+    /// A list of none, in the same memory.
+    pub(crate) fn none(&self) -> Vec<(u32, CampaignResult)>
+        ensures { result.items ≡ [] }
     {
-        let mut items = self.copy()?;
-        items.reserve(1)?;
-        Ok(items)
+        Vec::new(*self.items.allocator())
+    }
+
+    /// Brings the first of these campaigns up to all of them, with room for one more.
+    pub(crate) fn make_room(&self, first: &mut Vec<(u32, CampaignResult)>) -> Result<(), AllocError>
+        requires first { IsFront first.old.items self.now }
+        ensures all { OnOk result (first.new.items ≡ self.now) }
+        ensures room { OnOk result (vec_len first.new < vec_capacity first.new) }
+        ensures front { IsFront first.new.items self.now }
+    {
+        let behind = &self.items[first.len()..];
+        first.extend_from_slice(behind)?;
+        first.reserve(1)
+    }
+
+    /// The two lists change places.
+    pub(crate) fn change_places(&mut self, items: &mut Vec<(u32, CampaignResult)>)
+        ensures here { self.new ≡ items.old.items }
+        ensures there { items.new.items ≡ self.old }
+    {
+        mem::swap(&mut self.items, items);
     }
 }
 

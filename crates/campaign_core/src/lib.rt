@@ -7,6 +7,7 @@
 #![tactic(auto)]
 
 mod campaign;
+mod display;
 mod events;
 mod fold;
 mod table;

@@ -19,7 +19,7 @@ const NOTE: usize = 900_000;
 const TWO_HALVES: u64 = 4_194_304;
 
 /// What a revive said of a third note that got no reply, and what is read again.
-#[derive(Drop)]
+#[derive(Debug, Drop)]
 pub struct NoteTried {
     pub revived: Option<Revived>,
     pub bytes: u64,

@@ -5,11 +5,11 @@ ghost use Rattle.disk_core.specs.Plans.{no_faults};
 ghost use Rattle.journal.specs.Ready.{IsReady};
 ghost use Rattle.disk_tries.specs.declared.tries.TryError.TheVariants.{Memory as no_memory, Read as not_read, Turn as not_turned};
 
-use crate::TurnError;
+use crate::turns::TurnError;
 use disk_area::Area;
 use disk_core::{Disk, FaultPlan, ReadError};
 use disk_mem::MemDisk;
-use journal::{Journal, JournalError, Records, list};
+use journal::{Journal, JournalError, list};
 use std::alloc::{AllocError, Global};
 
 /// Why nothing was tried.
@@ -50,11 +50,11 @@ impl From<TurnError> for TryError {
     }
 }
 
-/// How an append ended, what was read after a restart, and how often the disk had failed.
-#[derive(Drop)]
+/// How an append ended, how many records were read after a restart, and how often the disk had failed.
+#[derive(Debug, Drop)]
 pub struct Tried {
     pub ended: Result<(), JournalError>,
-    pub records: Records,
+    pub records: usize,
     pub faults: u64,
 }
 
@@ -98,7 +98,7 @@ pub fn try_append(
     match list(alloc, &mut disk, area) {
         Ok(records) => Ok(Tried {
             ended,
-            records,
+            records: records.len(),
             faults,
         }),
         Err(fault) => Err(TryError::Read(fault)),

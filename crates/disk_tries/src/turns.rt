@@ -7,7 +7,7 @@ ghost use Rattle.checkpoint.specs.Counting as counting;
 ghost use Rattle.disk_tries.specs.Fits.{Fits};
 ghost use Rattle.disk_tries.specs.declared.turns.TurnError.TheVariants.{Read as not_read, Store as not_stored};
 
-use crate::TryError;
+use crate::tries::TryError;
 use checkpoint::{HalfBytes, StoreError, open_half, other, prepare, read_half};
 use disk_core::{Disk, FaultPlan, ReadError};
 use disk_mem::MemDisk;
@@ -43,13 +43,13 @@ impl From<StoreError> for TurnError {
     }
 }
 
-/// How the last switch ended, what the half and the other one read as after a restart, and how often the disk had
-/// failed.
-#[derive(Drop)]
+/// How the last switch ended, the generations of the half and of the other one after a restart, where they read, and how
+/// often the disk had failed.
+#[derive(Debug, Drop)]
 pub struct Turned {
     pub ended: Result<(), TurnError>,
-    pub half: Option<HalfBytes>,
-    pub beside: Option<HalfBytes>,
+    pub half: Option<u64>,
+    pub beside: Option<u64>,
     pub faults: u64,
 }
 
@@ -113,8 +113,8 @@ fn turn_under(
     let beside = read_half(&mut disk, other(half))?;
     Ok(Turned {
         ended,
-        half: read,
-        beside,
+        half: read.map(|body| body.generation),
+        beside: beside.map(|body| body.generation),
         faults,
     })
 }

@@ -3,4 +3,4 @@ pub mod Outside
 pub mod Exits
 pub mod Fitting
 pub mod Bits
-pub mod OutsideMaster
+pub mod Sizes

@@ -21,13 +21,6 @@ use Rattle.event_codec.specs.States.{happened_spelled, HappenedFits}
 use Rattle.event_codec.specs.Unique.{parted, apart, unique-text}
 use Rattle.event_codec.specs.UniqueRecords.{Fields, fields_spelled, FieldsAreFit, unique-fields}
 
-pub missing_outside : (bytes : List ℕ)
-    → IsOutside (pair_spelled text_spelled (pair_spelled text_spelled text_spelled))
-    (PairFits IsName (PairFits IsName IsShort)) bytes
-    → IsOutside refusal_spelled RefusalFits (11 ∷ bytes)
-missing_outside bytes out (MissingDependencies a b c) rest f e = out (a, (b, c)) rest f (parted e).1
-missing_outside bytes out v rest f e = absurd (apart e refl)
-
 -- a text that fails the test is no text that passes it
 pub no_text : (test : List ℕ → Bool) (text rest bytes : List ℕ) → bytes ≡ text_spelled text ++ rest → test text ≡ false
     → IsOutside text_spelled (λ t. test t ≡ true) bytes

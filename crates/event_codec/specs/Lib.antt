@@ -13,3 +13,6 @@ pub mod UniqueClusters
 pub mod UniqueRecords
 pub mod UniqueStates
 pub mod UniqueMaster
+pub mod OutsideMaster
+pub mod Deciding
+pub mod DecidingMaster

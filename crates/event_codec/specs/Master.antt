@@ -140,3 +140,11 @@ fold_spelled f = u32_field f.epoch ⌢ campaigns_spelled f.earlier ⌢ option_sp
 
 abbrev pub FoldFits : Fold → Type 0
 FoldFits f = HasBits 32 f.epoch & CampaignsFit f.earlier & OptionFits CurrentFits f.current
+
+-- the most bytes of an event
+abbrev pub event_longest : ℕ
+event_longest = 143
+
+-- the most bytes of a fold with at most 4,096 earlier campaigns: five for each, and 1,170 beside them
+abbrev pub fold_longest : ℕ
+fold_longest = 21650

@@ -40,17 +40,17 @@ unique-node_set = record {
       );
 }
 
-phases : List (Option Phase)
+pub phases : List (Option Phase)
 phases = None ∷ Some Transferring ∷ Some Processing ∷ Some Activating ∷ []
 
-phase_at : (p : Option Phase) → get_or phases (phase_or_0 p) None ≡ p
+pub phase_at : (p : Option Phase) → get_or phases (phase_or_0 p) None ≡ p
 unfolding phases
 phase_at None = refl
 phase_at (Some Transferring) = refl
 phase_at (Some Processing) = refl
 phase_at (Some Activating) = refl
 
-unique-phase_or_none : IsUnique (λ p. u8_field (phase_or_0 p)) Any
+pub unique-phase_or_none : IsUnique (λ p. u8_field (phase_or_0 p)) Any
 unique-phase_or_none = unique-code phase_or_0 (λ n. get_or phases n None) phase_at
 
 pub unique-campaign_phase : IsUnique campaign_phase_spelled Any
@@ -98,7 +98,7 @@ same_decisions (Abort v) (Abort w) rest others f g e = absurd (apart e refl)
 pub unique-decision : IsUnique decision_spelled DecisionFits
 unique-decision = record { one = same_decisions }
 
-result_at : (r : CampaignResult) → get_or (Successful ∷ Failed ∷ Cancelled ∷ []) (result_code r) Successful ≡ r
+pub result_at : (r : CampaignResult) → get_or (Successful ∷ Failed ∷ Cancelled ∷ []) (result_code r) Successful ≡ r
 result_at Successful = refl
 result_at r = refl
 
@@ -150,7 +150,7 @@ unique-current =
     (unique-pair unique-bool (unique-pair unique-bool (unique-pair (unique-option unique-decision)
     (unique-many node_limit (unique-option unique-outcome)))))))))
 
-unique-earlier : IsUnique earlier_spelled EarlierFits
+pub unique-earlier : IsUnique earlier_spelled EarlierFits
 unique-earlier = unique-pair unique-u32 unique-result
 
 pub unique-campaigns : IsUnique campaigns_spelled CampaignsFit

@@ -26,7 +26,7 @@ status_at s = refl
 pub unique-status : IsUnique status_spelled Any
 unique-status = unique-code status_code (λ n. get_or statuses n Idle) status_at
 
-outcome_at : (o : Outcome) → get_or (New ∷ Old ∷ []) (outcome_code o) New ≡ o
+pub outcome_at : (o : Outcome) → get_or (New ∷ Old ∷ []) (outcome_code o) New ≡ o
 outcome_at New = refl
 outcome_at Old = refl
 

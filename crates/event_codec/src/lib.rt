@@ -1,6 +1,7 @@
-//! Records and states of a node, as bytes and back.
+//! Records and states of a node, events and state of the master, as bytes and back.
 //!
-//! Layer: stands on `pm_types`, `manifest` and `wire`; the recovery and the store of a node stand on it.
+//! Layer: stands on `pm_types`, `campaign_core`, `manifest` and `wire`; the stores of a node and of the master stand on
+//! it, and its rows are in `log_tries`.
 //! Its one contract: a put appends the spelling of a value, a take gives the value that bytes are the spelling of
 //! and none exactly where they are no value's, and no two values have one spelling.
 #![tactic(auto)]
@@ -24,7 +25,7 @@ pub use calls::StoredCall;
 pub use master::{put_event, put_fold};
 pub use records::{Record, put_record};
 pub use state::put_state;
-pub use whole::{no_spelling_begins_another, take_event, take_fold, take_record, take_state};
-
-#[cfg(test)]
-mod tests;
+pub use whole::{
+    no_spelling_begins_another, spellings_of_the_master_are_short, take_event, take_fold,
+    take_record, take_state, what_is_spelled_is_read,
+};

@@ -1,6 +1,5 @@
 -- The bytes outside the halves.
-use Rattle.std.proofs.Common.{◌≡◌, ⊎_elim, ℕ, ◌+◌, ◌-◌, ◌≤◌, List, take, drop, sym, ◌∙◌, ap, subst, arith}
-use Rattle.std.proofs.lemmas.List.{drop-drop, take-take}
+use Rattle.std.proofs.Common.{⊎_elim, ℕ, ◌+◌, ◌-◌, ◌≤◌, List, subst, arith}
 use Rattle.disk_core.specs.Bytes.{Torn}
 use Rattle.disk_core.specs.Images.{EachImage, Only, From}
 use Rattle.disk_core.specs.Moments.{LeavesOnly}

@@ -1,5 +1,5 @@
 -- The moments of formatting.
-use Rattle.std.proofs.Common.{◌≡◌, ⊎_elim, ℕ, List, None, refl, ◌∙◌}
+use Rattle.std.proofs.Common.{◌≡◌, ⊎_elim, ℕ, List, None, ◌∙◌}
 use Rattle.disk_core.specs.Images.{EachImage, From, Within}
 use Rattle.disk_core.specs.Moments.{Elapses, LeavesOnly}
 use Rattle.disk_core.proofs.Pieces.{torn_none}

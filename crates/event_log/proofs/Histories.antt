@@ -1,15 +1,15 @@
 -- What is known after a run of calls.
-use Rattle.std.proofs.Common.{◌≡◌, ℕ, List, [], ◌∷◌, Option, refl, sym, ◌∙◌, ap, subst}
+use Rattle.std.proofs.Common.{◌≡◌, ℕ, List, [], ◌∷◌, Option, refl, ◌∙◌, subst}
 use Rattle.std.specs.Prelude.{Result, Ok, Err, Some, OnOk, OnErr, IfOk, IsErrOf}
 use Rattle.disk_core.specs.Images.{EachImage}
 use Rattle.checkpoint.specs.declared.fault.StoreError.{StoreError}
 use Rattle.checkpoint.specs.declared.fault.StoreError.TheVariants.{Failed, OutOfMemory}
-use Rattle.event_log.specs.Meaning.{after_one, after_all}
+use Rattle.event_log.specs.Meaning.{after_all}
 use Rattle.event_log.specs.Holds.{Holds}
 use Rattle.event_log.specs.Doubts.{InDoubt, of_event, ended}
 use Rattle.event_log.specs.declared.revive.Revived.{Revived}
 use Rattle.event_log.specs.declared.revive.Revived.TheVariants.{Stood, Lost}
-use Rattle.event_log.specs.Runs.{Pending, nothing, event, Known, Turn, added, failed, stood, lost, unchanged, with_pending, then_known, Knows, KnowsAfter, settled, in_doubt, append_turn, revive_turn, acknowledged, known_after, Station, turns_of, last_log, last_disk, IsRun}
+use Rattle.event_log.specs.Runs.{Pending, nothing, event, Known, Turn, added, failed, stood, lost, unchanged, then_known, Knows, KnowsAfter, settled, in_doubt, append_turn, revive_turn, acknowledged, known_after, Station, turns_of, last_log, last_disk, IsRun}
 use Rattle.event_log.specs.declared.log.Log.{Log}
 
 module _ {S : Type 0} (step : S → List ℕ → Option S) where

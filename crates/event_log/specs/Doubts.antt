@@ -1,6 +1,6 @@
 -- What an image stands for while an event is in doubt.
-use Rattle.std.specs.Prelude.{◌⊎◌, ℕ, ◌+◌, ◌<◌, List, Option, Some}
-use Rattle.checkpoint.specs.Halves.{other}
+use Rattle.std.specs.Prelude.{◌⊎◌, ℕ, ◌+◌, ◌<◌, ◌≤◌, List, Option, Some}
+use Rattle.checkpoint.specs.Halves.{layout_of, other}
 use Rattle.checkpoint.specs.declared.layout.Layout.{Layout}
 use Rattle.event_log.specs.Holds.{Holds, StandsFor}
 use Rattle.event_log.specs.declared.log.Log.{Log}
@@ -25,6 +25,17 @@ Either start step layout doubt image =
 abbrev pub Longer : {S : Type 0} → (List ℕ → Option S) → (S → List ℕ → Option S) → Log → Option S → List ℕ → Type 0
 Longer start step log now image =
     (used : ℕ) × (log.used < used) × Holds start step (record log { used = used }) now image
+
+-- a record of n bytes fits behind the others, and the next gate behind it
+abbrev pub Fits : Log → ℕ → Type 0
+Fits log n = log.used + 6 + n ≤ (layout_of log.half).journal_len
+
+abbrev pub HasNoRoom : Log → ℕ → Type 0
+HasNoRoom log n = (layout_of log.half).journal_len < log.used + 6 + n
+
+-- the log behind one record more, of n bytes
+abbrev pub behind : Log → ℕ → Log
+behind log n = record log { used = log.used + (5 + n) }
 
 -- the log that begins in the other half
 abbrev pub switched : Log → Log

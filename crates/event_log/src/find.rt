@@ -34,7 +34,6 @@ pub fn open<D: Disk, S: Stored>(
     disk: &mut D,
     half: u8,
 ) -> Result<Option<Found>, StoreError>
-    requires half { half < 4 }
     requires size { halves.HasPair (halves.layout_of half) (D.seen disk.old) }
     requires can { CanOpen S.start (halves.layout_of half) (D.seen disk.old) }
     ensures found { IfOk result (λ found. MatchOption found

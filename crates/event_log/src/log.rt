@@ -1,12 +1,12 @@
 //! The log, and its event.
-ghost use Rattle.std.specs.Prelude.{◌≡◌, ◌+◌, ◌≤◌, ◌<◌, true, false, Some, length, OnOk, OnErr, IsErrOf};
+ghost use Rattle.std.specs.Prelude.{◌≡◌, ◌⊎◌, ◌+◌, ◌≤◌, ◌<◌, true, false, Some, length, OnOk, OnErr, IsErrOf};
 ghost use Rattle.disk_core.specs.Images.{EachImage, Only};
 ghost use Rattle.disk_core.specs.Moments.{LeavesOnly};
 ghost use Rattle.disk_core.specs.Served.{IsServed};
 ghost use Rattle.checkpoint.specs.Halves as halves;
 ghost use Rattle.event_log.specs.Beside.{InHalves};
 ghost use Rattle.event_log.specs.Holds.{Holds, StandsFor};
-ghost use Rattle.event_log.specs.Doubts.{Either, InDoubt, MaySwitch, switched, of_event};
+ghost use Rattle.event_log.specs.Doubts.{Either, Fits, HasNoRoom, InDoubt, MaySwitch, behind, switched, of_event};
 ghost use Rattle.event_log.specs.Runs.{KnowsAfter, settled, append_turn};
 
 use crate::stored::Stored;
@@ -54,15 +54,21 @@ impl Log {
 
         // Where the last generation has no room, nothing is written.
         ensures last { self.old.generation ≡ 18446744073709551615
-            → (halves.layout_of self.old.half).journal_len < self.old.used + 6 + length event.now
-            → IsErrOf result StoreError.OutOfMemory }
+            → HasNoRoom self.old (length event.now) → IsErrOf result StoreError.OutOfMemory }
 
         // Where a switch failed, `revive` will find the event lost.
         ensures switching { IsErrOf result StoreError.Failed → self.new ≡ self.old
-            → (halves.layout_of self.old.half).journal_len < self.old.used + 6 + length event.now
+            → HasNoRoom self.old (length event.now)
             → EachImage (D.images disk.new) (MaySwitch S.start S.step self.old (Some present.now)) }
-        ensures stays { self.old.used + 6 + length event.now
-            ≤ (halves.layout_of self.old.half).journal_len → self.new.half ≡ self.old.half }
+
+        // Where the record goes: behind the others where it fits, else first in the other half, with the next generation.
+        ensures here { Fits self.old (length event.now)
+            → OnOk result (self.new ≡ behind self.old (length event.now)) }
+        ensures beyond { HasNoRoom self.old (length event.now)
+            → OnOk result (self.new ≡ behind (switched self.old) (length event.now)) }
+        ensures here_failed { Fits self.old (length event.now) → OnErr result (self.new ≡ self.old) }
+        ensures beyond_failed { HasNoRoom self.old (length event.now)
+            → OnErr result ((self.new ≡ self.old) ⊎ (self.new ≡ switched self.old)) }
         ensures memory { IsErrOf result StoreError.OutOfMemory
             → EachImage (D.images disk.new) (Holds S.start S.step self.new (Some present.now))
             × Only (D.seen disk.new) (D.images disk.new) }
@@ -88,10 +94,8 @@ impl Log {
         requires half { self.now.half < 4 }
         requires used { self.now.used < (halves.layout_of self.now.half).journal_len }
         requires short { length event.now + 6 ≤ (halves.layout_of self.now.half).journal_len }
-        ensures yes { result ≡ true → self.now.used + 6 + length event.now
-            ≤ (halves.layout_of self.now.half).journal_len }
-        ensures no { result ≡ false → (halves.layout_of self.now.half).journal_len
-            < self.now.used + 6 + length event.now }
+        ensures yes { result ≡ true → Fits self.now (length event.now) }
+        ensures no { result ≡ false → HasNoRoom self.now (length event.now) }
     {
         self.used + 6 + event.len() as u64 <= layout_of(self.half).journal_len
     }
@@ -110,13 +114,12 @@ impl Log {
         requires storable { S.storable present.now }
         requires short { length event.now + 6 ≤ (halves.layout_of self.old.half).journal_len }
         requires long { S.longest ≤ (halves.layout_of self.old.half).state_max }
-        ensures stays { self.old.used + 6 + length event.now
-            ≤ (halves.layout_of self.old.half).journal_len → self.new ≡ self.old }
+        ensures stays { Fits self.old (length event.now) → self.new ≡ self.old }
+        ensures turns { HasNoRoom self.old (length event.now)
+            → OnOk result (self.new ≡ switched self.old) }
         ensures last { self.old.generation ≡ 18446744073709551615
-            → (halves.layout_of self.old.half).journal_len < self.old.used + 6 + length event.now
-            → IsErrOf result StoreError.OutOfMemory }
-        ensures room { OnOk result (self.new.used + 6 + length event.now
-            ≤ (halves.layout_of self.new.half).journal_len) }
+            → HasNoRoom self.old (length event.now) → IsErrOf result StoreError.OutOfMemory }
+        ensures room { OnOk result (Fits self.new (length event.now)) }
         ensures holds { OnOk result (EachImage (D.images disk.new)
             (Holds S.start S.step self.new (Some present.now))) }
         ensures durable { OnOk result (Only (D.seen disk.new) (D.images disk.new)) }
@@ -200,12 +203,11 @@ impl Log {
         requires holds { EachImage (D.images disk.old)
             (Holds S.start S.step self.old (Some present.now)) }
         requires durable { Only (D.seen disk.old) (D.images disk.old) }
-        requires room { self.old.used + 6 + length event.now
-            ≤ (halves.layout_of self.old.half).journal_len }
+        requires room { Fits self.old (length event.now) }
         ensures acknowledged { OnOk result (EachImage (D.images disk.new)
             (Holds S.start S.step self.new (S.step present.now event.now))) }
         ensures durable { OnOk result (Only (D.seen disk.new) (D.images disk.new)) }
-        ensures half { self.new.half ≡ self.old.half }
+        ensures behind { OnOk result (self.new ≡ behind self.old (length event.now)) }
         ensures same { OnErr result (self.new ≡ self.old) }
         ensures any_moment { LeavesOnly D.moment D.left_since disk.old disk.new
             (InDoubt S.start S.step self.old (of_event S.step present.now event.now)) }

@@ -9,7 +9,7 @@ ghost use Rattle.event_log.specs.Doubts.{Either, InDoubt, MaySwitch, ended, of_e
 ghost use Rattle.event_log.specs.Settles.{settles};
 ghost use Rattle.event_log.specs.Runs.{KnowsAfter, in_doubt, revive_turn};
 
-use crate::find::find;
+use crate::find::open;
 use crate::log::Log;
 use crate::stored::Stored;
 use checkpoint::StoreError;
@@ -26,8 +26,8 @@ pub enum Revived {
 }
 
 impl Log {
-    /// Restarts the disk, and says whether the event of this record stood, which is in doubt behind this state. Where
-    /// it fails, the event stays in doubt, and it may be called again.
+    /// Restarts the disk, recovers as `open` does, by a sync first, and says whether the event of this record stood,
+    /// which is in doubt behind this state. Where it fails, the event stays in doubt, and it may be called again.
     pub fn revive<D: Disk, S: Stored>(
         &mut self,
         alloc: Global,
@@ -43,6 +43,8 @@ impl Log {
         ensures lost { EachImage (D.images disk.old)
             (MaySwitch S.start S.step self.old (Some present.now))
             → IfOk result (λ revived. revived ≡ Revived.Lost) }
+        // It stood exactly where the same half counts, with other records.
+        ensures settled { IfOk result (λ revived. revived ≡ settles self.old self.new) }
         ensures pair { layout_of self.new.half ≡ layout_of self.old.half }
         ensures durable { OnOk result (Only (D.seen disk.new) (D.images disk.new)) }
 
@@ -62,7 +64,7 @@ impl Log {
             disk.old disk.new }
     {
         disk.restart()?;
-        let Some(found) = find::<D, S>(alloc, disk, self.half)? else {
+        let Some(found) = open::<D, S>(alloc, disk, self.half)? else {
             unreachable!()
         };
         let revived = settle(self, &found.log);

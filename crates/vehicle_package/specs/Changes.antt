@@ -12,6 +12,10 @@ use Rattle.vehicle_package.specs.declared.vehicle.Step.{Step}
 abbrev pub parts_of : List PackedOf → Step → List (Part Bytes)
 parts_of packages step = unwrap_or (option_map (λ p. p.parts) (slice_get packages step.«package»)) []
 
+-- the bytes of the package that a step brings; none, where there is no such package
+abbrev pub bytes_of : List PackedOf → Step → Bytes
+bytes_of packages step = unwrap_or (option_map (λ p. p.bytes) (slice_get packages step.«package»)) []
+
 -- the cluster that a part changes on a node
 abbrev pub change_on : {C : Type 0} → ℕ → Part C → Change
 change_on node part = record { node = node; cluster = cluster_of part }

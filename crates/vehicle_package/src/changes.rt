@@ -1,6 +1,7 @@
 //! The clusters that steps change on their nodes.
 ghost use Rattle.std.specs.Prelude.{◌≡◌, IfOk, map};
-ghost use Rattle.vehicle_package.specs.Changes.{again_in, change_on, changes_of, has_change, parts_of, twice_in};
+ghost use Rattle.package_reader.specs.Reading.{with_payload};
+ghost use Rattle.vehicle_package.specs.Changes.{again_in, bytes_of, change_on, changes_of, has_change, parts_of, twice_in};
 
 use crate::vehicle::Step;
 use package_reader::{Packed, Span};
@@ -16,8 +17,10 @@ pub(crate) struct Change {
 
 /// The parts that a step brings, whose payloads lie in the bytes of its package.
 pub(crate) fn parts_of(packages: &[Packed], step: Step) -> &[Part<Span>]
-    ensures { map (λ part. part.manifest) result.now
+    ensures manifests { map (λ part. part.manifest) result.now
         ≡ map (λ part. part.manifest) (parts_of packages.now step) }
+    ensures parts { map (with_payload (bytes_of packages.now step)) result.now
+        ≡ parts_of packages.now step }
 {
     let index = step.package as usize;
     if index >= packages.len() {

@@ -21,6 +21,3 @@ pub use laws::a_vehicle_is_one;
 pub use print::{print_plan, print_vehicle, seal_vehicle};
 pub use read::read_vehicle;
 pub use vehicle::{Step, Steps, Vehicle};
-
-#[cfg(test)]
-mod tests;

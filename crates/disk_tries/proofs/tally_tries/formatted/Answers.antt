@@ -1,5 +1,5 @@
-use Rattle.std.proofs.Common.{ℕ, List, refl, sym, ◌∙◌, ap, subst}
-use Rattle.checkpoint.specs.Halves.{HasPair, layout_of, other}
+use Rattle.std.proofs.Common.{refl, ◌∙◌}
+use Rattle.checkpoint.specs.Halves.{layout_of, other}
 use Rattle.disk_tries.proofs.FourHalves.{zeros_have, zeros_shut, text_fits}
 use Rattle.disk_tries.proofs.tally_tries.formatted.Goals as goal
 

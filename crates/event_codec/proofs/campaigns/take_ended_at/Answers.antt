@@ -1,4 +1,4 @@
-use Rattle.event_codec.proofs.OutsideMaster.{no_ended_at}
+use Rattle.event_codec.specs.OutsideMaster.{no_ended_at}
 use Rattle.event_codec.proofs.campaigns.take_ended_at.Goals as goal
 
 pub returns-in-Err-clause-outside : goal.returns-in-Err-clause-outside

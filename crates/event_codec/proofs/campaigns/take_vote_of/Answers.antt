@@ -1,4 +1,4 @@
-use Rattle.event_codec.proofs.OutsideMaster.{no_vote_of}
+use Rattle.event_codec.specs.OutsideMaster.{no_vote_of}
 use Rattle.event_codec.proofs.campaigns.take_vote_of.Goals as goal
 
 pub returns-in-Err-clause-outside : goal.returns-in-Err-clause-outside

@@ -1,4 +1,4 @@
-use Rattle.event_codec.proofs.Outside.{missing_outside}
+use Rattle.event_codec.specs.OutsideMaster.{missing_outside}
 use Rattle.event_codec.proofs.replies.take_missing.Goals as goal
 
 pub returns-in-Err-clause-outside : goal.returns-in-Err-clause-outside

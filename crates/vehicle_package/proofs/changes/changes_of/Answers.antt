@@ -8,4 +8,4 @@ pub returns : goal.returns
 returns c =
     IfOk-weaker c.changes_on.result _ _ (λ changes h. h
     ∙ changes-by c.args.step.node c.parts_of.result.now
-    (parts_of c.args.packages.now c.args.step) c.parts_of.ensures) c.changes_on.ensures
+    (parts_of c.args.packages.now c.args.step) c.parts_of.ensures.manifests) c.changes_on.ensures

@@ -4,7 +4,6 @@ use Rattle.disk_core.proofs.Moments.{started}
 use Rattle.checkpoint.specs.Halves.{layout_of}
 use Rattle.event_log.specs.Holds.{Holds}
 use Rattle.event_log.specs.Doubts.{Either, InDoubt, of_event}
-use Rattle.event_log.specs.declared.log.Log.{Log}
 use Rattle.event_log.proofs.Steps.{stands_for}
 use Rattle.disk_tries.specs.Tallies.{tally_of, with_note}
 use Rattle.disk_tries.specs.TallyLogs.{Knows}

@@ -6,7 +6,6 @@ use Rattle.checkpoint.specs.Halves.{HasPair, layout_of, other, half_of, stored_i
 use Rattle.checkpoint.specs.Counting.{IsNewer, MayClose, MayOpen}
 use Rattle.checkpoint.specs.declared.layout.Layout.{Layout}
 use Rattle.checkpoint.proofs.Places.{other_below, other_has, other_layout}
-use Rattle.event_log.specs.Holds.{Holds}
 use Rattle.event_log.specs.Beside.{InHalves}
 use Rattle.event_log.proofs.Elsewhere.{nowhere, by_closing, by_opening, then_elsewhere}
 use Rattle.event_log.proofs.Steps.{newer, kept, opened}

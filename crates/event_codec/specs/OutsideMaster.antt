@@ -1,12 +1,21 @@
--- Bytes that no vote and no event of the master is in front of.
+-- Bytes that no refusal, vote or event of the master is in front of.
 use Rattle.std.proofs.Common.{◌≡◌, ℕ, List, ◌∷◌, ◌++◌, refl}
 use Rattle.wire.specs.Fields.{u8_field, u32_field, u64_field}
 use Rattle.campaign_core.specs.declared.events.Vote.TheVariants as vote
 use Rattle.campaign_core.specs.declared.events.MasterEvent.TheVariants.{Begin, VoteOf, EndedAt}
+use Rattle.pm_types.specs.declared.replies.Refusal.TheVariants.{MissingDependencies}
+use Rattle.event_codec.specs.Texts.{text_spelled, IsName, IsShort}
 use Rattle.event_codec.specs.Spelling.{Any, HasBits, IsOutside, pair_spelled, PairFits}
 use Rattle.event_codec.specs.Replies.{call_no_spelled, CallNoFits, outcome_spelled, refusal_spelled, RefusalFits}
 use Rattle.event_codec.specs.Master.{IsNode, node_set_spelled, NodeSetFits, vote_spelled, VoteFits, event_spelled, EventFits}
 use Rattle.event_codec.specs.Unique.{parted, apart}
+
+pub missing_outside : (bytes : List ℕ)
+    → IsOutside (pair_spelled text_spelled (pair_spelled text_spelled text_spelled))
+    (PairFits IsName (PairFits IsName IsShort)) bytes
+    → IsOutside refusal_spelled RefusalFits (11 ∷ bytes)
+missing_outside bytes out (MissingDependencies a b c) rest f e = out (a, (b, c)) rest f (parted e).1
+missing_outside bytes out v rest f e = absurd (apart e refl)
 
 module _ (bytes : List ℕ) where
   pub no_refused : IsOutside (pair_spelled call_no_spelled refusal_spelled) (PairFits CallNoFits RefusalFits) bytes

@@ -1,0 +1,4 @@
+pub mod Folds
+pub mod Known
+pub mod Answers
+pub mod Left
