@@ -1,0 +1,4 @@
+pub mod Apart
+pub mod Held
+pub mod Runs
+pub mod Puts
