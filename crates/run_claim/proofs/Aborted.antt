@@ -10,7 +10,8 @@ use Rattle.campaign_core.specs.declared.events.MasterEvent.{MasterEvent}
 use Rattle.node_laws.specs.Fit.{IsReading, IsInstalled}
 use Rattle.world.specs.Spans.{IsOld}
 use Rattle.run_claim.specs.Script.{Script, packages_of, installed_on}
-use Rattle.run_claim.specs.Masters.{Made, finishes_new, has_commit, has_end, ends_at_rest}
+use Rattle.run_claim.specs.Masters.{finishes_new, has_commit, has_end}
+use Rattle.sub_core.specs.Made.{Made, ends_at_rest}
 use Rattle.run_claim.specs.FailedAttempts.{Counted}
 use Rattle.run_claim.specs.Left.{IsLeftSo, result_of}
 use Rattle.run_claim.specs.Law.{NodeIsLegal, MasterFits, ListFits, opening_of}

@@ -27,7 +27,8 @@ use Rattle.world.proofs.RoundList.{rest_of, one-on, IsReached, reached-on}
 use Rattle.run_claim.specs.Calm.{AreWhole, CalmNode, is_foreign_start}
 use Rattle.run_claim.specs.Eligible.{all_apply, all_met}
 use Rattle.run_claim.specs.Evidence.{VoteIsShown, is_of_node}
-use Rattle.run_claim.specs.Masters.{Made, made_by, ids_given, needs_rest, is_at_work, hurries}
+use Rattle.run_claim.specs.Masters.{made_by, needs_rest, is_at_work, hurries}
+use Rattle.sub_core.specs.Made.{Made, ids_given}
 use Rattle.run_claim.proofs.OldNodes.{stepped, replied, others, keeps_node}
 use Rattle.run_claim.proofs.Rounds.{first-any, none-left, tail, fits, rounds-are}
 use Rattle.run_claim.proofs.Idle.{noted, reply-is, foreign-leaves}

@@ -21,7 +21,8 @@ use Rattle.world.specs.Law.{parts_in}
 use Rattle.run_claim.specs.Script.{Script, ClientLine, Deed, Calls, Point, packages_of, installed_on, failing_on}
 use Rattle.run_claim.specs.Script.{lines_on, is_named, every_node, named_nodes}
 use Rattle.run_claim.specs.Ended.{Ended, history_of}
-use Rattle.run_claim.specs.Masters.{epoch_of_begin, has_none}
+use Rattle.run_claim.specs.Masters.{epoch_of_begin}
+use Rattle.sub_core.specs.Made.{has_none}
 use Rattle.run_claim.specs.Evidence.{VoteIsShown, VotesAreShown, votes_on, InVotes, is_of_node}
 use Rattle.run_claim.specs.Eligible.{starts_transfer, without_lines, is_eligible, is_calm, node_is_eligible}
 use Rattle.run_claim.specs.Eligible.{all_apply, all_met}

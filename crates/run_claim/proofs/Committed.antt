@@ -12,7 +12,8 @@ use Rattle.world.proofs.Rules.{NodeRules, NodeLaws, KeepsSession}
 use Rattle.world.proofs.Instance.{Calls, ForeignCall, judged_in, kept_after, outcome_in}
 use Rattle.world.proofs.FitLaws.{KeepsNode, FitState, fit, fit-laws, state-is, unit-is}
 use Rattle.world.proofs.Committed.{IsCalm, Waits, waits-judge}
-use Rattle.run_claim.specs.Masters.{Made, made_by, is_end_call, goes_back}
+use Rattle.run_claim.specs.Masters.{made_by, goes_back}
+use Rattle.sub_core.specs.Made.{Made, is_end_call}
 use Rattle.run_claim.proofs.OldNodes.{stepped, replied, others}
 
 -- whether a call is one of the end phase that doesn't go back

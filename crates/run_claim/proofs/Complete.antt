@@ -5,9 +5,11 @@ use Rattle.std.proofs.Common.{refl, inl, inr, sym, ◌∙◌, subst, arith}
 use Rattle.std.proofs.lemmas.Bool.{and_parts, eqb-true, eq-eqb}
 use Rattle.std.proofs.lemmas.List.Sums.{sum_by-cons}
 use Rattle.run_claim.specs.Script.{Script, FateLine}
-use Rattle.run_claim.specs.Ended.{Ended, Series, Rises, Unfinished, Failure, is_unformatted}
-use Rattle.run_claim.specs.Masters.{has_none}
-use Rattle.run_claim.specs.FailedAttempts.{Counted, IsSeries, OneSeries, UnfinishedHasSeries, has_risen, HasSums, losses_in, faults_in, losses_on, faults_on, losing_attempts, series_of, failure_of, is_failure, IsBounded}
+use Rattle.run_claim.specs.Ended.{Ended, Series, Unfinished, Failure, is_unformatted}
+use Rattle.sub_core.specs.declared.answers.Rises.{Rises}
+use Rattle.sub_core.specs.Made.{has_none}
+use Rattle.run_claim.specs.FailedAttempts.{Counted, IsSeries, OneSeries, UnfinishedHasSeries, has_risen, HasSums, losses_on, faults_on, losing_attempts, series_of, failure_of, is_failure, IsBounded}
+use Rattle.sub_core.specs.Failures.{losses_in, faults_in}
 use Rattle.run_claim.specs.Left.{result_of}
 use Rattle.run_claim.specs.Law.{NoneRose, IsQuiet, SeriesAreThere}
 

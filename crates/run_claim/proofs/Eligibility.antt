@@ -3,7 +3,8 @@ use Rattle.std.specs.Prelude.{◌≡◌, true, false, [], ◌∷◌, drop, repli
 use Rattle.std.proofs.Common.{refl}
 use Rattle.ucm_base.specs.declared.parts.Action.TheVariants.{Install}
 use Rattle.pm_types.specs.Histories.{Reading}
-use Rattle.run_claim.specs.Script.{Step, Voted, Lost}
+use Rattle.run_claim.specs.Script.{Step, Voted}
+use Rattle.sub_core.specs.declared.subordinate.Fate.TheVariants.{Lost}
 use Rattle.run_claim.specs.Eligible.{is_eligible, is_calm}
 use Rattle.run_claim.proofs.Removal as removal
 use Rattle.run_claim.proofs.FailingCheck as failing

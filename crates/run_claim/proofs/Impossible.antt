@@ -25,9 +25,12 @@ use Rattle.campaign_core.specs.declared.events.CampaignResult.TheVariants.{Faile
 use Rattle.campaign_core.specs.declared.events.Vote.TheVariants as Vote
 use Rattle.world.specs.Messages.{is_status}
 use Rattle.world.specs.RoundCalls.{round_calls}
-use Rattle.run_claim.specs.Script.{ClientLine, Calls, Asks, FateLine, Lost, Syncing, Voted, packages_of}
-use Rattle.run_claim.specs.Ended.{Series, Rises, OfEnd, OfVote, Saw, LineReply}
-use Rattle.run_claim.specs.Masters.{Made, made_by, ids_given, IsOfRoundsIn, GoesInOrder, GoesByDecision, has_decision, has_none, is_end_call, is_later_than, ends_at_rest}
+use Rattle.run_claim.specs.Script.{ClientLine, Calls, Asks, FateLine, Syncing, Voted, packages_of}
+use Rattle.sub_core.specs.declared.subordinate.Fate.TheVariants.{Lost}
+use Rattle.run_claim.specs.Ended.{Series, OfEnd, OfVote, Saw, LineReply}
+use Rattle.sub_core.specs.declared.answers.Rises.{Rises}
+use Rattle.run_claim.specs.Masters.{made_by, IsOfRoundsIn, GoesInOrder, GoesByDecision, has_decision, is_later_than}
+use Rattle.sub_core.specs.Made.{Made, ids_given, has_none, is_end_call, ends_at_rest}
 use Rattle.run_claim.specs.Evidence.{ShowsAfterRounds}
 use Rattle.run_claim.specs.Lines.{InLine, EachIsMade, MakesOnce, Gives, IsAccounted}
 use Rattle.run_claim.specs.FailedAttempts.{SeriesFit, VoteHasSeries}

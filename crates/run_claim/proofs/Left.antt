@@ -22,7 +22,8 @@ use Rattle.world.proofs.FitLaws.{KeepsNode, FitState, fit}
 use Rattle.world.proofs.Instance.{mine_in}
 use Rattle.world.proofs.EarlyFacts.{Activates}
 use Rattle.run_claim.specs.Script.{Script, packages_of, installed_on}
-use Rattle.run_claim.specs.Masters.{Made, made_by, ids_given, IsOfRounds, IsOfRoundsIn, epoch_of_begin, is_end_call, goes_back, has_commit, has_end, ends_at_rest}
+use Rattle.run_claim.specs.Masters.{made_by, IsOfRoundsIn, epoch_of_begin, goes_back, has_commit, has_end}
+use Rattle.sub_core.specs.Made.{Made, ids_given, IsOfRounds, is_end_call, ends_at_rest}
 use Rattle.run_claim.specs.Evidence.{ShowsAfterRounds, VoteIsShown, VotesAreShown, votes_on, InVotes}
 use Rattle.run_claim.specs.FailedAttempts.{Counted}
 use Rattle.run_claim.specs.Left.{IsLeftSo, result_of}

@@ -19,7 +19,8 @@ use Rattle.world.proofs.Events.{unit-mine, is-cleaning}
 use Rattle.node_laws.proofs.Kept.{keeps-fit, kept-fit, entry-fit, opened-fit}
 use Rattle.node_laws.specs.Fit as fits
 use Rattle.campaign_core.specs.Campaign.{nothing_yet}
-use Rattle.run_claim.specs.Masters.{Made, made_by, is_finish, finishes_new, ends_at_rest, shows_rest}
+use Rattle.run_claim.specs.Masters.{made_by, is_finish, finishes_new}
+use Rattle.sub_core.specs.Made.{Made, ends_at_rest, shows_rest}
 
 -- what a call that was carried out leaves
 pub stepped : (s : NodeState) (client : ℕ) (at : CallNo) (c : Call) (v : Verdict) (r : Reply)

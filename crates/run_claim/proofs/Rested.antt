@@ -7,7 +7,8 @@ use Rattle.world.proofs.Rules.{NodeRules, NodeLaws}
 use Rattle.world.proofs.Instance.{Calls, ForeignCall, mine_in, kept_in, judged_in, kept_after}
 use Rattle.world.proofs.FitLaws.{KeepsNode, FitState, fit, fit-laws, state-is, unit-is}
 use Rattle.world.proofs.Invariant.{KeptHolds, kept-fresh, kept-foreign, kept-unit}
-use Rattle.run_claim.specs.Masters.{made_by, ends_at_rest}
+use Rattle.run_claim.specs.Masters.{made_by}
+use Rattle.sub_core.specs.Made.{ends_at_rest}
 use Rattle.run_claim.proofs.OldNodes.{stepped, replied, last-on, next_reply, last_reply, rest-reply}
 
 module _ (read : Reading) (keeps : KeepsNode read []) where

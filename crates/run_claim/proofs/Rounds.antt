@@ -19,7 +19,8 @@ use Rattle.world.proofs.Invariant.{none-judge, some-judge}
 use Rattle.world.proofs.Events.{unit-mine, unit-back, is-cleaning}
 use Rattle.world.proofs.EarlyFacts.{IsAt, at-foreign, at-unit, at-keep, at-judge}
 use Rattle.world.proofs.RoundList.{rest_of, one-on, IsReached, reached-on, processed-is}
-use Rattle.run_claim.specs.Masters.{Made, made_by, ids_given}
+use Rattle.run_claim.specs.Masters.{made_by}
+use Rattle.sub_core.specs.Made.{Made, ids_given}
 use Rattle.run_claim.proofs.OldNodes.{stepped, replied, others, begun}
 
 -- the first of the calls that are left is the stage's

@@ -1,7 +1,8 @@
 -- Seven messages are lost one after another, and the campaign succeeds.
 use Rattle.std.specs.Prelude.{[], ◌∷◌}
 use Rattle.std.proofs.Common.{refl}
-use Rattle.run_claim.specs.Script.{Script, Lost}
+use Rattle.run_claim.specs.Script.{Script}
+use Rattle.sub_core.specs.declared.subordinate.Fate.TheVariants.{Lost}
 use Rattle.run_claim.specs.Law.{NodeFits, IsRun}
 use Rattle.run_claim.proofs.Closed.{never}
 use Rattle.run_claim.proofs.Removal.{read, counted, ended, legal_1, lines_1, order_1, master_1, list_fits, left_1, cancel_fits}

@@ -10,7 +10,8 @@ use Rattle.pm_types.specs.Histories.{Reading, state_after, after_entry}
 use Rattle.world.specs.RoundCalls.{round_calls, all_transfers, all_processed, blocks_from}
 use Rattle.ucm_base.specs.Limits.{block_limit}
 use Rattle.world.specs.Spans.{Spans, spans_from, span_step}
-use Rattle.run_claim.specs.Masters.{Made, made_by, is_end_call, goes_back}
+use Rattle.run_claim.specs.Masters.{made_by, goes_back}
+use Rattle.sub_core.specs.Made.{Made, is_end_call}
 use Rattle.run_claim.proofs.Committed.{is_calm_call}
 
 -- the spans of a history that is cut in two, and the calls

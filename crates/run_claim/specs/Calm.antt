@@ -19,7 +19,8 @@ use Rattle.node_laws.specs.Fit.{IsReading, IsInstalled}
 use Rattle.world.specs.Law.{parts_in}
 use Rattle.run_claim.specs.Script.{Script, packages_of, installed_on, named_nodes}
 use Rattle.run_claim.specs.Ended.{Ended, is_ended_by_master}
-use Rattle.run_claim.specs.Masters.{hurries, has_none}
+use Rattle.run_claim.specs.Masters.{hurries}
+use Rattle.sub_core.specs.Made.{has_none}
 use Rattle.run_claim.specs.Evidence.{VoteIsShown, is_of_node}
 use Rattle.run_claim.specs.FailedAttempts.{Counted}
 use Rattle.run_claim.specs.Cancelled.{CancelFits}

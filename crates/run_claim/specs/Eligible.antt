@@ -11,7 +11,7 @@ use Rattle.pm_types.specs.Clusters.{cluster_of, changes_of, planned, unmet_among
 use Rattle.pm_types.specs.Histories.{Reading}
 use Rattle.pm_types.specs.Sessions.{parts_refusal}
 use Rattle.world.specs.Law.{parts_in}
-use Rattle.run_claim.specs.Masters.{has_none}
+use Rattle.sub_core.specs.Made.{has_none}
 use Rattle.run_claim.specs.Script.{Script, Deed, Calls, packages_of, installed_on, failing_on, named_nodes}
 
 -- each action applies, each update is newer and no more names come about than a node has room for, in the order of the

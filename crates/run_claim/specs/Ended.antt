@@ -9,6 +9,7 @@ use Rattle.pm_types.specs.declared.replies.Reached.{Reached}
 use Rattle.pm_types.specs.declared.replies.Worked.{Worked}
 use Rattle.campaign_core.specs.declared.events.CampaignRefusal.{CampaignRefusal}
 use Rattle.campaign_core.specs.declared.events.MasterEvent.{MasterEvent}
+use Rattle.sub_core.specs.declared.answers.Rises.{Rises}
 
 -- the entries of a node, in order
 pub record NodeHistory : Type 0 where
@@ -40,11 +41,6 @@ pub data Failure : Type 0 where
   OfLine : (line : ℕ) → Failure
   OfFormatting : Failure
   OfMaster : Failure
-
--- a failed attempt's rises
-pub record Rises : Type 0 where
-  pub losses : ℕ
-  pub faults : ℕ
 
 -- the rises of each failed attempt, at a node or with 0 at the master
 pub record Series : Type 0 where

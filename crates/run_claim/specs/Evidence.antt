@@ -15,7 +15,8 @@ use Rattle.campaign_core.specs.declared.events.MasterEvent.TheVariants.{VoteOf}
 use Rattle.campaign_core.specs.declared.events.Vote.{Vote}
 use Rattle.world.specs.Messages.{is_refusal}
 use Rattle.world.specs.RoundCalls.{round_calls}
-use Rattle.run_claim.specs.Masters.{Made, made_by, ids_given, numbers_from, IsOfRounds}
+use Rattle.run_claim.specs.Masters.{made_by}
+use Rattle.sub_core.specs.Made.{Made, ids_given, numbers_from, IsOfRounds}
 
 -- a session of client 0 with this tag
 abbrev pub is_of_campaign : ℕ → Option Session → Bool

@@ -5,12 +5,10 @@ use Rattle.ucm_base.specs.Limits.{attempt_limit, node_limit}
 use Rattle.campaign_core.specs.declared.events.MasterEvent.{MasterEvent}
 use Rattle.campaign_core.specs.declared.events.MasterEvent.TheVariants.{VoteOf}
 use Rattle.campaign_core.specs.declared.events.Vote.{Vote}
-use Rattle.run_claim.specs.Script.{ClientLine, FateLine, Fate, Lost, Unanswered, Delayed}
-use Rattle.run_claim.specs.Ended.{Failure, OfVote, OfEnd, OfLine, OfFormatting, OfMaster, Series, Rises, Unfinished, LineReply, Gave, NoReply, gave_of, is_no_reply}
-
--- the last value of a count of faults or losses
-abbrev pub last_count : ℕ
-last_count = 18446744073709551615
+use Rattle.sub_core.specs.Failures.{faults_in, is_losing, last_count, losses_in}
+use Rattle.run_claim.specs.Script.{ClientLine, FateLine}
+use Rattle.run_claim.specs.Ended.{Failure, OfVote, OfEnd, OfLine, OfFormatting, OfMaster, Series, Unfinished, LineReply, Gave, NoReply, gave_of, is_no_reply}
+use Rattle.sub_core.specs.declared.answers.Rises.{Rises}
 
 -- whether both are of the same
 abbrev pub is_failure : Failure → Failure → Bool
@@ -39,14 +37,6 @@ pub record IsSeries (s : Series) : Type 0 where
   pub disk : s.disk ≤ node_limit
   pub eight : length s.rises ≡ attempt_limit
   pub each : IsTrue (list_all has_risen s.rises)
-
--- the losses of all attempts
-abbrev pub losses_in : List Rises → ℕ
-losses_in rises = sum_by (λ r. r.losses) rises
-
--- the faults of all attempts
-abbrev pub faults_in : List Rises → ℕ
-faults_in rises = sum_by (λ r. r.faults) rises
 
 -- these sums of a series; a sum above the last value is that value
 pub record HasSums (s : Series) (lost failed : ℕ) : Type 0 where
@@ -99,13 +89,6 @@ may_lose _ = false
 -- a series without losses, where it isn't of a vote or an end
 abbrev pub LosesOnlyIf : Series → Type 0
 LosesOnlyIf s = IsTrue (may_lose s.failure) ⊎ (losses_in s.rises ≡ 0)
-
--- the fates that raise the losses of a link
-abbrev pub is_losing : Fate → Bool
-is_losing Lost = true
-is_losing Unanswered = true
-is_losing (Delayed _) = true
-is_losing _ = false
 
 -- the attempts at a node that its fate lines make lost, unanswered or delayed
 abbrev pub losing_attempts : List FateLine → ℕ → ℕ

@@ -15,10 +15,12 @@ use Rattle.node_laws.specs.Fit.{IsReading, IsInstalled, IsFit}
 use Rattle.world.specs.Messages.{is_activate}
 use Rattle.run_claim.specs.Script.{Script, Point, Syncing, InPhase, packages_of, installed_on, failing_on, lines_on, named_nodes, used_nodes, is_named}
 use Rattle.run_claim.specs.Ended.{Ended, Unfinished, LineReply, history_of, gave_of, is_unformatted, is_ended_by_master}
-use Rattle.run_claim.specs.Masters.{made_by, GoesInOrder, GoesByDecision, epoch_of_begin, has_decision, has_end, has_none}
+use Rattle.run_claim.specs.Masters.{made_by, GoesInOrder, GoesByDecision, epoch_of_begin, has_decision, has_end}
+use Rattle.sub_core.specs.Made.{has_none}
 use Rattle.run_claim.specs.Evidence.{VotesAreShown, votes_on, is_of_campaign, InVotes, is_of_node}
 use Rattle.run_claim.specs.Lines.{IsAccounted}
-use Rattle.run_claim.specs.FailedAttempts.{Counted, last_count, IsBounded, SeriesFit, VoteHasSeries, UnfinishedHasSeries, LineHasSeries, is_owned}
+use Rattle.run_claim.specs.FailedAttempts.{Counted, IsBounded, SeriesFit, VoteHasSeries, UnfinishedHasSeries, LineHasSeries, is_owned}
+use Rattle.sub_core.specs.Failures.{last_count}
 use Rattle.run_claim.specs.Cancelled.{CancelFits}
 use Rattle.run_claim.specs.Left.{BeginsSo, IsLeftSo, result_of}
 use Rattle.run_claim.specs.Eligible.{is_eligible, is_calm}

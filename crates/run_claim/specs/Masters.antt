@@ -1,14 +1,13 @@
 -- The master's entries on a named node: the calls of the rounds, then those of the end phase.
-use Rattle.std.specs.Prelude.{◌≡◌, ℕ, zero, suc, ◌+◌, ◌≤◌, Bool, true, false, not, ◌&&◌, ◌||◌, if◌then◌else◌, nat_eq, nat_lt, IsTrue, List, [], ◌∷◌, ◌++◌, map, length, take, Option, Some, None}
+use Rattle.std.specs.Prelude.{◌≡◌, ℕ, ◌≤◌, Bool, true, false, not, ◌&&◌, ◌||◌, if◌then◌else◌, nat_eq, nat_lt, IsTrue, List, [], ◌∷◌, ◌++◌, length, Option, Some, None}
 use Rattle.std.specs.List.{list_any, list_all}
 use Rattle.std.specs.Option.{option_map_or}
 use Rattle.ucm_base.specs.declared.ids.CallNo.{CallNo}
 use Rattle.pm_types.specs.declared.calls.Call.{Call}
-use Rattle.pm_types.specs.declared.calls.Call.TheVariants.{Sync, ProcessSwPackage, Activate, DeleteTransfer, Finish, Rollback, RevertProcessedSwPackages as Revert}
+use Rattle.pm_types.specs.declared.calls.Call.TheVariants.{ProcessSwPackage, Activate, Finish, Rollback, RevertProcessedSwPackages as Revert}
 use Rattle.pm_types.specs.declared.history.Entry.{Entry}
 use Rattle.pm_types.specs.declared.history.Entry.TheVariants.{Numbered, Unit as UnitDone}
-use Rattle.pm_types.specs.declared.replies.Reply.{Reply}
-use Rattle.pm_types.specs.declared.replies.Reply.TheVariants.{Done, Synced}
+use Rattle.pm_types.specs.declared.replies.Reply.TheVariants.{Done}
 use Rattle.pm_types.specs.declared.status.Status.TheVariants.{Activated}
 use Rattle.pm_types.specs.NodeState.{NodeState, has_status, is_working}
 use Rattle.pm_types.specs.Histories.{Reading, after_entry}
@@ -16,15 +15,8 @@ use Rattle.campaign_core.specs.declared.events.Decision.TheVariants.{Commit}
 use Rattle.campaign_core.specs.declared.events.MasterEvent.{MasterEvent}
 use Rattle.campaign_core.specs.declared.events.Phase.{Phase}
 use Rattle.campaign_core.specs.declared.events.MasterEvent.TheVariants.{Start, Begin, PhaseTo, VoteOf, Decide, EndedAt}
-use Rattle.world.specs.Messages.{is_refusal, is_sync}
-use Rattle.world.specs.RoundCalls.{round_calls, ids_of}
-use Rattle.world.specs.Sends.{is_masters, is_due}
-
--- an entry of one client
-pub record Made : Type 0 where
-  pub at : CallNo
-  pub call : Call
-  pub reply : Reply
+use Rattle.sub_core.specs.Made.{Made, IsOfRounds, ends_at_rest, has_none, is_end_call}
+use Rattle.world.specs.Sends.{is_due}
 
 -- a client's entries of a history, in order
 abbrev pub made_by : ℕ → List Entry → List Made
@@ -32,28 +24,6 @@ made_by client [] = []
 made_by client (UnitDone passed after ∷ es) = made_by client es
 made_by client (Numbered c at call reply ∷ es) =
     if nat_eq c client then record { at = at; call = call; reply = reply } ∷ made_by client es else made_by client es
-
--- the ids that the replies gave to transfers
-abbrev pub ids_given : List Made → List ℕ
-ids_given made = ids_of (map (λ m. m.reply) made)
-
--- so many numbers of an epoch, one after another
-abbrev pub numbers_from : ℕ → ℕ → ℕ → List CallNo
-numbers_from epoch number zero = []
-numbers_from epoch number (suc count) =
-    record { epoch = epoch; number = number } ∷ numbers_from epoch (number + 1) count
-
--- whether none but possibly the last was refused
-abbrev pub only_last_refused : List Made → Bool
-only_last_refused [] = true
-only_last_refused (m ∷ []) = true
-only_last_refused (m ∷ n ∷ ms) = not (is_refusal m.reply) && only_last_refused (n ∷ ms)
-
--- the calls of the rounds for these packages, up to some place, in this epoch
-pub record IsOfRounds (k epoch : ℕ) (packages : List (List ℕ)) (made : List Made) : Type 0 where
-  pub calls : map (λ m. m.call) made ≡ take (length made) (round_calls k (ids_given made) packages)
-  pub numbers : map (λ m. m.at) made ≡ numbers_from epoch 1 (length made)
-  pub accepted : IsTrue (only_last_refused made)
 
 -- the epoch of the Begin, where there is one; the first argument is that of the last Start
 abbrev pub epoch_of_begin : ℕ → List MasterEvent → Option ℕ
@@ -66,20 +36,6 @@ epoch_of_begin epoch (_ ∷ es) = epoch_of_begin epoch es
 abbrev pub IsOfRoundsIn : Option ℕ → ℕ → List (List ℕ) → List Made → Type 0
 IsOfRoundsIn None k packages made = made ≡ []
 IsOfRoundsIn (Some epoch) k packages made = IsOfRounds k epoch packages made
-
--- whether a list is empty
-abbrev pub has_none : {X : Type 0} → List X → Bool
-has_none [] = true
-has_none (x ∷ xs) = false
-
--- the calls of the end phase
-abbrev pub is_end_call : Call → Bool
-is_end_call Sync = true
-is_end_call (DeleteTransfer _) = true
-is_end_call Finish = true
-is_end_call Rollback = true
-is_end_call Revert = true
-is_end_call _ = false
 
 -- whether an event decides
 abbrev pub is_decision : MasterEvent → Bool
@@ -121,17 +77,6 @@ abbrev pub is_later_than : Option ℕ → ℕ → List MasterEvent → CallNo �
 is_later_than None sent list at = false
 is_later_than (Some epoch) sent list at =
     list_any (is_start_of at.epoch) list && (not (nat_eq at.epoch epoch) || nat_lt sent at.number)
-
--- the reply shows no session of client 0 and no transfers
-abbrev pub shows_rest : Reply → Bool
-shows_rest (Synced x) = not (is_masters x.session) && has_none x.transfers
-shows_rest _ = false
-
--- the last entry is a Sync with such a reply
-abbrev pub ends_at_rest : List Made → Bool
-ends_at_rest [] = false
-ends_at_rest (m ∷ []) = is_sync m.call && shows_rest m.reply
-ends_at_rest (m ∷ n ∷ ms) = ends_at_rest (n ∷ ms)
 
 -- whether an event ends the node
 abbrev pub is_end_of : ℕ → MasterEvent → Bool

@@ -10,6 +10,7 @@ use Rattle.pm_types.specs.declared.queries.Query.{Query}
 use Rattle.pm_types.specs.declared.queries.Query.TheVariants.{GetHistory}
 use Rattle.pm_types.specs.Clusters.{with_cluster}
 use Rattle.campaign_core.specs.declared.events.Phase.{Phase}
+use Rattle.sub_core.specs.declared.subordinate.Fate.{Fate}
 
 -- a step of the vehicle package: these bytes go to this node
 pub record Step : Type 0 where
@@ -46,14 +47,6 @@ pub data Point : Type 0 where
   InPhase : (phase : Phase) → Point
   Voted : Point
   Decided : Point
-
--- what becomes of a message; where nothing is said of when it comes again, that is at the end
-pub data Fate : Type 0 where
-  Lost : Fate
-  Unanswered : Fate
-  Twice : Fate
-  Late : (after : Option ℕ) → Fate
-  Delayed : (after : Option ℕ) → Fate
 
 -- the fate of these attempts at a node
 pub record FateLine : Type 0 where

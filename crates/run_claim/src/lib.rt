@@ -1,7 +1,7 @@
 //! What a run of a campaign promises of the lists that it ends with, as definitions over plain data.
 //!
-//! Layer: stands on `world` (rounds, spans), `campaign_core` (the master's list) and `pm_types` (a
-//! node's histories); the run of a campaign cites its definitions.
+//! Layer: stands on `sub_core` (calls, misses, fates), `world` (rounds, spans), `campaign_core` (the
+//! master's list) and `pm_types` (a node's histories); the run of a campaign cites its definitions.
 //! Its one contract: what a campaign left on its nodes, and that it has a result, follow from what a
 //! run promises of each node's history, of the master's list and of the series of failed attempts.
 #![tactic(auto)]

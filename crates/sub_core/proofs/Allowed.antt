@@ -15,7 +15,7 @@ use Rattle.pm_types.specs.declared.replies.SessionMark.{SessionMark}
 use Rattle.pm_types.specs.declared.replies.Synced.{Synced as Shown}
 use Rattle.pm_types.specs.declared.status.Status.{Status}
 use Rattle.pm_types.specs.declared.status.Status.TheVariants.{Idle, Ready, Processing, Activating, Verifying, Activated, RollingBack, RolledBack, CleaningUp}
-use Rattle.world.specs.Messages.{Message, Told, Answered, Showed, is_activate, is_done, is_process, is_sync}
+use Rattle.world.specs.Messages.{Message, Told, Answered, Showed, is_activate, is_done, is_process, is_status, is_sync}
 use Rattle.world.specs.Sends.{activate_done, delete_at, end_call_at, has_refusal, is_end_sync, is_masters, is_settled, last_shown, last_status, session_status, lists_free, showed_after_activate, shown_if, status_if, status_of_shown}
 use Rattle.sub_core.specs.declared.answers.Finding.{Finding}
 use Rattle.sub_core.specs.declared.answers.Got.{Got}
@@ -27,9 +27,11 @@ use Rattle.sub_core.specs.declared.progress.Progress.{Progress}
 use Rattle.sub_core.specs.declared.progress.Wish.{Wish}
 use Rattle.sub_core.specs.Calls.{call_of}
 use Rattle.sub_core.specs.Driving.{after_send, after_todo, after_unit, at_free, at_session, at_shown, at_status, begun, end_after, end_wish, has_number, is_answer, is_missed, is_over, next_no, next_transfer, opened, progress_after, replied, round_after, round_step, settled_after, status_of, step, todo, todo_for, unreached, wish, wish_at, IsEnding}
-use Rattle.sub_core.specs.Rounds.{reply_got}
+use Rattle.sub_core.specs.Evidence.{IsOwned}
+use Rattle.sub_core.specs.Given.{is_ending, message_of, reply_got}
+use Rattle.sub_core.specs.Sends.{decision_of}
 use Rattle.sub_core.specs.States.{DriverState, IsPlaced, IsPlacedEnd, IsSound, size_at}
-use Rattle.sub_core.specs.Told.{EndTold, Found, IsAllowedByTold, IsTold, ToldAt, decision_of, is_ending, message_of, told_after, told_reply, told_unit}
+use Rattle.sub_core.proofs.Told.{EndTold, Found, IsTold, ToldAt, told_after, told_reply, told_unit}
 use Rattle.sub_core.proofs.Stages.{calls_of_wish, not_process, wish_of_todo, IsCalling}
 
 -- either progress was told enough
@@ -45,38 +47,45 @@ end_if k epoch commit false p q told one other = other
 
 -- the status that was told leads on
 told_status : (k epoch : ℕ) (commit : Bool) (status : Status) (told : List Told)
-    → is_some (last_shown k epoch told) ≡ true → last_status k epoch told ≡ Some status
+    → IsOwned k epoch told → last_status k epoch told ≡ Some status
     → EndTold k epoch commit (at_status commit status) told
-told_status k epoch commit Processing told synced last = synced
-told_status k epoch commit Activating told synced last = synced
-told_status k epoch commit Verifying told synced last = synced
-told_status k epoch commit RollingBack told synced last = synced
-told_status k epoch commit CleaningUp told synced last = synced
-told_status k epoch true Idle told synced last = tt
-told_status k epoch true Ready told synced last = tt
-told_status k epoch true Activated told synced last =
-    record { synced = synced; allowed = λ cause. ap (λ s. end_call_at Commit s Call.Finish) last }
-told_status k epoch true RolledBack told synced last = tt
-told_status k epoch false Idle told synced last = tt
-told_status k epoch false Ready told synced last = record {
-  synced = synced;
+told_status k epoch commit Processing told owned last = owned
+told_status k epoch commit Activating told owned last = owned
+told_status k epoch commit Verifying told owned last = owned
+told_status k epoch commit RollingBack told owned last = owned
+told_status k epoch commit CleaningUp told owned last = owned
+told_status k epoch true Idle told owned last = tt
+told_status k epoch true Ready told owned last = tt
+told_status k epoch true Activated told owned last =
+    record { owned = owned; allowed = λ cause. ap (λ s. end_call_at Commit s Call.Finish) last }
+told_status k epoch true RolledBack told owned last = tt
+told_status k epoch false Idle told owned last = tt
+told_status k epoch false Ready told owned last = record {
+  owned = owned;
   allowed = λ cause. ap (λ s. end_call_at (Abort cause) s Call.RevertProcessedSwPackages) last;
 }
-told_status k epoch false Activated told synced last =
-    record { synced = synced; allowed = λ cause. ap (λ s. end_call_at (Abort cause) s Call.Rollback) last }
-told_status k epoch false RolledBack told synced last =
-    record { synced = synced; allowed = λ cause. ap (λ s. end_call_at (Abort cause) s Call.Finish) last }
+told_status k epoch false Activated told owned last =
+    record { owned = owned; allowed = λ cause. ap (λ s. end_call_at (Abort cause) s Call.Rollback) last }
+told_status k epoch false RolledBack told owned last =
+    record { owned = owned; allowed = λ cause. ap (λ s. end_call_at (Abort cause) s Call.Finish) last }
 
-not_unit : (b : Bool) (f : Finding) (asked : SendStep) → (if b then Wish.Rest f else Wish.Send asked) ≡ Wish.Unit → ⊥
+pub not_unit : (b : Bool) (f : Finding) (asked : SendStep)
+    → (if b then Wish.Rest f else Wish.Send asked) ≡ Wish.Unit → ⊥
 not_unit true f asked is = cc is
 not_unit false f asked is = cc is
+
+-- a unit leaves what the last Sync showed
+owned_on : (k epoch : ℕ) (status : Status) (told : List Told) → IsOwned k epoch told
+    → IsOwned k epoch (Showed status ∷ told)
+owned_on k epoch status told owned =
+    record { shown = owned.shown; last = owned.last; session = owned.session }
 
 or_false : (b c : Bool) → c ≡ false → (b || c) ≡ b
 or_false true c is = refl
 or_false false c is = is
 
 -- a unit's status was told
-told_worked : (k epoch : ℕ) (d : DriverState) (p : Progress) (status : Status) (told : List Told)
+pub told_worked : (k epoch : ℕ) (d : DriverState) (p : Progress) (status : Status) (told : List Told)
     → wish_at d p ≡ Wish.Unit → ToldAt k epoch p told → ToldAt k epoch (settled_after p status) (Showed status ∷ told)
 told_worked k epoch d Progress.Sync status told is t =
     absurd (not_unit (is_over d.round d.ids Progress.Sync) Finding.RoundDone (round_step d Progress.Sync) is)
@@ -89,21 +98,21 @@ told_worked k epoch d (Progress.Process taken true) status told is t =
     let p = Progress.Process taken true in
     absurd (not_unit (is_over d.round d.ids p) Finding.RoundDone (round_step d p) is)
 told_worked k epoch d (Progress.Process taken false) status told is t =
-    (t.0, or_false (not (is_working status)) (is_settled told) t.1)
+    (t.0, or_false (not (is_working status)) (is_settled told) t.1, t.2)
 told_worked k epoch d Progress.Activating Idle told is t = t
 told_worked k epoch d Progress.Activating Ready told is t = t
 told_worked k epoch d Progress.Activating Processing told is t = t
 told_worked k epoch d Progress.Activating Activating told is t = t
 told_worked k epoch d Progress.Activating Verifying told is t = t
-told_worked k epoch d Progress.Activating Activated told is t = ap (λ a. a || showed_after_activate Activated told) t
+told_worked k epoch d Progress.Activating Activated told is t = ap (λ a. a || showed_after_activate Activated told) t.0
 told_worked k epoch d Progress.Activating RollingBack told is t = t
-told_worked k epoch d Progress.Activating RolledBack told is t = ap (λ a. a || showed_after_activate RolledBack told) t
+told_worked k epoch d Progress.Activating RolledBack told is t = ap (λ a. a || showed_after_activate RolledBack told) t.0
 told_worked k epoch d Progress.Activating CleaningUp told is t = t
 told_worked k epoch d (Progress.Voted finding) status told is t = absurd (cc is)
 told_worked k epoch d (Progress.Ending commit (EndProgress.Call asked)) status told is t = absurd (cc is)
 told_worked k epoch d (Progress.Ending commit EndProgress.Units) status told is t =
-    told_status k epoch commit status (Showed status ∷ told) t
-    (ap (λ b. option_or (status_if b status) (last_status k epoch told)) t)
+    told_status k epoch commit status (Showed status ∷ told) (owned_on k epoch status told t)
+    (ap (λ o. option_or (status_if (is_some o) status) (last_status k epoch told)) t.last)
 told_worked k epoch d (Progress.Ending commit (EndProgress.Delete listed place)) status told is t = absurd (cc is)
 told_worked k epoch d (Progress.Ending commit (EndProgress.Rest call_no)) status told is t = absurd (cc is)
 
@@ -130,7 +139,8 @@ module _ (k epoch : ℕ) (commit : Bool) (call_no : CallNo) (m : Message) (x : S
       → EndTold k epoch commit (if b then at_status commit mark.status else at_free call_no x.transfers)
       (Answered m (Synced x) ∷ told)
   told_owned mark true owned same =
-      told_status k epoch commit mark.status (Answered m (Synced x) ∷ told) (ap is_some last_is)
+      told_status k epoch commit mark.status (Answered m (Synced x) ∷ told)
+      (record { shown = x; last = last_is; session = ap is_masters same ∙ owned })
       (status_is ∙ ap (λ s. Some (session_status s)) same)
   told_owned mark false owned same = told_free x.transfers (ap is_masters same ∙ owned) refl
 
@@ -143,19 +153,19 @@ module _ (k epoch : ℕ) (commit : Bool) (call_no : CallNo) (m : Message) (x : S
   told_shown : EndTold k epoch commit (at_shown commit call_no x) (Answered m (Synced x) ∷ told)
   told_shown = told_session x.session refl
 
--- a call of the end phase that is done had a Sync before it
-synced_of : (k epoch : ℕ) (commit : Bool) (a : SendStep) (told : List Told) → is_answer a Done ≡ true
-    → EndTold k epoch commit (EndProgress.Call a) told → is_some (last_shown k epoch told) ≡ true
-synced_of k epoch commit SendStep.Sync told fits t = absurd (cc fits)
-synced_of k epoch commit (SendStep.Start p) told fits t = absurd (cc fits)
-synced_of k epoch commit (SendStep.Data p id counter) told fits t = t.synced
-synced_of k epoch commit (SendStep.Exit id) told fits t = t.synced
-synced_of k epoch commit (SendStep.Process id tag) told fits t = t.synced
-synced_of k epoch commit SendStep.Activate told fits t = t.synced
-synced_of k epoch commit SendStep.Finish told fits t = t.synced
-synced_of k epoch commit SendStep.Rollback told fits t = t.synced
-synced_of k epoch commit SendStep.Revert told fits t = t.synced
-synced_of k epoch commit (SendStep.Delete id) told fits t = t.synced
+-- before a call of the end phase that is done the last Sync showed a session of the master
+owned_of : (k epoch : ℕ) (commit : Bool) (a : SendStep) (told : List Told) → is_answer a Done ≡ true
+    → EndTold k epoch commit (EndProgress.Call a) told → IsOwned k epoch told
+owned_of k epoch commit SendStep.Sync told fits t = absurd (cc fits)
+owned_of k epoch commit (SendStep.Start p) told fits t = absurd (cc fits)
+owned_of k epoch commit (SendStep.Data p id counter) told fits t = t.owned
+owned_of k epoch commit (SendStep.Exit id) told fits t = t.owned
+owned_of k epoch commit (SendStep.Process id tag) told fits t = t.owned
+owned_of k epoch commit SendStep.Activate told fits t = t.owned
+owned_of k epoch commit SendStep.Finish told fits t = t.owned
+owned_of k epoch commit SendStep.Rollback told fits t = t.owned
+owned_of k epoch commit SendStep.Revert told fits t = t.owned
+owned_of k epoch commit (SendStep.Delete id) told fits t = t.owned
 
 sync_only : (a : SendStep) (x : Shown) → is_answer a (Synced x) ≡ true → a ≡ SendStep.Sync
 sync_only SendStep.Sync x fits = refl
@@ -203,8 +213,13 @@ module _ (packages : List (List ℕ)) (d : DriverState) (told : List Told) where
       (Answered (end_message a) reply ∷ told)
   end_called commit a (Refused why) placed fits t = tt
   end_called commit a Done placed fits t =
-      ap is_some (shown_done (is_end_sync d.campaign d.epoch (end_message a)) (last_shown d.campaign d.epoch told))
-      ∙ synced_of d.campaign d.epoch commit a told fits t
+      let owned = owned_of d.campaign d.epoch commit a told fits t in
+      record {
+        shown = owned.shown;
+        last = shown_done (is_end_sync d.campaign d.epoch (end_message a)) (last_shown d.campaign d.epoch told)
+            ∙ owned.last;
+        session = owned.session;
+      }
   end_called commit a (Synced x) placed fits t =
       told_shown d.campaign d.epoch commit (next_no d) (end_message a) x told
       (subst
@@ -264,6 +279,31 @@ settled_bare : (m : Message) (r : Reply) (told : List Told) → is_process m.cal
     → is_settled (Answered m r ∷ told) ≡ is_settled told
 settled_bare m r told is = ap (λ b. if b && is_done r then false else is_settled told) is
 
+activate_bare : (m : Message) (r : Reply) (told : List Told) → is_activate m.call ≡ false
+    → activate_done (Answered m r ∷ told) ≡ activate_done told
+activate_bare m r told is = ap (λ b. (b && is_done r) || activate_done told) is
+
+data_no_activate : (packages : List (List ℕ)) (b : Bool) (id p counter : ℕ)
+    → is_activate (call_of packages (if b then SendStep.Exit id else SendStep.Data p id counter)) ≡ false
+data_no_activate packages true id p counter = refl
+data_no_activate packages false id p counter = refl
+
+-- before Activate is done nothing was told after it
+none_after : (x : Status) (told : List Told) → activate_done told ≡ false → showed_after_activate x told ≡ false
+none_after x [] none = refl
+none_after x (Showed s ∷ told) none =
+    ap (λ b. (is_status s x && b) || showed_after_activate x told) none
+    ∙ (ap (λ b. b || showed_after_activate x told) (and_none (is_status s x)) ∙ none_after x told none)
+  where
+    and_none : (b : Bool) → (b && false) ≡ false
+    and_none true = refl
+    and_none false = refl
+none_after x (Answered m r ∷ told) none = none_after x told (or_none (is_activate m.call && is_done r) _ none)
+  where
+    or_none : (a b : Bool) → (a || b) ≡ false → b ≡ false
+    or_none true b is = absurd (cc is)
+    or_none false b is = is
+
 data_bare : (packages : List (List ℕ)) (b : Bool) (id p counter : ℕ)
     → is_process (call_of packages (if b then SendStep.Exit id else SendStep.Data p id counter)) ≡ false
 data_bare packages true id p counter = refl
@@ -280,9 +320,17 @@ module _ (packages : List (List ℕ)) (k epoch : ℕ) (d : DriverState) (m : Mes
       → m.call ≡ call_of packages (if b then SendStep.Process id tag else SendStep.Activate)
       → ToldAt k epoch (Progress.Process taken settled) told
       → ToldAt k epoch (if b then Progress.Process (suc taken) false else Progress.Activating) (Answered m Done ∷ told)
-  process_told taken settled true id tag call t =
-      (t.0, ap (λ c. if is_process c && true then false else is_settled told) call)
-  process_told taken settled false id tag call t = ap (λ c. (is_activate c && true) || activate_done told) call
+  process_told taken settled true id tag call t = (
+    t.0,
+    ap (λ c. if is_process c && true then false else is_settled told) call,
+    activate_bare m Done told (ap is_activate call) ∙ t.2,
+  )
+  process_told taken settled false id tag call t = (
+    ap (λ c. (is_activate c && true) || activate_done told) call,
+    t.0,
+    none_after Activated told t.2,
+    none_after RolledBack told t.2,
+  )
 
   -- a call of the rounds was answered
   told_called : (p : Progress) (reply : Reply) → IsCalling p → is_answer (round_step d p) reply ≡ true
@@ -299,23 +347,31 @@ module _ (packages : List (List ℕ)) (k epoch : ℕ) (d : DriverState) (m : Mes
   told_called Progress.Activating (Refused why) calling fits call t = absurd calling
   told_called (Progress.Voted finding) (Refused why) calling fits call t = absurd calling
   told_called (Progress.Ending commit at) (Refused why) calling fits call t = absurd calling
-  told_called Progress.Sync (Synced x) calling fits call t =
-      (t.0, settled_bare m (Synced x) told (ap is_process call) ∙ t.1)
+  told_called Progress.Sync (Synced x) calling fits call t = (
+    t.0,
+    settled_bare m (Synced x) told (ap is_process call) ∙ t.1,
+    activate_bare m (Synced x) told (ap is_activate call) ∙ t.2,
+  )
   told_called Progress.Sync Done calling fits call t = absurd (cc fits)
   told_called Progress.Sync (Started n) calling fits call t = absurd (cc fits)
-  told_called Progress.Transfer (Started n) calling fits call t =
-      (t.0, settled_bare m (Started n) told (ap is_process call) ∙ t.1)
+  told_called Progress.Transfer (Started n) calling fits call t = (
+    t.0,
+    settled_bare m (Started n) told (ap is_process call) ∙ t.1,
+    activate_bare m (Started n) told (ap is_activate call) ∙ t.2,
+  )
   told_called Progress.Transfer Done calling fits call t = absurd (cc fits)
   told_called Progress.Transfer (Synced x) calling fits call t = absurd (cc fits)
   told_called (Progress.Data id counter left) Done calling fits call t =
       let place = (size_at d.steps (length d.ids)).index in
       let settled = settled_bare m Done told (ap is_process call ∙ data_bare packages (left == 0) id place counter)
       ∙ t.1 in
+      let none = activate_bare m Done told (ap is_activate call ∙ data_no_activate packages (left == 0) id place counter)
+      ∙ t.2 in
       told_if k epoch (left == 0) (next_transfer d) (Progress.Data id (counter + 1) (left - block_limit))
       (Answered m Done ∷ told)
       (told_if k epoch (nat_lt (suc (length d.ids)) (length d.steps)) Progress.Transfer (Progress.Process 0 true)
-      (Answered m Done ∷ told) (t.0, settled) (t.0, settled))
-      (t.0, settled)
+      (Answered m Done ∷ told) (t.0, settled, none) (t.0, settled, none))
+      (t.0, settled, none)
   told_called (Progress.Data id counter left) (Started n) calling fits call t =
       let place = (size_at d.steps (length d.ids)).index in
       absurd (cc (sym (data_answers (left == 0) id place counter (Started n)) ∙ fits))
@@ -355,7 +411,7 @@ module _ (packages : List (List ℕ)) (d : DriverState) (told : List Told) (soun
       (ap (call_of packages) (sym call.1))
       t
 
-  told_replied : (p : Progress) (reply : Reply) (asked : SendStep) → IsPlaced d.steps d.ids p
+  pub told_replied : (p : Progress) (reply : Reply) (asked : SendStep) → IsPlaced d.steps d.ids p
       → wish_at d p ≡ Wish.Send asked → is_answer asked reply ≡ true → ToldAt d.campaign d.epoch p told
       → ToldAt d.campaign d.epoch (progress_after d p reply) (Answered (sent_at p asked) reply ∷ told)
   told_replied Progress.Sync reply asked placed is fits t =
@@ -402,7 +458,7 @@ unit_at_if : (b : Bool) (f : Finding) (at : CallNo) (asked : SendStep)
 unit_at_if true f at asked is = cc is
 unit_at_if false f at asked is = cc is
 
-at_of_todo : (d : DriverState) (w : Wish) (at : CallNo) (asked : SendStep) → todo_for d w ≡ Todo.Send at asked
+pub at_of_todo : (d : DriverState) (w : Wish) (at : CallNo) (asked : SendStep) → todo_for d w ≡ Todo.Send at asked
     → next_no d ≡ at
 at_of_todo d (Wish.Rest finding) at asked is = absurd (cc is)
 at_of_todo d (Wish.Send other) at asked is =
@@ -414,7 +470,7 @@ send_unit_if : (b : Bool) (f : Finding) (n : CallNo) (other : SendStep)
 send_unit_if true f n other is = cc is
 send_unit_if false f n other is = cc is
 
-unit_of_todo : (d : DriverState) (w : Wish) → todo_for d w ≡ Todo.Unit → w ≡ Wish.Unit
+pub unit_of_todo : (d : DriverState) (w : Wish) → todo_for d w ≡ Todo.Unit → w ≡ Wish.Unit
 unit_of_todo d (Wish.Rest finding) is = absurd (cc is)
 unit_of_todo d (Wish.Send other) is =
     absurd (send_unit_if (is_missed d) (unreached d.misses) (next_no d) other is)
@@ -431,7 +487,7 @@ told_todo packages d told Todo.Unit got sound is_told is =
     told_unit_after packages d told sound got (unit_of_todo d (wish d) is) is_told
 told_todo packages d told (Todo.Rest finding) got sound is_told is = is_told
 
-told_step : (packages : List (List ℕ)) (d : DriverState) (told : List Told) (got : Got) → IsSound d → IsTold d told
+pub told_step : (packages : List (List ℕ)) (d : DriverState) (told : List Told) (got : Got) → IsSound d → IsTold d told
     → has_number d ≡ true → IsTold (step got d) (told_after packages d (todo d) got told)
 told_step packages d told got sound is_told has =
     subst
@@ -439,19 +495,19 @@ told_step packages d told got sound is_told has =
     (sym has)
     (told_todo packages d told (todo d) got sound is_told refl)
 
-told_begun : (d : DriverState) (told : List Told) (round : Round) → IsTold d told → IsTold (begun round d) told
+pub told_begun : (d : DriverState) (told : List Told) (round : Round) → IsTold d told → IsTold (begun round d) told
 told_begun d told Round.Sync t = t
 told_begun d told Round.Transfer t = t
 told_begun d told Round.Process t = t
 told_begun d told Round.Activate t = t
 told_begun d told (Round.End commit) t = tt
 
-early_at : (k epoch : ℕ) (d : DriverState) (p : Progress) (told : List Told) (asked : SendStep) → ToldAt k epoch p told
+pub early_at : (k epoch : ℕ) (d : DriverState) (p : Progress) (told : List Told) (asked : SendStep) → ToldAt k epoch p told
     → (IsEnding p → ⊥) → wish_at d p ≡ Wish.Send asked → (has_refusal told ≡ false) × (is_settled told ≡ true)
-early_at k epoch d Progress.Sync told asked t early is = t
-early_at k epoch d Progress.Transfer told asked t early is = t
-early_at k epoch d (Progress.Data id counter left) told asked t early is = t
-early_at k epoch d (Progress.Process taken true) told asked t early is = t
+early_at k epoch d Progress.Sync told asked t early is = (t.0, t.1)
+early_at k epoch d Progress.Transfer told asked t early is = (t.0, t.1)
+early_at k epoch d (Progress.Data id counter left) told asked t early is = (t.0, t.1)
+early_at k epoch d (Progress.Process taken true) told asked t early is = (t.0, t.1)
 early_at k epoch d (Progress.Process taken false) told asked t early is = absurd (cc is)
 early_at k epoch d Progress.Activating told asked t early is = absurd (cc is)
 early_at k epoch d (Progress.Voted finding) told asked t early is = absurd (cc is)
@@ -480,7 +536,7 @@ has_place (id ∷ ids) (suc place) less = or_last _ _ (has_place ids place (omeg
 
 module _ (packages : List (List ℕ)) (k epoch : ℕ) (commit : Bool) (cause : Cause) (told : List Told) where
   -- a call that may be sent after the decision
-  abbrev IsLate : SendStep → Type 0
+  abbrev pub IsLate : SendStep → Type 0
   IsLate asked =
       (is_sync (call_of packages asked)
       || (end_call_at (decision_of commit cause) (last_status k epoch told) (call_of packages asked)
@@ -527,7 +583,7 @@ module _ (packages : List (List ℕ)) (k epoch : ℕ) (commit : Bool) (cause : C
       subst IsLate same (late_delete listed place placed t)
   late_at (EndProgress.Rest call_no) asked placed t is = absurd (cc is)
 
-late_told : (packages : List (List ℕ)) (d : DriverState) (told : List Told) (commit : Bool) (end : EndProgress)
+pub late_told : (packages : List (List ℕ)) (d : DriverState) (told : List Told) (commit : Bool) (end : EndProgress)
     → d.progress ≡ Progress.Ending commit end → IsSound d → IsTold d told
     → (at : CallNo) (asked : SendStep) → todo d ≡ Todo.Send at asked → (cause : Cause)
     → IsLate packages d.campaign d.epoch commit cause told asked
@@ -567,24 +623,10 @@ module _ (k epoch : ℕ) (told : List Told) where
   found_at d (Progress.Ending commit (EndProgress.Rest call_no)) f t is =
       let same : Finding.Ended call_no ≡ f = cc is in subst (λ h. Found k epoch h told) same t
 
-  found_for : (d : DriverState) (p : Progress) (w : Wish) (f : Finding) → wish_at d p ≡ w → ToldAt k epoch p told
+  pub found_for : (d : DriverState) (p : Progress) (w : Wish) (f : Finding) → wish_at d p ≡ w → ToldAt k epoch p told
       → todo_for d w ≡ Todo.Rest f → Found k epoch f told
   found_for d p (Wish.Rest g) f here t is =
       let same : g ≡ f = cc is in found_at d p f t (here ∙ ap Wish.Rest same)
   found_for d p (Wish.Send a) f here t is =
       found_if (is_missed d) (unreached d.misses) f (Todo.Send (next_no d) a) tt (λ e. cc e) is
   found_for d p Wish.Unit f here t is = found_if (is_missed d) (unreached d.misses) f Todo.Unit tt (λ e. cc e) is
-
--- what a driver asks for is allowed by what was told
-pub allowed_by_told : IsAllowedByTold
-allowed_by_told = record {
-  fresh = λ epoch first k steps. (refl, refl);
-  answered = λ packages d told got sound is_told has. told_step packages d told got sound is_told has;
-  begun = λ d told round is_told. told_begun d told round is_told;
-  early = λ d told is_told early at asked is.
-      early_at d.campaign d.epoch d d.progress told asked is_told early (wish_of_todo d (wish d) at asked is);
-  late = λ packages d told commit end here sound is_told at asked is cause.
-      late_told packages d told commit end here sound is_told at asked is cause;
-  found = λ d told finding is_told is.
-      found_for d.campaign d.epoch told d d.progress (wish d) finding refl is_told is;
-}

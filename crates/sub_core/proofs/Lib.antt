@@ -1,2 +1,12 @@
+pub mod Rounds
+pub mod Told
 pub mod Stages
 pub mod Allowed
+pub mod Placed
+pub mod Ends
+pub mod Kept
+pub mod Journeys
+pub mod Findings
+pub mod Misses
+pub mod Units
+pub mod Sending

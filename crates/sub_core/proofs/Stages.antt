@@ -28,7 +28,9 @@ use Rattle.sub_core.specs.declared.progress.Wish.{Wish}
 use Rattle.sub_core.specs.Calls.{AreThere, bytes_at, call_of, step_bytes}
 use Rattle.sub_core.specs.States.{DriverState, IsPlaced, IsSound, size_at}
 use Rattle.sub_core.specs.Driving.{after_send, after_todo, after_unit, begun, call_wish, end_wish, has_number, is_answer, is_missed, is_over, next_no, next_transfer, opened, progress_after, replied, round_after, round_step, settled_after, status_of, step, todo, todo_for, unreached, whole_by, wish, wish_at, with_whole, IsEnding}
-use Rattle.sub_core.specs.Rounds.{GoesByRounds, StandsAt, StandsFor, phase_of, reply_got, reply_to, sizes_of, stage_seen}
+use Rattle.sub_core.specs.Given.{reply_got}
+use Rattle.sub_core.specs.Sends.{phase_of}
+use Rattle.sub_core.proofs.Rounds.{StandsAt, StandsFor, reply_to, sizes_of, stage_seen}
 
 -- the package that comes next, and those behind it
 first_left : (steps : List PackageSize) (n : ℕ) → n < length steps
@@ -46,13 +48,13 @@ length_sizes : (steps : List PackageSize) → length (sizes_of steps) ≡ length
 length_sizes [] = refl
 length_sizes (s ∷ steps) = ap suc (length_sizes steps)
 
-lt_true : (a b : ℕ) → nat_lt a b ≡ true → a < b
+pub lt_true : (a b : ℕ) → nat_lt a b ≡ true → a < b
 lt_true a b is = grind (arith, nat_tests)
 
 lt_false : (a b : ℕ) → nat_lt a b ≡ false → b ≤ a
 lt_false a b is = grind (arith, nat_tests)
 
-le_true : (a b : ℕ) → nat_le a b ≡ true → a ≤ b
+pub le_true : (a b : ℕ) → nat_le a b ≡ true → a ≤ b
 le_true a b is = grind (arith, nat_tests)
 
 synced_seen : (steps : List PackageSize) → 0 < length steps
@@ -226,7 +228,7 @@ wish_of_todo d (Wish.Send other) at asked is =
 wish_of_todo d Wish.Unit at asked is = absurd (unit_if (is_missed d) (unreached d.misses) at asked is)
 
 -- what a driver stands for, as an equation of stages
-stands_calling : (steps : List PackageSize) (ids : List ℕ) (p : Progress) (replies : List Reply) → (IsEnding p → ⊥)
+pub stands_calling : (steps : List PackageSize) (ids : List ℕ) (p : Progress) (replies : List Reply) → (IsEnding p → ⊥)
     → StandsAt steps ids p replies → stage_by_size (sizes_of steps) AtSync replies ≡ stage_seen steps ids p
 stands_calling steps ids Progress.Sync replies early stands = stands
 stands_calling steps ids Progress.Transfer replies early stands = stands
@@ -267,7 +269,7 @@ module _ (d : DriverState) (replies : List Reply) (sound : IsSound d) where
       (stands_calling d.steps d.ids p replies (is_early p call.0) stands)
       ∙ onward_seen d p reply sound.some placed call.0 (subst (λ a. is_answer a reply ≡ true) (sym call.1) fits)))
 
-  stands_replied : (p : Progress) (reply : Reply) (asked : SendStep) → IsPlaced d.steps d.ids p
+  pub stands_replied : (p : Progress) (reply : Reply) (asked : SendStep) → IsPlaced d.steps d.ids p
       → StandsAt d.steps d.ids p replies → wish_at d p ≡ Wish.Send asked → is_answer asked reply ≡ true
       → StandsAt d.steps (with_whole d.ids (whole_by p reply)) (progress_after d p reply) (replies ++ reply ∷ [])
   stands_replied Progress.Sync reply asked placed stands is fits =
@@ -286,7 +288,7 @@ module _ (d : DriverState) (replies : List Reply) (sound : IsSound d) where
   stands_replied (Progress.Ending commit at) reply asked placed stands is fits = tt
 
 -- a status changes no stage
-stands_worked : (steps : List PackageSize) (ids : List ℕ) (p : Progress) (status : Status) (replies : List Reply)
+pub stands_worked : (steps : List PackageSize) (ids : List ℕ) (p : Progress) (status : Status) (replies : List Reply)
     → StandsAt steps ids p replies → StandsAt steps ids (settled_after p status) replies
 stands_worked steps ids Progress.Sync status replies stands = stands
 stands_worked steps ids Progress.Transfer status replies stands = stands
@@ -339,7 +341,7 @@ stands_todo d replies (Todo.Send at asked) got sound stands is =
 stands_todo d replies Todo.Unit got sound stands is = stands_unit d replies got stands
 stands_todo d replies (Todo.Rest finding) got sound stands is = no_more d replies stands
 
-stands_step : (d : DriverState) (replies : List Reply) (got : Got) → IsSound d → StandsFor d replies
+pub stands_step : (d : DriverState) (replies : List Reply) (got : Got) → IsSound d → StandsFor d replies
     → has_number d ≡ true → StandsFor (step got d) (replies ++ one_if (reply_to (todo d) got))
 stands_step d replies got sound stands has =
     subst
@@ -347,7 +349,7 @@ stands_step d replies got sound stands has =
     (sym has)
     (stands_todo d replies (todo d) got sound stands refl)
 
-stands_begun : (d : DriverState) (replies : List Reply) (round : Round) → StandsFor d replies
+pub stands_begun : (d : DriverState) (replies : List Reply) (round : Round) → StandsFor d replies
     → StandsFor (begun round d) replies
 stands_begun d replies Round.Sync stands = stands
 stands_begun d replies Round.Transfer stands = stands
@@ -362,7 +364,7 @@ at_bytes packages [] n less = absurd (omega (arith, less))
 at_bytes packages (s ∷ steps) zero less = refl
 at_bytes packages (s ∷ steps) (suc n) less = at_bytes packages steps n (omega (arith, less))
 
-sizes_same : (packages : List (List ℕ)) (steps : List PackageSize) → AreThere packages steps
+pub sizes_same : (packages : List (List ℕ)) (steps : List PackageSize) → AreThere packages steps
     → map length (step_bytes packages steps) ≡ sizes_of steps
 sizes_same packages [] there = refl
 sizes_same packages (s ∷ steps) there =
@@ -412,7 +414,7 @@ call_seen packages d Progress.Activating calling placed = absurd calling
 call_seen packages d (Progress.Voted finding) calling placed = absurd calling
 call_seen packages d (Progress.Ending commit at) calling placed = absurd calling
 
-asks_next : GoesBySize → (packages : List (List ℕ)) (d : DriverState) (replies : List Reply) → IsSound d
+pub asks_next : GoesBySize → (packages : List (List ℕ)) (d : DriverState) (replies : List Reply) → IsSound d
     → StandsFor d replies → AreThere packages d.steps → (IsEnding d.progress → ⊥)
     → (at : CallNo) (asked : SendStep) → todo d ≡ Todo.Send at asked
     → call_at d.campaign (stage_of (step_bytes packages d.steps) AtSync replies) ≡ Some (call_of packages asked)
@@ -430,7 +432,7 @@ done_if : (b : Bool) (f : Finding) (t : Todo) → (t ≡ Todo.Rest Finding.Round
 done_if true f t other missed is = missed (cc is)
 done_if false f t other missed is = other is
 
-done_of_todo : (d : DriverState) (w : Wish) → todo_for d w ≡ Todo.Rest Finding.RoundDone
+pub done_of_todo : (d : DriverState) (w : Wish) → todo_for d w ≡ Todo.Rest Finding.RoundDone
     → w ≡ Wish.Rest Finding.RoundDone
 done_of_todo d (Wish.Rest finding) is = let same : finding ≡ Finding.RoundDone = cc is in ap Wish.Rest same
 done_of_todo d (Wish.Send asked) is =
@@ -498,7 +500,7 @@ calling_done d replies round p calling stands here is =
     ∙ past_seen round d.steps d.ids p calling
     (subst (λ r. is_over r d.ids p ≡ true) here (over_of (is_over d.round d.ids p) (round_step d p) is))
 
-done_at : (d : DriverState) (replies : List Reply) (round : Round) (p : Progress) → StandsAt d.steps d.ids p replies
+pub done_at : (d : DriverState) (replies : List Reply) (round : Round) (p : Progress) → StandsAt d.steps d.ids p replies
     → d.round ≡ Some round → wish_at d p ≡ Wish.Rest Finding.RoundDone
     → is_past (phase_of round) (stage_by_size (sizes_of d.steps) AtSync replies) ≡ true
 done_at d replies round Progress.Sync stands here is = calling_done d replies round Progress.Sync tt stands here is
@@ -513,15 +515,3 @@ done_at d replies round Progress.Activating stands here is = absurd (cc is)
 done_at d replies round (Progress.Voted finding) stands here is =
     ap (is_past (phase_of round)) stands ∙ voted_done d.steps d.ids round finding (cc is)
 done_at d replies round (Progress.Ending commit at) stands here is = absurd (rest_end at is)
-
--- what a driver asks for and finds in the rounds
-pub goes_by_rounds : GoesBySize → GoesByRounds
-goes_by_rounds by_size = record {
-  fresh = λ epoch first k steps. refl;
-  answered = λ d replies got sound stands has. stands_step d replies got sound stands has;
-  begun = λ d replies round stands. stands_begun d replies round stands;
-  asks = λ packages d replies sound stands there early at asked is.
-      asks_next by_size packages d replies sound stands there early at asked is;
-  done = λ d replies round sound stands here is.
-      done_at d replies round d.progress stands here (done_of_todo d (wish d) is);
-}

@@ -22,6 +22,11 @@ IsThere packages (SendStep.Data p id counter) =
     (p < length packages) × (1 ≤ counter) × (block_limit * (counter - 1) < length (bytes_at packages p))
 IsThere packages step = ⊤
 
+-- only a block is copied
+abbrev pub IsBlock : SendStep → Type 0
+IsBlock (SendStep.Data p id counter) = ⊤
+IsBlock step = ⊥
+
 -- the call of a step, over the bytes of the campaign's packages
 abbrev pub call_of : List (List ℕ) → SendStep → Call
 call_of packages SendStep.Sync = Call.Sync

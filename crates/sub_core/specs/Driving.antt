@@ -1,5 +1,5 @@
 -- What a driver asks for next, and what an answer makes of it.
-use Rattle.std.specs.Prelude.{◌≡◌, ℕ, suc, ◌+◌, ◌-◌, ◌==◌, ⊤, Bool, true, false, not, if◌then◌else◌, nat_le, nat_lt, nat_eq, List, [], ◌∷◌, ◌++◌, length, min, sum_by, slice_index_or, Option, Some, None}
+use Rattle.std.specs.Prelude.{◌≡◌, ℕ, suc, ◌+◌, ◌-◌, ◌==◌, ⊤, Bool, true, false, not, if◌then◌else◌, nat_le, nat_lt, nat_eq, List, [], ◌∷◌, ◌++◌, length, min, slice_index_or, Option, Some, None}
 use Rattle.ucm_base.specs.Limits.{block_limit, attempt_limit}
 use Rattle.ucm_base.specs.declared.ids.CallNo.{CallNo}
 use Rattle.pm_types.specs.NodeState.{is_working}
@@ -20,6 +20,7 @@ use Rattle.sub_core.specs.declared.answers.Todo.{Todo}
 use Rattle.sub_core.specs.declared.progress.EndProgress.{EndProgress}
 use Rattle.sub_core.specs.declared.progress.Progress.{Progress}
 use Rattle.sub_core.specs.declared.progress.Wish.{Wish}
+use Rattle.sub_core.specs.Failures.{faults_in, last_count, losses_in}
 use Rattle.sub_core.specs.States.{DriverState, size_at, number_limit}
 
 -- a driver that has asked for nothing yet
@@ -48,9 +49,10 @@ round_step d (Progress.Process taken settled) =
     else SendStep.Activate
 round_step d _ = SendStep.Activate
 
--- whether each call of this round is answered
+-- whether each call of this round, or before the first round that of Sync, is answered
 abbrev pub is_over : Option Round → List ℕ → Progress → Bool
 is_over round ids Progress.Sync = false
+is_over None ids _ = true
 is_over (Some Round.Sync) ids _ = true
 is_over (Some Round.Transfer) ids (Progress.Process taken settled) = true
 is_over (Some Round.Process) ids (Progress.Process taken settled) = nat_le (length ids) taken
@@ -77,14 +79,10 @@ wish_at d p = call_wish d p
 abbrev pub wish : DriverState → Wish
 wish d = wish_at d d.progress
 
--- the last value of a count
-abbrev pub last_count : ℕ
-last_count = 18446744073709551615
-
 -- the sums of the rises; a sum above the last value is that value
 abbrev pub unreached : List Rises → Finding
 unreached misses =
-    Finding.Unreached (min last_count (sum_by (λ r. r.losses) misses)) (min last_count (sum_by (λ r. r.faults) misses))
+    Finding.Unreached (min last_count (losses_in misses)) (min last_count (faults_in misses))
 
 abbrev pub next_no : DriverState → CallNo
 next_no d = record { epoch = d.epoch; number = d.number }
@@ -240,6 +238,14 @@ after_todo (Todo.Rest finding) got d = d
 abbrev pub step : Got → DriverState → DriverState
 step got d = if has_number d then after_todo (todo d) got d else d
 
+abbrev pub unanswered_at : Todo → DriverState → DriverState
+unanswered_at (Todo.Send call_no step) d = opened d
+unanswered_at _ d = d
+
+-- memory was wanting for an answer: a call that was sent keeps its number
+abbrev pub unanswered : DriverState → DriverState
+unanswered d = if has_number d then unanswered_at (todo d) d else d
+
 abbrev pub begun_at : Round → Progress → Progress
 begun_at (Round.End commit) p = Progress.Ending commit (EndProgress.Call SendStep.Sync)
 begun_at _ p = p
@@ -258,6 +264,11 @@ abbrev pub IsEnding : Progress → Type 0
 IsEnding (Progress.Ending commit at) = ⊤
 IsEnding _ = ⊥
 
+-- the round isn't that of the end
+abbrev pub IsBeforeEnd : Option Round → Type 0
+IsBeforeEnd (Some (Round.End commit)) = ⊥
+IsBeforeEnd _ = ⊤
+
 -- the round before this one is done
 pub record IsAfter (before : Round) (d : DriverState) : Type 0 where
   pub round : d.round ≡ Some before
@@ -269,4 +280,4 @@ CanBegin Round.Sync d = d.round ≡ None
 CanBegin Round.Transfer d = IsAfter Round.Sync d
 CanBegin Round.Process d = IsAfter Round.Transfer d
 CanBegin Round.Activate d = IsAfter Round.Process d
-CanBegin (Round.End commit) d = IsEnding d.progress → ⊥
+CanBegin (Round.End commit) d = IsBeforeEnd d.round

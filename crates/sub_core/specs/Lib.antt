@@ -1,7 +1,10 @@
 pub mod States
+pub mod Failures
 pub mod Driving
 pub mod Numbers
 pub mod Calls
 pub mod Subordinates
-pub mod Rounds
-pub mod Told
+pub mod Made
+pub mod Given
+pub mod Sends
+pub mod Evidence

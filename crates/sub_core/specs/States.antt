@@ -1,5 +1,5 @@
 -- What a driver has come to.
-use Rattle.std.specs.Prelude.{◌≡◌, ℕ, ◌+◌, ◌-◌, ◌*◌, ◌^◌, ◌<◌, ◌≤◌, ⊤, Bool, if◌then◌else◌, List, [], length, slice_index_or, Option}
+use Rattle.std.specs.Prelude.{◌≡◌, ℕ, suc, ◌+◌, ◌-◌, ◌*◌, ◌<◌, ◌≤◌, ⊤, Bool, if◌then◌else◌, List, [], length, slice_index_or, Option}
 use Rattle.ucm_base.specs.Limits.{block_limit}
 use Rattle.sub_core.specs.declared.answers.PackageSize.{PackageSize}
 use Rattle.sub_core.specs.declared.answers.Rises.{Rises}
@@ -45,7 +45,7 @@ abbrev pub IsPlaced : List PackageSize → List ℕ → Progress → Type 0
 IsPlaced steps ids Progress.Sync = ids ≡ []
 IsPlaced steps ids Progress.Transfer = length ids < length steps
 IsPlaced steps ids (Progress.Data id counter left) =
-    (length ids < length steps) × (1 ≤ counter) × (counter + left ≤ 2 ^ 33)
+    (length ids < length steps) × (1 ≤ counter) × (counter + left ≤ suc (size_at steps (length ids)).length)
     × (left ≡ (size_at steps (length ids)).length - block_limit * (counter - 1))
 IsPlaced steps ids (Progress.Process taken settled) = (taken ≤ length ids) × (length ids ≡ length steps)
 IsPlaced steps ids (Progress.Ending commit at) = IsPlacedEnd at

@@ -1,9 +1,10 @@
 -- Words of subordinates and links.
-use Rattle.std.specs.Prelude.{ℕ, ◌<◌, ◌≤◌, ⊤, Bool, true, false, if◌then◌else◌, Option, Some, None}
+use Rattle.std.specs.Prelude.{ℕ, ◌+◌, ◌<◌, ◌≤◌, ⊤, if◌then◌else◌, min, Option, Some, None}
 use Rattle.fault_count.specs.Faults.{one_more}
 use Rattle.sub_core.specs.declared.subordinate.Fate.{Fate}
 use Rattle.sub_core.specs.declared.subordinate.Sent.{Sent}
 use Rattle.sub_core.specs.declared.subordinate.UnitSent.{UnitSent}
+use Rattle.sub_core.specs.Failures.{is_losing, last_count}
 
 -- the counts of losses and of faults
 pub record Counted : Type 0 where
@@ -14,17 +15,20 @@ pub record Counted : Type 0 where
 abbrev pub IsNoFewer : Counted → Counted → Type 0
 IsNoFewer before now = (before.losses ≤ now.losses) × (before.faults ≤ now.faults)
 
-abbrev pub IsLost : Sent → Type 0
-IsLost Sent.Lost = ⊤
-IsLost _ = ⊥
+-- a count rose by so much, or stands at its last value
+abbrev pub HasRisenBy : ℕ → ℕ → ℕ → Type 0
+HasRisenBy rise before now = min (before + rise) last_count ≤ now
 
-abbrev pub IsNoReply : Sent → Type 0
-IsNoReply (Sent.NoReply faults) = ⊤
-IsNoReply _ = ⊥
+-- what an attempt failed by is in the counts: a loss, with the faults that it met, or at least one fault
+abbrev pub IsCounted : Sent → Counted → Counted → Type 0
+IsCounted (Sent.Lost faults) before now =
+    HasRisenBy 1 before.losses now.losses × HasRisenBy faults before.faults now.faults
+IsCounted (Sent.NoReply faults) before now = (1 ≤ faults) × HasRisenBy faults before.faults now.faults
+IsCounted sent before now = ⊤
 
-abbrev pub IsNoUnit : UnitSent → Type 0
-IsNoUnit (UnitSent.NoReply faults) = ⊤
-IsNoUnit _ = ⊥
+abbrev pub IsCountedUnit : UnitSent → Counted → Counted → Type 0
+IsCountedUnit (UnitSent.NoReply faults) before now = (1 ≤ faults) × HasRisenBy faults before.faults now.faults
+IsCountedUnit sent before now = ⊤
 
 -- an attempt after the last one
 abbrev pub IsAbove : Option ℕ → ℕ → Type 0
@@ -36,12 +40,6 @@ abbrev pub fate_or : Option Fate → Fate
 fate_or None = Fate.Deliver
 fate_or (Some fate) = fate
 
--- the fates that are losses
-abbrev pub is_losing : Fate → Bool
-is_losing Fate.Lost = true
-is_losing Fate.Unanswered = true
-is_losing (Fate.Delayed after) = true
-is_losing _ = false
-
+-- a loss raises the count
 abbrev pub lost_after : ℕ → Fate → ℕ
 lost_after lost fate = if is_losing fate then one_more lost else lost

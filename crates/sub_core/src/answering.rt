@@ -1,5 +1,5 @@
 //! What an answer makes of a driver.
-ghost use Rattle.std.specs.Prelude.{◌≡◌, ◌<◌, ◌≤◌, IfSome, IsTrue, length};
+ghost use Rattle.std.specs.Prelude.{◌≡◌, ◌+◌, ◌<◌, ◌≤◌, IfSome, IsTrue, length};
 ghost use Rattle.pm_types.specs.NodeState.{is_working};
 ghost use Rattle.sub_core.specs.Driving.{after_delete, after_send, after_unit, at_free, at_shown, at_status, end_after, end_step, is_answer, next_no, next_transfer, progress_after, replied, round_after, settled_after, status_of, whole_by, with_whole, worked};
 ghost use Rattle.sub_core.specs.States.{number_limit, IsPlaced, IsPlacedEnd, NeedsNone};
@@ -103,7 +103,7 @@ impl Driver {
             (Progress::Data { left: 0, .. }, Reply::Done) => self.next_transfer(),
             (Progress::Data { id, counter, left }, Reply::Done) => Progress::Data {
                 id,
-                counter: counter + 1,
+                counter: next_counter(counter, self.size_at(self.ids.len()).length),
                 left: left.saturating_sub(BLOCK_LIMIT as u32),
             },
             (Progress::Process { taken, .. }, Reply::Done) if taken < self.ids.len() => {
@@ -139,6 +139,14 @@ impl Driver {
         self.misses.clear();
         self.progress = settled_after(self.progress, status);
     }
+}
+
+/// The counter behind that of a block of a package of so many bytes.
+fn next_counter(counter: u64, size: u32) -> u64
+    requires { counter ≤ size + 1 }
+    ensures { result ≡ counter + 1 }
+{
+    counter + 1
 }
 
 /// Whether the reply is of a kind that answers this call.

@@ -1,6 +1,6 @@
 //! What a driver asks for next.
 ghost use Rattle.std.specs.Prelude.{◌≡◌, ◌<◌, length};
-ghost use Rattle.sub_core.specs.Driving.{call_wish, end_wish, is_missed, is_over, last_count, next_no, round_step, unreached, wish};
+ghost use Rattle.sub_core.specs.Driving.{call_wish, end_wish, is_missed, is_over, next_no, round_step, unreached, wish};
 ghost use Rattle.sub_core.specs.States.{number_limit, size_at, IsPlaced, IsPlacedEnd};
 
 use crate::progress::{EndProgress, Progress, Wish};
@@ -54,13 +54,13 @@ impl Driver {
         }
     }
 
-    /// Whether each call of the round is answered.
+    /// Whether each call of the round is answered; before the first round there is that of Sync.
     fn is_over(&self) -> bool
         ensures { result ≡ is_over self.now.round self.now.ids self.now.progress }
     {
         match (self.round, self.progress) {
             (_, Progress::Sync) => false,
-            (Some(Round::Sync), _) => true,
+            (None | Some(Round::Sync), _) => true,
             (Some(Round::Transfer), Progress::Process { .. }) => true,
             (Some(Round::Process), Progress::Process { taken, .. }) => self.ids.len() <= taken,
             _ => false,

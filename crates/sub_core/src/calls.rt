@@ -1,8 +1,8 @@
 //! The call that a step stands for.
-ghost use Rattle.std.specs.Prelude.{◌≡◌, ◌≤◌, ◌<◌, ◌*◌, ◌-◌, IfOk, length, map, slice_index_or};
+ghost use Rattle.std.specs.Prelude.{◌≡◌, ◌≤◌, ◌<◌, ◌*◌, ◌-◌, IfOk, OnErr, length, map, slice_index_or};
 ghost use Rattle.ucm_base.specs.Limits.{block_limit};
 ghost use Rattle.world.specs.RoundsBySize.{block_of};
-ghost use Rattle.sub_core.specs.Calls.{bytes_at, bytes_of, call_of, IsThere};
+ghost use Rattle.sub_core.specs.Calls.{bytes_at, bytes_of, call_of, IsBlock, IsThere};
 
 use crate::SendStep;
 use package_reader::{Packages, Packed};
@@ -14,7 +14,8 @@ use ucm_base::limits::BLOCK_LIMIT;
 /// The call of a step, over the packages of the campaign. A block of one is copied; no other step takes memory.
 pub fn call_of(alloc: Global, step: &SendStep, packages: &Packages) -> Result<Call, AllocError>
     requires there { IsThere (bytes_of packages.now) step.now }
-    ensures { IfOk result (λ call. call ≡ call_of (bytes_of packages.now) step.now) }
+    ensures made { IfOk result (λ call. call ≡ call_of (bytes_of packages.now) step.now) }
+    ensures block { OnErr result (IsBlock step.now) }
 {
     Ok(match *step {
         SendStep::Sync => Call::Sync,

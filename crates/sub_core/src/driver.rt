@@ -1,6 +1,6 @@
 //! The driver of one subordinate, with no device and no thread.
 ghost use Rattle.std.specs.Prelude.{◌≡◌, ◌<◌, ◌≤◌, ℕ, IfOk, IsTrue, List, length};
-ghost use Rattle.sub_core.specs.Driving.{begun, fresh, has_number, next_no, step, todo, CanBegin};
+ghost use Rattle.sub_core.specs.Driving.{begun, fresh, has_number, next_no, step, todo, unanswered, CanBegin};
 ghost use Rattle.sub_core.specs.Calls.{AreThere, CanMake};
 ghost use Rattle.sub_core.specs.Numbers.{IsAt, IsLater};
 
@@ -143,11 +143,26 @@ impl Driver {
         self.misses.as_slice()
     }
 
+    /// An attempt at what it asks gave nothing, for want of memory. The number of a call isn't used for another one.
+    pub fn on_nothing(&mut self)
+        ensures is { self.new ≡ unanswered self.old }
+        ensures later { IsLater self.old self.new }
+        ensures round { self.new.round ≡ self.old.round }
+    {
+        if !self.has_number() || self.is_missed() {
+            return;
+        }
+        if let Wish::Send(_) = self.wish() {
+            self.is_open = true;
+        }
+    }
+
     /// Takes what an attempt at what it asks gave. It takes no memory. An answer of a kind that what it asks never has
     /// leaves what it asks.
     pub fn on(&mut self, got: Got)
         ensures is { self.new ≡ step got self.old }
         ensures later { IsLater self.old self.new }
+        ensures round { self.new.round ≡ self.old.round }
     {
         if !self.has_number() || self.is_missed() {
             return;

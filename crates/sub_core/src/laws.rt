@@ -1,13 +1,24 @@
 //! The laws of drivers.
-ghost use Rattle.sub_core.specs.Rounds.{GoesByRounds};
-ghost use Rattle.sub_core.specs.Told.{IsAllowedByTold};
+ghost use Rattle.sub_core.specs.Evidence.{DoneIsFound, EndIsFound, FindingsAreShown, MissesAreKept, OthersLeaveAll, RepliesFit, UnitsAreDue, UnreachedIsFound};
+ghost use Rattle.sub_core.specs.Sends.{CallsAreNext, RepliesAreRead, SendsAreAllowed, SendsAreNumbered};
 
 use world::campaign_law;
 
-/// What drivers ask for and find, whatever they are answered. It does nothing; its clauses are the laws.
+/// What drivers ask for and find, whatever they were given since they were made. It does nothing; its clauses are
+/// the laws.
 pub fn driver_law()
-    ensures rounds { GoesByRounds }
-    ensures allowed { IsAllowedByTold }
+    ensures allowed { SendsAreAllowed }
+    ensures numbered { SendsAreNumbered }
+    ensures shown { FindingsAreShown }
+    ensures found { DoneIsFound }
+    ensures ended { EndIsFound }
+    ensures unreached { UnreachedIsFound }
+    ensures missed { MissesAreKept }
+    ensures units { UnitsAreDue }
+    ensures others { OthersLeaveAll }
+    ensures calls { CallsAreNext }
+    ensures read { RepliesAreRead }
+    ensures fit { RepliesFit }
 {
     campaign_law();
 }

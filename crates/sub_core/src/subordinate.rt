@@ -1,10 +1,9 @@
 //! What a driver's subordinate and the link to it promise.
 ghost use Rattle.std.specs.Prelude.{◌≡◌, ℕ, Option, Some};
-ghost use Rattle.fault_count.specs.Faults.{HasRisen};
 ghost use Rattle.pm_types.specs.declared.calls.Call.{Call as AnyCall};
 ghost use Rattle.ucm_base.specs.declared.ids.CallNo.{CallNo as AnyNo};
 ghost use Rattle.sub_core.specs.Numbers.{IsNotBelow};
-ghost use Rattle.sub_core.specs.Subordinates.{fate_or, lost_after, Counted, IsAbove, IsLost, IsNoFewer, IsNoReply, IsNoUnit};
+ghost use Rattle.sub_core.specs.Subordinates.{fate_or, lost_after, Counted, IsAbove, IsCounted, IsCountedUnit, IsNoFewer};
 ghost use Rattle.sub_core.specs.declared.subordinate.Fate.{Fate as AnyFate};
 ghost use Rattle.sub_core.specs.declared.subordinate.Sent.{Sent as AnySent};
 ghost use Rattle.sub_core.specs.declared.subordinate.UnitSent.{UnitSent as AnyUnitSent};
@@ -16,8 +15,8 @@ use ucm_base::CallNo;
 #[derive(Clone, Copy)]
 pub enum Sent {
     Answered(Reply),
-    /// The link lost the message or its answer.
-    Lost,
+    /// The link lost the message or its answer, and the node's disk failed so many times at its delivery.
+    Lost { faults: u64 },
     /// The node's disk failed so many times.
     NoReply { faults: u64 },
     OutOfMemory,
@@ -57,10 +56,7 @@ pub trait Subordinate {
         ensures last { last self.new ≡ Some no }
         ensures sends { sends self.old no call result self.new }
         ensures counts { IsNoFewer (counted self.old) (counted self.new) }
-        ensures lost { IsLost result
-            → HasRisen (counted self.old).losses (counted self.new).losses }
-        ensures faults { IsNoReply result
-            → HasRisen (counted self.old).faults (counted self.new).faults };
+        ensures rises { IsCounted result (counted self.old) (counted self.new) };
 
     /// One attempt at a unit of work.
     fn unit(&mut self) -> UnitSent
@@ -69,8 +65,7 @@ pub trait Subordinate {
         ensures last { last self.new ≡ last self.old }
         ensures works { works self.old result self.new }
         ensures counts { IsNoFewer (counted self.old) (counted self.new) }
-        ensures faults { IsNoUnit result
-            → HasRisen (counted self.old).faults (counted self.new).faults };
+        ensures rises { IsCountedUnit result (counted self.old) (counted self.new) };
 
     /// How many messages and answers the link has lost; it stays at the last value of a u64.
     fn losses(&self) -> u64

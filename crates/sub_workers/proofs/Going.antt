@@ -1,5 +1,5 @@
 -- A worker goes on by one attempt, or ends with it.
-use Rattle.std.proofs.Common.{◌≡◌, inl, inr, List, ◌∷◌, Option, Some, None, refl, sym, ap, subst, ◌∙◌, arith}
+use Rattle.std.proofs.Common.{◌≡◌, inl, inr, ℕ, true, is_some, List, [], ◌∷◌, ◌++◌, Option, Some, None, refl, sym, ap, subst, ◌∙◌, arith}
 use Rattle.ucm_base.specs.declared.ids.CallNo.{CallNo}
 use Rattle.pm_types.specs.declared.calls.Call.{Call}
 use Rattle.sub_core.specs.declared.answers.Finding.{Finding}
@@ -8,12 +8,16 @@ use Rattle.sub_core.specs.declared.answers.Todo.{Todo}
 use Rattle.sub_core.specs.declared.subordinate.Sent.{Sent}
 use Rattle.sub_core.specs.declared.subordinate.UnitSent.{UnitSent}
 use Rattle.sub_core.specs.Calls.{bytes_of, AreThere}
-use Rattle.sub_core.specs.Driving.{next_no, step, todo}
+use Rattle.sub_core.specs.declared.answers.Round.{Round}
+use Rattle.sub_core.specs.Driving.{begun, has_number, next_no, step, todo, unanswered, CanBegin}
+use Rattle.sub_core.specs.Given.{AreGiven, Asks, Begun, Gave, GaveNothing, Given, Task, after, given, is_asked, since}
 use Rattle.sub_core.specs.Numbers.{IsLater, IsNotBelow}
 use Rattle.sub_core.specs.States.{DriverState}
 use Rattle.sub_core.specs.Subordinates.{Counted}
 use Rattle.sub_workers.specs.declared.worker.Worker.{Worker}
-use Rattle.sub_workers.specs.Runs.{Goes, IsReady, IsSameWorker, Ran, Tries}
+use Rattle.sub_workers.specs.Attempts.{IsTried}
+use Rattle.sub_workers.specs.Runs.{AreCounted, Drove, Goes, IsReady, IsSameWorker, Ran}
+use Rattle.sub_workers.proofs.Counting.{counted_along}
 
 -- a later number isn't below what the earlier one wasn't
 number_on : (last : Option CallNo) (d e : DriverState) → IsNotBelow last (next_no d) → IsLater d e
@@ -32,85 +36,161 @@ module _ {U : Type 0} (ready : U → Type 0) (last : U → Option CallNo) where
     number = number_on (last w.subordinate) w.driver e is.number later;
   }
 
-module _ {U : Type 0} (counted : U → Counted) (sends : U → CallNo → Call → Sent → U → Type 0)
+module _ {U : Type 0} (last : U → Option CallNo) (counted : U → Counted) (sends : U → CallNo → Call → Sent → U → Type 0)
     (works : U → UnitSent → U → Type 0) where
   -- the worker has gone from its old state to here
   abbrev pub HasGone : Worker U → Worker U → Type 0
   HasGone old w =
-      (gots : List Got) × Goes counted sends works (bytes_of old.packages.now) gots old.subordinate old.driver
-      w.subordinate w.driver
+      (given : List Given)
+      × Goes last counted sends works (bytes_of old.packages.now) old.driver given old.subordinate w.subordinate
+      × (w.driver ≡ since old.driver given)
 
-  -- an attempt gave an answer
-  pub gone_on : (old w m : Worker U) (got : Got) (e : DriverState) → w.packages ≡ old.packages → HasGone old w
-      → IsSameWorker w m
-      → Tries counted sends works (bytes_of w.packages.now) (todo w.driver) (Some got) w.subordinate m.subordinate
-      → e ≡ step got m.driver
-      → (gots : List Got) × Goes counted sends works (bytes_of old.packages.now) gots old.subordinate old.driver
-      m.subordinate e
-  gone_on old w m got e packages gone same tried told = (
-    got ∷ gone.0,
-    (
-      w.subordinate,
-      w.driver,
-      gone.1,
+  tried_asked : (packages : List (List ℕ)) (t : Todo) (got : Option Got) (s m : U)
+      → IsTried last counted sends works packages t got s m → is_asked t ≡ true
+  tried_asked packages (Todo.Send at step) got s m tried = refl
+  tried_asked packages Todo.Unit got s m tried = refl
+  tried_asked packages (Todo.Rest finding) got s m tried = absurd tried
+
+  module _ (old w m : Worker U) (packages : w.packages ≡ old.packages) (gone : HasGone old w) (same : IsSameWorker w m)
+      (has_begun : is_some w.driver.round ≡ true) (number : has_number w.driver ≡ true) where
+    -- what was tried, in the words of the driver that stands for what was given
+    asked_now : (got : Option Got)
+        → IsTried last counted sends works (bytes_of w.packages.now) (todo w.driver) got w.subordinate m.subordinate
+        → Asks (since old.driver gone.0)
+        × IsTried last counted sends works (bytes_of old.packages.now) (todo (since old.driver gone.0)) got
+        w.subordinate m.subordinate
+    asked_now got tried = (
+      subst Asks gone.2 (record {
+        begun = has_begun;
+        number = number;
+        asked = tried_asked (bytes_of w.packages.now) (todo w.driver) got w.subordinate m.subordinate tried;
+      }),
       subst
-          (λ p. Tries counted sends works (bytes_of p.now) (todo w.driver) (Some got) w.subordinate m.subordinate)
+          (λ d. IsTried last counted sends works (bytes_of old.packages.now) (todo d) got w.subordinate m.subordinate)
+          gone.2
+          (subst
+          (λ p. IsTried last counted sends works (bytes_of p.now) (todo w.driver) got w.subordinate m.subordinate)
           packages
-          tried,
-      told ∙ ap (step got) same.driver,
-    ),
-  )
+          tried),
+    )
+
+    -- an attempt gave an answer
+    pub gone_on : (got : Got) (e : DriverState)
+        → IsTried last counted sends works (bytes_of w.packages.now) (todo w.driver) (Some got) w.subordinate
+        m.subordinate
+        → e ≡ step got m.driver
+        → (given : List Given)
+        × Goes last counted sends works (bytes_of old.packages.now) old.driver given old.subordinate m.subordinate
+        × (e ≡ since old.driver given)
+    gone_on got e tried told = (
+      Gave got ∷ gone.0,
+      (w.subordinate, gone.1, asked_now (Some got) tried),
+      told ∙ (ap (step got) same.driver ∙ ap (step got) gone.2),
+    )
+
+    -- the last attempt gave nothing
+    pub gone_nothing : (e : DriverState)
+        → IsTried last counted sends works (bytes_of w.packages.now) (todo w.driver) None w.subordinate m.subordinate
+        → e ≡ unanswered m.driver → e.round ≡ m.driver.round → w.driver.round ≡ old.driver.round → w.found ≡ None
+        → Drove last counted sends works old.driver old
+        (record { subordinate = m.subordinate; driver = e; packages = m.packages; found = m.found })
+    gone_nothing e tried told round kept found = record {
+      packages = same.packages ∙ packages;
+      round = round ∙ (ap (λ d. d.round) same.driver ∙ kept);
+      given = GaveNothing ∷ gone.0;
+      goes = (w.subordinate, gone.1, asked_now None tried);
+      driver = told ∙ (ap unanswered same.driver ∙ ap unanswered gone.2);
+      holds = inr (same.found ∙ found);
+    }
 
   -- nothing was tried
-  pub stopped : (old w : Worker U) → w.packages ≡ old.packages → w.found ≡ None → HasGone old w
-      → Ran counted sends works old.driver old w
-  stopped old w packages found gone = record {
+  pub stopped : (old w : Worker U) → w.packages ≡ old.packages → w.driver.round ≡ old.driver.round → w.found ≡ None
+      → HasGone old w → Drove last counted sends works old.driver old w
+  stopped old w packages round found gone = record {
     packages = packages;
-    gots = gone.0;
-    last = w.subordinate;
+    round = round;
+    given = gone.0;
     goes = gone.1;
-    ends = inr (record { found = found; last = inl refl });
+    driver = gone.2;
+    holds = inr found;
   }
 
-  -- the last attempt gave nothing
-  pub failed : (old w m : Worker U) → w.packages ≡ old.packages → w.found ≡ None → HasGone old w → IsSameWorker w m
-      → Tries counted sends works (bytes_of w.packages.now) (todo w.driver) None w.subordinate m.subordinate
-      → Ran counted sends works old.driver old m
-  failed old w m packages found gone same tried = record {
-    packages = same.packages ∙ packages;
-    gots = gone.0;
-    last = w.subordinate;
-    goes = subst
-        (λ d. Goes counted sends works (bytes_of old.packages.now) gone.0 old.subordinate old.driver w.subordinate d)
-        (sym same.driver)
-        gone.1;
-    ends = inr
-        (record {
-          found = same.found ∙ found;
-          last = inr
-              (subst
-              (λ d. Tries counted sends works (bytes_of old.packages.now) (todo d) None w.subordinate m.subordinate)
-              (sym same.driver)
-              (subst
-              (λ p. Tries counted sends works (bytes_of p.now) (todo w.driver) None w.subordinate m.subordinate)
-              packages
-              tried));
-        });
+  module _ (old w m : Worker U) (packages : w.packages ≡ old.packages) (round : w.driver.round ≡ old.driver.round)
+      (gone : HasGone old w) (same : IsSameWorker w m) (stays : m.subordinate ≡ w.subordinate) where
+    goes_still : Goes last counted sends works (bytes_of old.packages.now) old.driver gone.0 old.subordinate
+        m.subordinate
+    goes_still =
+        subst (λ t. Goes last counted sends works (bytes_of old.packages.now) old.driver gone.0 old.subordinate t)
+        (sym stays) gone.1
+
+    -- nothing could be tried
+    pub failed : w.found ≡ None → Drove last counted sends works old.driver old m
+    failed found = record {
+      packages = same.packages ∙ packages;
+      round = ap (λ d. d.round) same.driver ∙ round;
+      given = gone.0;
+      goes = goes_still;
+      driver = same.driver ∙ gone.2;
+      holds = inr (same.found ∙ found);
+    }
+
+    -- the driver rests
+    pub rested : (finding : Finding) → todo w.driver ≡ Todo.Rest finding
+        → Drove last counted sends works old.driver old
+        (record { subordinate = m.subordinate; driver = m.driver; packages = m.packages; found = Some finding })
+    rested finding rests = record {
+      packages = same.packages ∙ packages;
+      round = ap (λ d. d.round) same.driver ∙ round;
+      given = gone.0;
+      goes = goes_still;
+      driver = same.driver ∙ gone.2;
+      holds = inl (finding, ap todo same.driver ∙ rests, refl);
+    }
+
+  -- what a driver was given in a round goes on what it was given before
+  since_more : (d : DriverState) (task : Task) (before now : List Given) → d ≡ after task before
+      → since d now ≡ after task (now ++ before)
+  since_more d task before [] is = is
+  since_more d task before (g ∷ now) is = ap (given g) (since_more d task before now is)
+
+  given_more : (packages : List (List ℕ)) (d : DriverState) (task : Task) (before now : List Given) (s t : U)
+      → d ≡ after task before → AreGiven task before → Goes last counted sends works packages d now s t
+      → AreGiven task (now ++ before)
+  given_more packages d task before [] s t is are goes = are
+  given_more packages d task before (Begun round ∷ now) s t is are goes = absurd goes.2
+  given_more packages d task before (Gave got ∷ now) s t is are goes =
+      (subst Asks (since_more d task before now is) goes.2.0, given_more packages d task before now s goes.0 is are goes.1)
+  given_more packages d task before (GaveNothing ∷ now) s t is are goes =
+      (subst Asks (since_more d task before now is) goes.2.0, given_more packages d task before now s goes.0 is are goes.1)
+
+  pub ran : (round : Round) (old new : Worker U) → CanBegin round old.driver
+      → Drove last counted sends works (begun round old.driver) old new → Ran last counted sends works round old new
+  ran round old new can drove = record {
+    drove = drove;
+    round_kept = drove.round;
+    misses = subst (λ d. AreCounted d.misses (counted old.subordinate) (counted new.subordinate)) (sym drove.driver)
+        (counted_along last counted sends works (bytes_of old.packages.now) (begun round old.driver) refl drove.given
+        old.subordinate new.subordinate drove.goes);
+    driver = λ task before is are.
+        let start : begun round old.driver ≡ after task (Begun round ∷ before) = ap (begun round) is in (
+          given_more (bytes_of old.packages.now) (begun round old.driver) task (Begun round ∷ before) drove.given
+              old.subordinate new.subordinate start (subst (CanBegin round) is can, are) drove.goes,
+          drove.driver ∙ since_more (begun round old.driver) task (Begun round ∷ before) drove.given start,
+        );
   }
 
-  -- the driver rests
-  pub rested : (old w m : Worker U) (finding : Finding) → w.packages ≡ old.packages → HasGone old w → IsSameWorker w m
-      → todo w.driver ≡ Todo.Rest finding → m.subordinate ≡ w.subordinate
-      → Ran counted sends works old.driver old
-      (record { subordinate = m.subordinate; driver = m.driver; packages = m.packages; found = Some finding })
-  rested old w m finding packages gone same rests stays = record {
-    packages = same.packages ∙ packages;
-    gots = gone.0;
-    last = w.subordinate;
-    goes = subst
-        (λ d. Goes counted sends works (bytes_of old.packages.now) gone.0 old.subordinate old.driver w.subordinate d)
-        (sym same.driver)
-        gone.1;
-    ends = inl
-        (record { finding = finding; rests = ap todo same.driver ∙ rests; found = refl; same = stays });
-  }
+  -- the same, where the driver began its round just before
+  pub ran_begun : (round : Round) (old new : Worker U) (e : DriverState) → CanBegin round old.driver
+      → e ≡ begun round old.driver
+      → Drove last counted sends works e
+      (record { subordinate = old.subordinate; driver = e; packages = old.packages; found = old.found }) new
+      → Ran last counted sends works round old new
+  ran_begun round old new e can is drove =
+      ran round old new can (subst (λ x. Drove last counted sends works x old new) is (record {
+        packages = drove.packages;
+        round = drove.round;
+        given = drove.given;
+        goes = drove.goes;
+        driver = drove.driver;
+        holds = drove.holds;
+      }))

@@ -1,21 +1,24 @@
 -- What a worker did.
-use Rattle.std.specs.Prelude.{◌≡◌, ◌⊎◌, ℕ, List, [], ◌∷◌, Option, Some, None}
+use Rattle.std.specs.Prelude.{◌≡◌, ◌⊎◌, ℕ, ◌+◌, ◌≤◌, List, [], ◌∷◌, ◌++◌, Option, Some, None}
+use Rattle.std.specs.List.{AllByRecursion}
 use Rattle.ucm_base.specs.declared.ids.CallNo.{CallNo}
 use Rattle.pm_types.specs.declared.calls.Call.{Call}
 use Rattle.sub_core.specs.declared.answers.Finding.{Finding}
-use Rattle.sub_core.specs.declared.answers.Got.{Got}
+use Rattle.sub_core.specs.declared.answers.Rises.{Rises}
 use Rattle.sub_core.specs.declared.answers.Round.{Round}
 use Rattle.sub_core.specs.declared.answers.Todo.{Todo}
 use Rattle.sub_core.specs.declared.subordinate.Sent.{Sent}
 use Rattle.sub_core.specs.declared.subordinate.UnitSent.{UnitSent}
 use Rattle.sub_core.specs.Calls.{bytes_of, AreThere}
-use Rattle.sub_core.specs.Driving.{next_no, step, todo, CanBegin}
+use Rattle.sub_core.specs.Driving.{begun, next_no, todo, CanBegin}
+use Rattle.sub_core.specs.Given.{AreGiven, Asks, Begun, Gave, GaveNothing, Given, Task, after, since}
 use Rattle.sub_core.specs.Numbers.{IsNotBelow}
 use Rattle.sub_core.specs.States.{DriverState}
-use Rattle.sub_core.specs.Subordinates.{Counted}
+use Rattle.sub_core.specs.Failures.{faults_in, losses_in}
+use Rattle.sub_core.specs.Subordinates.{Counted, HasRisenBy, IsNoFewer}
 use Rattle.sub_workers.specs.declared.sending.Attempt.{Attempt}
 use Rattle.sub_workers.specs.declared.worker.Worker.{Worker}
-use Rattle.sub_workers.specs.Attempts.{Sends, Works}
+use Rattle.sub_workers.specs.Attempts.{IsTried}
 
 -- a worker that may go on: its packages are those of its driver's steps, and its numbers go on from those sent
 pub record IsReady {U : Type 0} (ready : U → Type 0) (last : U → Option CallNo) (w : Worker U) : Type 0 where
@@ -33,43 +36,55 @@ pub record IsSameWorker {U : Type 0} (old new : Worker U) : Type 0 where
 abbrev pub MayBegin : {U : Type 0} → (U → Type 0) → (U → Option CallNo) → Round → Worker U → Type 0
 MayBegin ready last round w = IsReady ready last w × CanBegin round w.driver
 
-module _ {U : Type 0} (counted : U → Counted) (sends : U → CallNo → Call → Sent → U → Type 0)
+-- each failed attempt of a row had a loss or a fault, no count has fallen, and the counts rose by the sums or stand at
+-- their last values
+pub record AreCounted (misses : List Rises) (before now : Counted) : Type 0 where
+  pub each : AllByRecursion (λ r. 1 ≤ r.losses + r.faults) misses
+  pub counts : IsNoFewer before now
+  pub losses : HasRisenBy (losses_in misses) before.losses now.losses
+  pub faults : HasRisenBy (faults_in misses) before.faults now.faults
+
+-- the worker holds what its driver finds, or nothing, for want of memory or numbers
+abbrev pub Holds : {U : Type 0} → Worker U → Type 0
+Holds w = ((finding : Finding) × (todo w.driver ≡ Todo.Rest finding) × (w.found ≡ Some finding)) ⊎ (w.found ≡ None)
+
+module _ {U : Type 0} (last : U → Option CallNo) (counted : U → Counted) (sends : U → CallNo → Call → Sent → U → Type 0)
     (works : U → UnitSent → U → Type 0) where
-  -- what the driver asked for was tried, and this is what it gave, if anything
-  abbrev pub Tries : List (List ℕ) → Todo → Option Got → U → U → Type 0
-  Tries packages (Todo.Send at step) got s t = Sends counted sends packages at step got s t
-  Tries packages Todo.Unit got s t = Works counted works got s t
-  Tries packages (Todo.Rest finding) got s t = ⊥
-
   -- what an attempt gave
-  abbrev pub IsTried : List (List ℕ) → Todo → Attempt → U → U → Type 0
-  IsTried packages asked (Attempt.Gave got) s t = Tries packages asked (Some got) s t
-  IsTried packages asked (Attempt.Rests finding) s t = (asked ≡ Todo.Rest finding) × (t ≡ s)
-  IsTried packages asked Attempt.OutOfMemory s t = Tries packages asked None s t
+  abbrev pub IsAttempt : List (List ℕ) → Todo → Attempt → U → U → Type 0
+  IsAttempt packages asked (Attempt.Gave got) s t = IsTried last counted sends works packages asked (Some got) s t
+  IsAttempt packages asked Attempt.GaveNothing s t = IsTried last counted sends works packages asked None s t
+  IsAttempt packages asked (Attempt.Rests finding) s t = (asked ≡ Todo.Rest finding) × (t ≡ s)
+  IsAttempt packages asked Attempt.OutOfMemory s t = t ≡ s
 
-  -- from one state to the other by just these answers, the newest first
-  abbrev pub Goes : List (List ℕ) → List Got → U → DriverState → U → DriverState → Type 0
-  Goes packages [] s d t e = (t ≡ s) × (e ≡ d)
-  Goes packages (got ∷ gots) s d t e =
-      (m : U) × (f : DriverState) × Goes packages gots s d m f × Tries packages (todo f) (Some got) m t
-      × (e ≡ step got f)
+  -- a driver that asks for something is given what an attempt at it gave
+  abbrev pub IsGiven : List (List ℕ) → DriverState → Given → U → U → Type 0
+  IsGiven packages d (Begun round) s t = ⊥
+  IsGiven packages d (Gave got) s t = Asks d × IsTried last counted sends works packages (todo d) (Some got) s t
+  IsGiven packages d GaveNothing s t = Asks d × IsTried last counted sends works packages (todo d) None s t
 
-  -- the driver rests, and the worker holds its finding
-  pub record Rests (t : U) (w : Worker U) : Type 0 where
-    pub finding : Finding
-    pub rests : todo w.driver ≡ Todo.Rest finding
-    pub found : w.found ≡ Some finding
-    pub same : w.subordinate ≡ t
+  -- from one state to the other by just these attempts, the newest first, from this driver on
+  abbrev pub Goes : List (List ℕ) → DriverState → List Given → U → U → Type 0
+  Goes packages start [] s t = t ≡ s
+  Goes packages start (g ∷ gs) s t =
+      (m : U) × Goes packages start gs s m × IsGiven packages (since start gs) g m t
 
-  -- memory was wanting, or the driver has no number left
-  pub record Stops (packages : List (List ℕ)) (t : U) (w : Worker U) : Type 0 where
-    pub found : w.found ≡ None
-    pub last : (w.subordinate ≡ t) ⊎ Tries packages (todo w.driver) None t w.subordinate
-
-  -- the worker went on from its subordinate's state and from this driver until the driver rested
-  pub record Ran (start : DriverState) (old new : Worker U) : Type 0 where
+  -- the worker went on from its subordinate's state, its driver was given just these, and it holds what this found
+  pub record Drove (start : DriverState) (old new : Worker U) : Type 0 where
     pub packages : new.packages ≡ old.packages
-    pub gots : List Got
-    pub last : U
-    pub goes : Goes (bytes_of old.packages.now) gots old.subordinate start last new.driver
-    pub ends : Rests last new ⊎ Stops (bytes_of old.packages.now) last new
+    pub round : new.driver.round ≡ start.round
+    pub given : List Given
+    pub goes : Goes (bytes_of old.packages.now) start given old.subordinate new.subordinate
+    pub driver : new.driver ≡ since start given
+    pub holds : Holds new
+
+  -- the worker did this round
+  pub record Ran (round : Round) (old new : Worker U) : Type 0 where
+    pub drove : Drove (begun round old.driver) old new
+    pub round_kept : new.driver.round ≡ Some round
+    -- what its driver missed in a row, eight times where this rests with Unreached, is in the counts
+    pub misses : AreCounted new.driver.misses (counted old.subordinate) (counted new.subordinate)
+    -- what its driver was given in all goes on by the round and these
+    pub driver : (task : Task) (before : List Given) → old.driver ≡ after task before → AreGiven task before
+        → AreGiven task (drove.given ++ Begun round ∷ before)
+        × (new.driver ≡ after task (drove.given ++ Begun round ∷ before))

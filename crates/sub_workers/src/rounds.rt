@@ -1,8 +1,7 @@
 //! Each worker does a round, or goes to its end, beside the others.
-ghost use Rattle.std.specs.Prelude.{◌≡◌, ℕ, ◌<◌, length, slice_index_or, All};
-ghost use Rattle.sub_core.specs.Driving.{begun, CanBegin};
+ghost use Rattle.std.specs.Prelude.{◌≡◌, ℕ, ◌<◌, true, is_some, length, slice_index_or, All};
 ghost use Rattle.sub_core.specs.declared.answers.Round.{Round as AnyRound};
-ghost use Rattle.sub_workers.specs.Runs.{IsReady, MayBegin, Ran};
+ghost use Rattle.sub_workers.specs.Runs.{Drove, IsReady, MayBegin, Ran};
 ghost use Rattle.sub_workers.specs.declared.worker.Worker.{Worker as AnyWorker};
 
 use crate::Worker;
@@ -16,9 +15,10 @@ use ucm_base::limits::NODE_LIMIT;
 
 /// Runs a driver until it rests, or memory or its numbers are out.
 fn drive<R: Wait, U: Subordinate>(rt: &R, alloc: Global, worker: &mut Worker<'_, U>)
-    requires { IsReady U.ready U.last worker.old }
+    requires ready { IsReady U.ready U.last worker.old }
+    requires begun { is_some worker.old.driver.round ≡ true }
     ensures ready { IsReady U.ready U.last worker.new }
-    ensures ran { Ran U.counted U.sends U.works worker.old.driver worker.old worker.new }
+    ensures drove { Drove U.last U.counted U.sends U.works worker.old.driver worker.old worker.new }
 {
     worker.found = None;
     for _ in rt.forever() {
@@ -27,6 +27,10 @@ fn drive<R: Wait, U: Subordinate>(rt: &R, alloc: Global, worker: &mut Worker<'_,
         }
         match try_once(alloc, worker) {
             Attempt::Gave(got) => worker.driver.on(got),
+            Attempt::GaveNothing => {
+                worker.driver.on_nothing();
+                break;
+            }
             Attempt::Rests(finding) => {
                 worker.found = Some(finding);
                 break;
@@ -45,8 +49,7 @@ fn run_round<R: Wait, U: Subordinate>(
 )
     requires ready { MayBegin U.ready U.last round worker.old }
     ensures ready { IsReady U.ready U.last worker.new }
-    ensures ran { Ran U.counted U.sends U.works (begun round worker.old.driver)
-        worker.old worker.new }
+    ensures ran { Ran U.last U.counted U.sends U.works round worker.old worker.new }
 {
     worker.driver.begin(round);
     drive(rt, alloc, worker);
@@ -62,14 +65,18 @@ pub fn prepare_all<R: Threads + Wait + Sync, U: Subordinate + Send>(
     requires ready { All (MayBegin U.ready U.last round) workers.old }
     ensures ready { All (IsReady U.ready U.last) workers.new }
     ensures ran { (i : ℕ) (d : AnyWorker U) → i < length workers.old
-        → Ran U.counted U.sends U.works (begun round (slice_index_or workers.old i d).driver)
+        → Ran U.last U.counted U.sends U.works round
         (slice_index_or workers.old i d) (slice_index_or workers.new i d) }
 {
     thread::for_each_mut(
         rt,
         workers,
         NODE_LIMIT as usize,
-        &|_, worker| { run_round(rt, alloc, worker, round) },
+        &|_, worker|
+            requires { MayBegin U.ready U.last round worker.old }
+            ensures ready { IsReady U.ready U.last worker.new }
+            ensures ran { Ran U.last U.counted U.sends U.works round worker.old worker.new }
+        { run_round(rt, alloc, worker, round) },
     );
 }
 
@@ -83,8 +90,7 @@ pub fn end_all<R: Threads + Wait + Sync, U: Subordinate + Send>(
     requires ready { All (MayBegin U.ready U.last (AnyRound.End commit)) workers.old }
     ensures ready { All (IsReady U.ready U.last) workers.new }
     ensures ran { (i : ℕ) (d : AnyWorker U) → i < length workers.old
-        → Ran U.counted U.sends U.works
-        (begun (AnyRound.End commit) (slice_index_or workers.old i d).driver)
+        → Ran U.last U.counted U.sends U.works (AnyRound.End commit)
         (slice_index_or workers.old i d) (slice_index_or workers.new i d) }
 {
     prepare_all(rt, alloc, workers, Round::End { commit });

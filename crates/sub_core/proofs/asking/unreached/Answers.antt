@@ -1,7 +1,7 @@
 use Rattle.std.proofs.Common.{◌≡◌, ◌+◌, ◌≤◌, ℕ, List, length, drop, min, sum_by, ap, arith}
 use Rattle.std.proofs.Math.ListN.{drop_of_length-le}
 use Rattle.sub_core.specs.declared.answers.Rises.{Rises}
-use Rattle.sub_core.specs.Driving.{last_count}
+use Rattle.sub_core.specs.Failures.{last_count}
 use Rattle.sub_core.proofs.asking.unreached.Goals as goal
 
 -- where none is left, the sum so far is the sum of all

@@ -1,5 +1,5 @@
 use Rattle.std.proofs.Common.{◌≡◌, ◌+◌, ◌≤◌, drop, min, sum_by}
-use Rattle.sub_core.specs.Driving.{last_count}
+use Rattle.sub_core.specs.Failures.{last_count}
 use Rattle.sub_core.proofs.asking.unreached.Given as goal
 
 -- with the rises of the attempts that are left, the sums come to those of all

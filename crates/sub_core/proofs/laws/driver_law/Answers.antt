@@ -1,6 +1,23 @@
-use Rattle.sub_core.proofs.Allowed.{allowed_by_told}
-use Rattle.sub_core.proofs.Stages.{goes_by_rounds}
+use Rattle.sub_core.proofs.Findings.{done_is_found, findings_are_shown, misses_are_kept, replies_fit, sends_are_numbered}
+use Rattle.sub_core.proofs.Misses.{unreached_is_found}
+use Rattle.sub_core.proofs.Sending.{calls_are_next, end_is_found, replies_are_read, sends_are_allowed}
+use Rattle.sub_core.proofs.Units.{others_leave_all, units_are_due}
 use Rattle.sub_core.proofs.laws.driver_law.Goals as goal
 
 pub returns : goal.returns
-returns c = record { rounds = goes_by_rounds c.campaign_law.ensures.by_size; allowed = allowed_by_told }
+returns c =
+    let law = c.campaign_law.ensures in
+    record {
+      allowed = sends_are_allowed law.by_size law.attempts;
+      numbered = sends_are_numbered law.by_size;
+      shown = findings_are_shown law.by_size law.ends;
+      found = done_is_found law.by_size law.ends;
+      ended = end_is_found law.by_size;
+      unreached = unreached_is_found law.by_size;
+      missed = misses_are_kept law.by_size;
+      units = units_are_due law.by_size;
+      others = others_leave_all;
+      calls = calls_are_next law.by_size;
+      read = replies_are_read law.by_size law.attempts;
+      fit = replies_fit law.by_size;
+    }

@@ -1,7 +1,6 @@
-use Rattle.std.proofs.Common.{◌≡◌, List, None}
-use Rattle.sub_core.specs.declared.answers.Got.{Got}
-use Rattle.sub_core.specs.Calls.{bytes_of}
-use Rattle.sub_workers.specs.Runs.{Goes, IsReady}
+use Rattle.std.proofs.Common.{◌≡◌, None}
+use Rattle.sub_workers.proofs.Going.{HasGone}
+use Rattle.sub_workers.specs.Runs.{IsReady}
 use Rattle.sub_workers.proofs.rounds.drive.Given as goal
 
 -- the worker went on so far by what its driver asked for
@@ -12,5 +11,5 @@ invariant-loop g l =
     × IsReady U.ready U.last l.worker
     × (l.worker.found ≡ None)
     × (l.worker.packages ≡ l.fn.worker.packages)
-    × ((gots : List Got) × Goes U.counted U.sends U.works (bytes_of l.fn.worker.packages.now) gots
-    l.fn.worker.subordinate l.fn.worker.driver l.worker.subordinate l.worker.driver)
+    × (l.worker.driver.round ≡ l.fn.worker.driver.round)
+    × HasGone U.last U.counted U.sends U.works l.fn.worker l.worker

@@ -1,40 +1,25 @@
--- What the master was told by a driver's answers, and what that allows.
-use Rattle.std.specs.Prelude.{◌≡◌, ℕ, ⊤, Bool, true, false, ◌||◌, List, [], ◌∷◌, Option, Some, None, is_some}
+-- What the master was told by a driver's answers, by how far the driver is.
+use Rattle.std.specs.Prelude.{◌≡◌, ℕ, ⊤, Bool, true, false, List, [], ◌∷◌, Option, Some, None}
 use Rattle.campaign_core.specs.declared.events.Cause.{Cause}
-use Rattle.campaign_core.specs.declared.events.Decision.{Decision}
-use Rattle.campaign_core.specs.declared.events.Decision.TheVariants.{Commit, Abort}
 use Rattle.pm_types.specs.declared.replies.Reply.{Reply}
 use Rattle.pm_types.specs.declared.replies.Reply.TheVariants.{Synced, Refused}
 use Rattle.pm_types.specs.declared.replies.Synced.{Synced as Shown}
 use Rattle.pm_types.specs.declared.status.Status.TheVariants.{Activated, RolledBack}
 use Rattle.ucm_base.specs.declared.ids.CallNo.{CallNo}
-use Rattle.world.specs.Messages.{Message, Told, Answered, Showed, is_sync}
-use Rattle.world.specs.Sends.{activate_done, delete_at, end_call_at, has_refusal, is_end_sync, is_masters, is_settled, last_shown, last_status, showed_after_activate}
+use Rattle.world.specs.Messages.{Message, Told, Answered, Showed}
+use Rattle.world.specs.Sends.{activate_done, end_call_at, has_refusal, is_end_sync, is_masters, is_settled, last_shown, last_status, showed_after_activate}
 use Rattle.sub_core.specs.declared.answers.Finding.{Finding}
 use Rattle.sub_core.specs.declared.answers.Got.{Got}
-use Rattle.sub_core.specs.declared.answers.PackageSize.{PackageSize}
-use Rattle.sub_core.specs.declared.answers.Round.{Round}
 use Rattle.sub_core.specs.declared.answers.SendStep.{SendStep}
 use Rattle.sub_core.specs.declared.answers.Todo.{Todo}
 use Rattle.sub_core.specs.declared.progress.EndProgress.{EndProgress}
 use Rattle.sub_core.specs.declared.progress.Progress.{Progress}
 use Rattle.sub_core.specs.Calls.{call_of}
-use Rattle.sub_core.specs.Driving.{IsEnding, begun, fresh, has_number, status_of, step, todo}
-use Rattle.sub_core.specs.Rounds.{reply_got}
-use Rattle.sub_core.specs.States.{DriverState, IsSound}
-
-abbrev pub is_ending : Progress → Bool
-is_ending (Progress.Ending commit at) = true
-is_ending _ = false
-
--- the message of a step
-abbrev pub message_of : List (List ℕ) → DriverState → CallNo → SendStep → Message
-message_of packages d call_no asked = record {
-  at = call_no;
-  call = call_of packages asked;
-  campaign = d.campaign;
-  decided = is_ending d.progress;
-}
+use Rattle.sub_core.specs.Driving.{status_of}
+use Rattle.sub_core.specs.Evidence.{IsActivating, IsOwned}
+use Rattle.sub_core.specs.Given.{message_of, reply_got}
+use Rattle.sub_core.specs.Sends.{decision_of}
+use Rattle.sub_core.specs.States.{DriverState}
 
 abbrev pub told_reply : Message → Option Reply → List Told → List Told
 told_reply m None told = told
@@ -50,10 +35,6 @@ told_after packages d (Todo.Send call_no asked) got told =
     told_reply (message_of packages d call_no asked) (reply_got asked got) told
 told_after packages d Todo.Unit got told = told_unit got told
 told_after packages d (Todo.Rest finding) got told = told
-
-abbrev pub decision_of : Bool → Cause → Decision
-decision_of true cause = Commit
-decision_of false cause = Abort cause
 
 -- the newest that was told is this reply to the call of this number
 pub record IsNewest (call_no : CallNo) (reply : Reply) (told : List Told) : Type 0 where
@@ -79,7 +60,7 @@ pub record IsListed (k epoch : ℕ) (listed : List ℕ) (told : List Told) : Typ
 
 -- the last status that was told allows the call
 pub record IsAllowed (k epoch : ℕ) (commit : Bool) (asked : SendStep) (told : List Told) : Type 0 where
-  pub synced : is_some (last_shown k epoch told) ≡ true
+  pub owned : IsOwned k epoch told
   pub allowed : (cause : Cause)
       → end_call_at (decision_of commit cause) (last_status k epoch told) (call_of [] asked) ≡ true
 
@@ -94,38 +75,18 @@ Found k epoch _ told = ⊤
 abbrev pub EndTold : ℕ → ℕ → Bool → EndProgress → List Told → Type 0
 EndTold k epoch commit (EndProgress.Call SendStep.Sync) told = ⊤
 EndTold k epoch commit (EndProgress.Call asked) told = IsAllowed k epoch commit asked told
-EndTold k epoch commit EndProgress.Units told = is_some (last_shown k epoch told) ≡ true
+EndTold k epoch commit EndProgress.Units told = IsOwned k epoch told
 EndTold k epoch commit (EndProgress.Delete listed place) told = IsListed k epoch listed told
 EndTold k epoch commit (EndProgress.Rest call_no) told = IsAtRest k epoch call_no told
 
 abbrev pub ToldAt : ℕ → ℕ → Progress → List Told → Type 0
-ToldAt k epoch Progress.Activating told = activate_done told ≡ true
+ToldAt k epoch Progress.Activating told = IsActivating told
 ToldAt k epoch (Progress.Voted finding) told = Found k epoch finding told
 ToldAt k epoch (Progress.Ending commit at) told = EndTold k epoch commit at told
-ToldAt k epoch (Progress.Process taken settled) told = (has_refusal told ≡ false) × (is_settled told ≡ settled)
-ToldAt k epoch p told = (has_refusal told ≡ false) × (is_settled told ≡ true)
+ToldAt k epoch (Progress.Process taken settled) told =
+    (has_refusal told ≡ false) × (is_settled told ≡ settled) × (activate_done told ≡ false)
+ToldAt k epoch p told = (has_refusal told ≡ false) × (is_settled told ≡ true) × (activate_done told ≡ false)
 
 -- a driver to which this was told
 abbrev pub IsTold : DriverState → List Told → Type 0
 IsTold d told = ToldAt d.campaign d.epoch d.progress told
-
--- what a driver asks for is allowed by what was told, and what it finds has its evidence
-pub record IsAllowedByTold : Type 0 where
-  pub fresh : (epoch first k : ℕ) (steps : List PackageSize) → IsTold (fresh epoch first k steps) []
-  pub answered : (packages : List (List ℕ)) (d : DriverState) (told : List Told) (got : Got) → IsSound d
-      → IsTold d told → has_number d ≡ true → IsTold (step got d) (told_after packages d (todo d) got told)
-  pub begun : (d : DriverState) (told : List Told) (round : Round) → IsTold d told → IsTold (begun round d) told
-  -- before the decision nothing is sent after a refusal, or while the node works
-  pub early : (d : DriverState) (told : List Told) → IsTold d told → (IsEnding d.progress → ⊥)
-      → (at : CallNo) (asked : SendStep) → todo d ≡ Todo.Send at asked
-      → (has_refusal told ≡ false) × (is_settled told ≡ true)
-  -- after it a Sync, or the call that the last status allows, or the delete of a transfer that the last Sync lists
-  pub late : (packages : List (List ℕ)) (d : DriverState) (told : List Told) (commit : Bool) (end : EndProgress)
-      → d.progress ≡ Progress.Ending commit end → IsSound d → IsTold d told
-      → (at : CallNo) (asked : SendStep) → todo d ≡ Todo.Send at asked → (cause : Cause)
-      → (is_sync (call_of packages asked)
-      || (end_call_at (decision_of commit cause) (last_status d.campaign d.epoch told) (call_of packages asked)
-      || delete_at (last_shown d.campaign d.epoch told) (call_of packages asked)))
-      ≡ true
-  pub found : (d : DriverState) (told : List Told) (finding : Finding) → IsTold d told
-      → todo d ≡ Todo.Rest finding → Found d.campaign d.epoch finding told

@@ -1,0 +1,63 @@
+-- Calls with their replies, as the master makes them at one node: those of the rounds, then those of the end phase.
+use Rattle.std.specs.Prelude.{◌≡◌, ℕ, zero, suc, ◌+◌, Bool, true, false, not, ◌&&◌, IsTrue, List, [], ◌∷◌, map, length, take}
+use Rattle.ucm_base.specs.declared.ids.CallNo.{CallNo}
+use Rattle.pm_types.specs.declared.calls.Call.{Call}
+use Rattle.pm_types.specs.declared.calls.Call.TheVariants.{Sync, DeleteTransfer, Finish, Rollback, RevertProcessedSwPackages as Revert}
+use Rattle.pm_types.specs.declared.replies.Reply.{Reply}
+use Rattle.pm_types.specs.declared.replies.Reply.TheVariants.{Synced}
+use Rattle.world.specs.Messages.{is_refusal, is_sync}
+use Rattle.world.specs.RoundCalls.{round_calls, ids_of}
+use Rattle.world.specs.Sends.{is_masters}
+
+-- a call under its number, with its reply
+pub record Made : Type 0 where
+  pub at : CallNo
+  pub call : Call
+  pub reply : Reply
+
+-- the ids that the replies gave to transfers
+abbrev pub ids_given : List Made → List ℕ
+ids_given made = ids_of (map (λ m. m.reply) made)
+
+-- so many numbers of an epoch, one after another
+abbrev pub numbers_from : ℕ → ℕ → ℕ → List CallNo
+numbers_from epoch number zero = []
+numbers_from epoch number (suc count) =
+    record { epoch = epoch; number = number } ∷ numbers_from epoch (number + 1) count
+
+-- whether none but possibly the last was refused
+abbrev pub only_last_refused : List Made → Bool
+only_last_refused [] = true
+only_last_refused (m ∷ []) = true
+only_last_refused (m ∷ n ∷ ms) = not (is_refusal m.reply) && only_last_refused (n ∷ ms)
+
+-- the calls of the rounds for these packages, up to some place, in this epoch
+pub record IsOfRounds (k epoch : ℕ) (packages : List (List ℕ)) (made : List Made) : Type 0 where
+  pub calls : map (λ m. m.call) made ≡ take (length made) (round_calls k (ids_given made) packages)
+  pub numbers : map (λ m. m.at) made ≡ numbers_from epoch 1 (length made)
+  pub accepted : IsTrue (only_last_refused made)
+
+-- whether a list is empty
+abbrev pub has_none : {X : Type 0} → List X → Bool
+has_none [] = true
+has_none (x ∷ xs) = false
+
+-- the calls of the end phase
+abbrev pub is_end_call : Call → Bool
+is_end_call Sync = true
+is_end_call (DeleteTransfer _) = true
+is_end_call Finish = true
+is_end_call Rollback = true
+is_end_call Revert = true
+is_end_call _ = false
+
+-- the reply shows no session of client 0 and no transfers
+abbrev pub shows_rest : Reply → Bool
+shows_rest (Synced x) = not (is_masters x.session) && has_none x.transfers
+shows_rest _ = false
+
+-- the last entry is a Sync with such a reply
+abbrev pub ends_at_rest : List Made → Bool
+ends_at_rest [] = false
+ends_at_rest (m ∷ []) = is_sync m.call && shows_rest m.reply
+ends_at_rest (m ∷ n ∷ ms) = ends_at_rest (n ∷ ms)
