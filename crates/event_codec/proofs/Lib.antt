@@ -1,5 +1,4 @@
 pub mod Lists
-pub mod Outside
 pub mod Exits
 pub mod Fitting
 pub mod Bits

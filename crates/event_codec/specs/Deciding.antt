@@ -1,19 +1,18 @@
 -- Grammars that tell of any list of numbers whether it begins with a spelling, and of which value.
-use Rattle.std.proofs.Common.{◌≡◌, ◌⊎◌, inl, inr, ℕ, zero, suc, ◌+◌, ◌<◌, ◌≤◌, ◌^◌, Bool, true, false, eqb, ltb, leb, List, [], ◌∷◌, ◌++◌, length, take, drop, get_or, Option, Some, None, Result, Ok, Err, refl, sym, ◌∙◌, ap, subst, append_assoc, take-append-drop, w16, w32, w64, arith}
+use Rattle.std.proofs.Common.{◌≡◌, ◌⊎◌, inl, inr, ℕ, zero, suc, ◌<◌, ◌≤◌, ◌^◌, Bool, true, false, List, [], ◌∷◌, ◌++◌, length, take, drop, Option, Some, None, Result, Ok, Err, refl, sym, ◌∙◌, ap, subst, append_assoc, take-append-drop, w16, w32, w64, arith}
 use Rattle.std.specs.Option.{MatchOption}
 use Rattle.std.specs.Result.{IfOk}
-use Rattle.std.specs.Int.{to_be_bytes, from_be_bytes}
+use Rattle.std.specs.Int.{from_be_bytes}
 use Rattle.std.specs.List.{flat_map, AllByRecursion}
-use Rattle.std.proofs.Math.Seq.{take-append_seam, drop-append_seam}
+use Rattle.std.proofs.Math.Seq.{take-append_seam}
 use Rattle.std.proofs.lemmas.Bool.Decides.{leb_tells, eqb_tells}
-use Rattle.std.proofs.lemmas.Bool.{cases_Bool}
 use Rattle.std.proofs.lemmas.List.{append-nil, length-append, length-take-le}
 use Rattle.std.proofs.lemmas.List.Concat.{flat_map-cons}
 use Rattle.std.proofs.lemmas.Nat.{from_be_bytes-to_be_bytes_2, from_be_bytes-to_be_bytes_4, from_be_bytes-to_be_bytes_8}
 use Rattle.wire.specs.Fields.{u8_field, u16_field, u32_field, u64_field}
-use Rattle.event_codec.specs.Spelling.{Any, HasBits, IsNone, IsOutside, IsUnique, pair_spelled, PairFits, option_spelled, OptionFits, bool_spelled, ManyFit}
+use Rattle.event_codec.specs.Spelling.{Any, HasBits, IsNone, IsOutside, IsUnique, pair_spelled, PairFits, option_spelled, OptionFits, bool_spelled, ManyFit, list_spelled, ListFits}
 use Rattle.event_codec.specs.Texts.{text_spelled}
-use Rattle.event_codec.specs.Unique.{parted, unique-u8, unique-text, unique-bool, unique-code, unique-pair, unique-by, unique-option, unique-many}
+use Rattle.event_codec.specs.Unique.{parted, unique-u8}
 
 -- the value that the bytes begin with, and the rest
 pub record Begins {T : Type 0} (spelled : T → List ℕ) (fits : T → Type 0) (bytes : List ℕ) : Type 0 where
@@ -62,7 +61,7 @@ test_both (inl p) (inl q) = inl (p, q)
 test_both (inr n) q = inr (λ both. n both.0)
 test_both (inl p) (inr n) = inr (λ both. n both.1)
 
-test_lists : (xs ys : List ℕ) → Tested (xs ≡ ys)
+pub test_lists : (xs ys : List ℕ) → Tested (xs ≡ ys)
 test_lists [] [] = inl refl
 test_lists [] (y ∷ ys) = inr (λ e. absurd (cc))
 test_lists (x ∷ xs) [] = inr (λ e. absurd (cc))
@@ -78,6 +77,9 @@ tells-u8 {P = P} test (b ∷ bytes) = elim (test b) [
   | inl y ↦ inl (record { value = b; rest = bytes; fit = y; is = refl })
   | inr n ↦ inr (λ v rest f e. n (subst P (sym (parted e).0) f))
 ]
+
+pub tells-byte : Tells u8_field (HasBits 8)
+tells-byte = tells-u8 (λ n. test_below n (2 ^ 8))
 
 -- a number of so many bytes
 module _ (field : ℕ → List ℕ) (number : List ℕ → ℕ) (size bits : ℕ) (long : (n : ℕ) → length (field n) ≡ size)
@@ -254,6 +256,49 @@ pub tells-many : {T : Type 0} {s : T → List ℕ} {P : T → Type 0} → IsUniq
 tells-many one tells zero bytes = inl (record { value = []; rest = bytes; fit = (refl, tt); is = refl })
 tells-many {s = s} {P = P} one tells (suc n) bytes =
     one_more s P one n (tells-many one tells n) bytes (tells bytes)
+
+-- of a value that is told, whether it passes a narrower condition
+pub tells-narrow : {T : Type 0} {s : T → List ℕ} {P Q : T → Type 0} → IsUnique s P → ((v : T) → Q v → P v)
+    → ((v : T) → P v → Tested (Q v)) → Tells s P → Tells s Q
+tells-narrow {Q = Q} one wider test tells bytes = elim (tells bytes) [
+  | inr out ↦ inr (λ v rest f e. out v rest (wider v f) e)
+  | inl x ↦ elim (test x.value x.fit) [
+    | inl y ↦ inl (record { value = x.value; rest = x.rest; fit = y; is = x.is })
+    | inr n ↦ inr (λ v rest f e.
+        n (subst Q (sym (one.one x.value v x.rest rest x.fit (wider v f) (sym x.is ∙ e)).0) f))
+  ]
+]
+
+-- a count, and so many values
+module _ {T : Type 0} {s : T → List ℕ} {P : T → Type 0} {field : ℕ → List ℕ} {Q : ℕ → Type 0} where
+  pub tells-counted : IsUnique field Q → Tells field Q → IsUnique s P → Tells s P
+      → Tells (λ xs. field (length xs) ++ flat_map s xs) (λ xs. Q (length xs) × AllByRecursion P xs)
+  tells-counted counts count one tells bytes = by (count bytes)
+    where
+      by : Told field Q bytes
+          → Told (λ xs. field (length xs) ++ flat_map s xs) (λ xs. Q (length xs) × AllByRecursion P xs) bytes
+      by (inr out) = inr (λ v rest f e.
+          out (length v) (flat_map s v ++ rest) f.0 (e ∙ append_assoc (field (length v)) (flat_map s v) rest))
+      by (inl x) = elim (tells-many one tells x.value x.rest) [
+        | inl y ↦ inl (record {
+          value = y.value;
+          rest = y.rest;
+          fit = (subst Q (sym y.fit.0) x.fit, y.fit.1);
+          is = x.is ∙ ap (λ r. field x.value ++ r) y.is
+              ∙ sym (append_assoc (field x.value) (flat_map s y.value) y.rest)
+              ∙ ap (λ n. (field n ++ flat_map s y.value) ++ y.rest) (sym y.fit.0);
+        })
+        | inr out ↦ inr (λ v rest f e.
+            let same = counts.one x.value (length v) x.rest (flat_map s v ++ rest) x.fit f.0
+            (sym x.is ∙ e ∙ append_assoc (field (length v)) (flat_map s v) rest) in
+            out v rest (sym same.0, f.1) same.1)
+      ]
+
+-- a count of one byte, and at most so many values
+pub tells-list : {T : Type 0} {s : T → List ℕ} {P : T → Type 0} → IsUnique s P → Tells s P → (n : ℕ)
+    → Tells (list_spelled s) (ListFits P n)
+tells-list one tells n =
+    tells-counted (unique-u8 {P = λ k. k ≤ n}) (tells-u8 (λ k. test_at_most k n)) one tells
 
 -- a value of several kinds, whose spellings begin with the kind's number
 head : {T : Type 0} (s : T → List ℕ) (tag : T → ℕ) (tail : T → List ℕ) → ((v : T) → s v ≡ tag v ∷ tail v)

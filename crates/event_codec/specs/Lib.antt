@@ -14,5 +14,10 @@ pub mod UniqueRecords
 pub mod UniqueStates
 pub mod UniqueMaster
 pub mod OutsideMaster
+pub mod Outside
 pub mod Deciding
 pub mod DecidingMaster
+pub mod DecidingReplies
+pub mod DecidingClusters
+pub mod DecidingRecords
+pub mod DecidingStates

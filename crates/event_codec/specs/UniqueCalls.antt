@@ -36,12 +36,12 @@ same_calls v w rest others f g e = absurd (apart e refl)
 pub unique-call : IsUnique call_spelled CallFits
 unique-call = record { one = same_calls }
 
-names : List CallName
+pub names : List CallName
 names =
     name.Sync ∷ name.TransferStart ∷ name.TransferData ∷ name.TransferExit ∷ name.DeleteTransfer ∷ name.ProcessSwPackage
     ∷ name.Activate ∷ name.Finish ∷ name.Rollback ∷ name.RevertProcessedSwPackages ∷ name.Cancel ∷ []
 
-name_at : (call : CallName) → get_or names (call_name_code call) name.Sync ≡ call
+pub name_at : (call : CallName) → get_or names (call_name_code call) name.Sync ≡ call
 unfolding names
 name_at name.Sync = refl
 name_at call = refl

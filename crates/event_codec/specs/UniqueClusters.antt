@@ -12,7 +12,7 @@ use Rattle.event_codec.specs.Texts.{IsName, IsReq, IsVersion}
 use Rattle.event_codec.specs.Clusters.{manifest_spelled, ManifestFits, part_spelled, PartFits, contents_spelled, ContentsFit, SeveralFit, need_spelled, NeedFits, extent_spelled, ExtentFits, cluster_spelled, ClusterFits, change_spelled, ChangeFits}
 use Rattle.event_codec.specs.Unique.{apart, unique-u8, unique-u32, unique-text, unique-pair, unique-by, unique-list}
 
-some_same : (m n : Manifest) → Some m ≡ Some n → m ≡ n
+pub some_same : (m n : Manifest) → Some m ≡ Some n → m ≡ n
 some_same m n e = cc
 
 pub same_manifest : (m n : Manifest) → ManifestFits m → ManifestFits n → manifest_text m ≡ manifest_text n → m ≡ n

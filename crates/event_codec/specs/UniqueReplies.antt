@@ -15,10 +15,10 @@ use Rattle.event_codec.specs.Texts.{IsName, IsShort}
 use Rattle.event_codec.specs.Replies.{IsClient, status_spelled, outcome_code, outcome_spelled, call_no_spelled, CallNoFits, session_mark_spelled, SessionMarkFits, end_mark_spelled, EndMarkFits, synced_spelled, SyncedFits, refusal_spelled, RefusalFits, reply_spelled, ReplyFits}
 use Rattle.event_codec.specs.Unique.{parted, apart, unique-u8, unique-u32, unique-u64, unique-text, unique-code, unique-pair, unique-by, unique-option, unique-list}
 
-statuses : List Status
+pub statuses : List Status
 statuses = Idle ∷ Ready ∷ Processing ∷ Activating ∷ Verifying ∷ Activated ∷ RollingBack ∷ RolledBack ∷ CleaningUp ∷ []
 
-status_at : (s : Status) → get_or statuses (status_code s) Idle ≡ s
+pub status_at : (s : Status) → get_or statuses (status_code s) Idle ≡ s
 unfolding statuses
 status_at Idle = refl
 status_at s = refl

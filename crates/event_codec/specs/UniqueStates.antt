@@ -19,10 +19,10 @@ use Rattle.event_codec.specs.UniqueCalls.{unique-call_name}
 use Rattle.event_codec.specs.UniqueClusters.{unique-contents, unique-cluster, unique-change}
 use Rattle.event_codec.specs.UniqueReplies.{unique-status, unique-outcome, unique-call_no, unique-end_mark, unique-reply}
 
-phases : List Phase
+pub phases : List Phase
 phases = Transferring ∷ Transferred ∷ Processing ∷ Processed ∷ []
 
-phase_at : (p : Phase) → get_or phases (phase_code p) Transferring ≡ p
+pub phase_at : (p : Phase) → get_or phases (phase_code p) Transferring ≡ p
 unfolding phases
 phase_at Transferring = refl
 phase_at p = refl
@@ -56,11 +56,11 @@ same_ids (Some a) (Some b) f g e = ap (λ (n : ℕ). Some n) e
 same_ids None (Some b) f g e = absurd (omega (arith, g.0))
 same_ids (Some a) None f g e = absurd (omega (arith, f.0))
 
-id_fits : (v : Option ℕ) → OptionFits IsId v → HasBits 32 (id_or_0 v)
+pub id_fits : (v : Option ℕ) → OptionFits IsId v → HasBits 32 (id_or_0 v)
 id_fits None f = omega arith
 id_fits (Some id) f = f.1
 
-unique-processing : IsUnique (λ id. u32_field (id_or_0 id)) (OptionFits IsId)
+pub unique-processing : IsUnique (λ id. u32_field (id_or_0 id)) (OptionFits IsId)
 unique-processing = record {
   one = λ v w rest others f g e.
       let same = unique-u32.one (id_or_0 v) (id_or_0 w) rest others (id_fits v f) (id_fits w g) e in
@@ -127,7 +127,7 @@ unique-lines = record {
       (ap (λ (t : ℕ × List Line). t.1) same.0, same.1);
 }
 
-unique-count : IsUnique u64_field (λ n. n ≤ entry_limit)
+pub unique-count : IsUnique u64_field (λ n. n ≤ entry_limit)
 unique-count =
     record { one = λ v w rest others f g e. unique-u64.one v w rest others (omega (arith, f)) (omega (arith, g)) e }
 

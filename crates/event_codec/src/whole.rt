@@ -8,6 +8,9 @@ ghost use Rattle.event_codec.specs.States.{state_spelled, StateFits};
 ghost use Rattle.event_codec.specs.Master.{EventFits, FoldFits, event_longest, event_spelled, fold_longest, fold_spelled};
 ghost use Rattle.event_codec.specs.UniqueMaster.{unique-event, unique-fold};
 ghost use Rattle.event_codec.specs.DecidingMaster.{event_of, fold_of};
+ghost use Rattle.event_codec.specs.DecidingRecords.{record_told};
+ghost use Rattle.event_codec.specs.DecidingStates.{state_told};
+ghost use Rattle.event_codec.specs.declared.records.Record.{Record as AnyRecord};
 ghost use Rattle.campaign_core.specs.declared.events.MasterEvent.{MasterEvent};
 ghost use Rattle.campaign_core.specs.declared.fold.Fold.{Fold};
 ghost use Rattle.event_codec.specs.UniqueRecords.{unique-record};
@@ -39,16 +42,18 @@ fn take_whole<T: Take>(alloc: Global, bytes: &[u8]) -> Result<Option<T>, AllocEr
 
 /// The record that the bytes are the spelling of, if they are one.
 pub fn take_record(alloc: Global, bytes: &[u8]) -> Result<Option<Record>, AllocError>
-    ensures { IfOk result (λ o. MatchOption o (IsNone record_spelled RecordFits bytes.now)
+    ensures exactly { IfOk result (λ o. MatchOption o (IsNone record_spelled RecordFits bytes.now)
         (λ r. RecordFits r × (bytes.now ≡ record_spelled r))) }
+    ensures read { IfOk result (λ o. o ≡ record_told bytes.now) }
 {
     take_whole(alloc, bytes)
 }
 
 /// The state that the bytes are the spelling of, if they are one.
 pub fn take_state(alloc: Global, bytes: &[u8]) -> Result<Option<State>, AllocError>
-    ensures { IfOk result (λ o. MatchOption o (IsNone state_spelled StateFits bytes.now)
+    ensures exactly { IfOk result (λ o. MatchOption o (IsNone state_spelled StateFits bytes.now)
         (λ s. StateFits s × (bytes.now ≡ state_spelled s))) }
+    ensures read { IfOk result (λ o. o ≡ state_told bytes.now) }
 {
     take_whole(alloc, bytes)
 }
@@ -80,9 +85,13 @@ pub fn no_spelling_begins_another()
     ensures folds { IsUnique fold_spelled FoldFits }
 {}
 
-/// What any list of numbers is read as: the event or the fold that it is the spelling of, and none where it is no
-/// value's. It does nothing; its clauses are the law.
+/// What any list of numbers is read as: the record, the state, the event or the fold that it is the spelling of, and
+/// none where it is no value's. It does nothing; its clauses are the law.
 pub fn what_is_spelled_is_read()
+    ensures records { (bytes : List ℕ) (r : AnyRecord)
+        → (record_told bytes ≡ Some r) ↔ (RecordFits r × (bytes ≡ record_spelled r)) }
+    ensures states { (bytes : List ℕ) (state : AnyState)
+        → (state_told bytes ≡ Some state) ↔ (StateFits state × (bytes ≡ state_spelled state)) }
     ensures events { (bytes : List ℕ) (event : MasterEvent)
         → (event_of bytes ≡ Some event) ↔ (EventFits event × (bytes ≡ event_spelled event)) }
     ensures folds { (bytes : List ℕ) (fold : Fold)

@@ -1,4 +1,4 @@
-use Rattle.event_codec.proofs.Outside.{no_process}
+use Rattle.event_codec.specs.Outside.{no_process}
 use Rattle.event_codec.proofs.calls.take_process.Goals as goal
 
 pub returns-in-Err-clause-outside : goal.returns-in-Err-clause-outside

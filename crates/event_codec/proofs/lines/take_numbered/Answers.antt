@@ -1,4 +1,4 @@
-use Rattle.event_codec.proofs.Outside.{no_numbered}
+use Rattle.event_codec.specs.Outside.{no_numbered}
 use Rattle.event_codec.proofs.lines.take_numbered.Goals as goal
 
 pub returns-in-Err-clause-outside : goal.returns-in-Err-clause-outside

@@ -1,6 +1,6 @@
 use Rattle.std.proofs.Common.{◌++◌, refl}
 use Rattle.event_codec.specs.UniqueRecords.{Fields, fields_spelled}
-use Rattle.event_codec.proofs.Outside.{no_part}
+use Rattle.event_codec.specs.Outside.{no_part}
 use Rattle.event_codec.proofs.records.take_behind.Goals as goal
 
 pub returns-in-Err-clause-outside : goal.returns-in-Err-clause-outside

@@ -1,4 +1,4 @@
-use Rattle.event_codec.proofs.Outside.{no_exit_of_several}
+use Rattle.event_codec.specs.Outside.{no_exit_of_several}
 use Rattle.event_codec.proofs.records.take_exited.Goals as goal
 
 pub returns-in-Err-clause-outside : goal.returns-in-Err-clause-outside

@@ -1,5 +1,5 @@
 use Rattle.std.proofs.Common.{◌∷◌, sym, ◌∙◌}
-use Rattle.event_codec.proofs.Outside.{no_one, no_several}
+use Rattle.event_codec.specs.Outside.{no_one, no_several}
 use Rattle.event_codec.proofs.clusters.ContentsTake.take.Goals as goal
 
 pub returns-in-Err-clause-outside : goal.returns-in-Err-clause-outside

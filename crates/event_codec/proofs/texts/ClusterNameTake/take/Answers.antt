@@ -1,6 +1,6 @@
 use Rattle.std.proofs.Common.{sym, ◌∙◌}
 use Rattle.ucm_base.specs.Name.{is_cluster_name}
-use Rattle.event_codec.proofs.Outside.{no_text, refused}
+use Rattle.event_codec.specs.Outside.{no_text, refused}
 use Rattle.event_codec.proofs.texts.ClusterNameTake.take.Goals as goal
 
 pub returns-in-Err-clause-outside : goal.returns-in-Err-clause-outside

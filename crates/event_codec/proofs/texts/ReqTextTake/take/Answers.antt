@@ -1,5 +1,5 @@
 use Rattle.ucm_base.specs.Versions.{is_req_text}
-use Rattle.event_codec.proofs.Outside.{no_text}
+use Rattle.event_codec.specs.Outside.{no_text}
 use Rattle.event_codec.proofs.texts.ReqTextTake.take.Goals as goal
 
 pub returns-in-Err-BadText-clause-outside : goal.returns-in-Err-BadText-clause-outside

@@ -1,6 +1,6 @@
 use Rattle.std.proofs.Common.{sym, ◌∙◌}
 use Rattle.ucm_base.specs.Short.{is_short}
-use Rattle.event_codec.proofs.Outside.{no_text, not_there}
+use Rattle.event_codec.specs.Outside.{no_text, not_there}
 use Rattle.event_codec.proofs.texts.ShortTextTake.take.Goals as goal
 
 pub returns-in-None-clause-outside : goal.returns-in-None-clause-outside

@@ -4,7 +4,6 @@ use Rattle.std.specs.Prelude.{⊤}
 use Rattle.wire.specs.Fields.{u8_field, u32_field, u64_field}
 use Rattle.ucm_base.specs.declared.ids.CallNo.{CallNo}
 use Rattle.pm_types.specs.declared.history.Happened.TheVariants.{Numbered, Unit as UnitAfter}
-use Rattle.pm_types.specs.declared.replies.Refusal.TheVariants.{MissingDependencies}
 use Rattle.pm_types.specs.declared.replies.Reply.{Reply}
 use Rattle.pm_types.specs.declared.replies.Reply.TheVariants.{Done}
 use Rattle.event_codec.specs.declared.calls.StoredCall.{StoredCall}
@@ -12,10 +11,10 @@ use Rattle.event_codec.specs.declared.calls.StoredCall.TheVariants.{TransferData
 use Rattle.event_codec.specs.declared.clusters.Several.{Several}
 use Rattle.event_codec.specs.declared.records.Record.TheVariants.{Called, Exited, Worked}
 use Rattle.event_codec.specs.Spelling.{◌⌢◌, ◌&◌, Any, HasBits, IsOutside, pair_spelled, PairFits, bool_spelled, list_spelled}
-use Rattle.event_codec.specs.Texts.{text_spelled, IsName, IsShort}
+use Rattle.event_codec.specs.Texts.{text_spelled}
 use Rattle.event_codec.specs.Calls.{call_spelled, CallFits, call_name_spelled}
 use Rattle.event_codec.specs.Clusters.{part_spelled, PartFits, contents_spelled, ContentsFit, SeveralFit}
-use Rattle.event_codec.specs.Replies.{IsClient, call_no_spelled, CallNoFits, refusal_spelled, RefusalFits, status_spelled}
+use Rattle.event_codec.specs.Replies.{IsClient, call_no_spelled, CallNoFits, status_spelled}
 use Rattle.event_codec.specs.Records.{record_spelled, RecordFits, IsWithoutParts}
 use Rattle.event_codec.specs.States.{happened_spelled, HappenedFits}
 use Rattle.event_codec.specs.Unique.{parted, apart, unique-text}
