@@ -1,0 +1,6 @@
+pub mod Taken
+pub mod Changes
+pub mod Tables
+pub mod Folded
+pub mod Texts
+pub mod Leading

@@ -1,0 +1,5 @@
+pub mod Folds
+pub mod Allowed
+pub mod Deciding
+pub mod Images
+pub mod Errors

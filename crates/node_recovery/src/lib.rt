@@ -1,0 +1,19 @@
+//! The stored state that a node's disk stands for: the text of the half that counts, after the records in its journal.
+//!
+//! Layer: stands on `event_log` (the log of events), `event_codec` (records and states as bytes) and `transfer_blocks`
+//! (the transfer table); the durable node stands on it.
+//! Its one contract: [`recover`] finds the state that the image stands for. It reads no package, and judges no call
+//! again: a record has its reply, and an accepted exit its parts.
+#![tactic(auto)]
+
+mod calls;
+mod destination;
+mod fold;
+mod opening;
+mod plan;
+mod present;
+mod sessions;
+mod units;
+
+pub use opening::{Found, OpenError, recover};
+pub use present::Present;
