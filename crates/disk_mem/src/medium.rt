@@ -9,8 +9,8 @@ use crate::pages::{LEAF_BYTES, Pages};
 use crate::tear::{Tear, mend, note};
 use std::alloc::{AllocError, Global};
 
-/// Room for a write is room for two events, for its bytes, and for the pages that it may touch; on a disk that tears also
-/// for what a restart puts there.
+/// Room for a write is room for two events, for its bytes, and for the pages that it may touch; on a disk that tears
+/// also for what a restart puts there.
 #[derive(Drop)]
 pub struct Medium {
     pub pages: Pages,

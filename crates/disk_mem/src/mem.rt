@@ -40,8 +40,8 @@ impl MemDisk {
         MemDisk::torn(alloc, size, Tear::Keep)
     }
 
-    /// A disk of `size` zeros. When it restarts, each range that was written since the last sync that succeeded, also by
-    /// a write that failed, holds what the tear says.
+    /// A disk of `size` zeros. When it restarts, each range that was written since the last sync that succeeded, also
+    /// by a write that failed, holds what the tear says.
     pub fn torn(alloc: Global, size: u64, tear: Tear) -> Result<MemDisk, AllocError>
         ensures zeros { IfOk result (λ d. ⟦<MemDisk as Disk>⟧.seen d ≡ replicate size 0) }
         ensures nothing_pending { IfOk result (λ d.

@@ -1,6 +1,6 @@
-//! Tries over a disk in memory: appends, switches of halves, a log of tallies and torn pages, each stopped, or failing, at
-//! each of its calls. It prints what each left, and `stdout` is the table of what must be left. Given a number it appends
-//! so many records of 20 bytes to a half instead, for `bench/journal.sh`.
+//! Tries over a disk in memory: appends, switches of halves, a log of tallies and torn pages, each stopped, or failing,
+//! at each of its calls. It prints what each left, and `stdout` is the table of what must be left. Given a number it
+//! appends so many records of 20 bytes to a half instead, for `bench/journal.sh`.
 //!
 //! Layer: at the top of the disks; nothing stands on it.
 #![tactic(auto)]

@@ -76,8 +76,8 @@ impl<D: Disk> TallyLog<D> {
         }
     }
 
-    /// Restarts the disk, and says whether the pending note stood. Where it fails, the note stays pending, and it may be
-    /// called again.
+    /// Restarts the disk, and says whether the pending note stood. Where it fails, the note stays pending, and it may
+    /// be called again.
     pub fn revive(&mut self, alloc: Global) -> Result<Revived, StoreError>
         requires knows { Knows (D.seen self.old.disk) (D.images self.old.disk)
             self.old.log self.old.tally self.old.pending }

@@ -43,8 +43,8 @@ impl From<StoreError> for TurnError {
     }
 }
 
-/// How the last switch ended, the generations of the half and of the other one after a restart, where they read, and how
-/// often the disk had failed.
+/// How the last switch ended, the generations of the half and of the other one after a restart, where they read, and
+/// how often the disk had failed.
 #[derive(Debug, Drop)]
 pub struct Turned {
     pub ended: Result<(), TurnError>,

@@ -61,7 +61,8 @@ impl Log {
             → HasNoRoom self.old (length event.now)
             → EachImage (D.images disk.new) (MaySwitch S.start S.step self.old (Some present.now)) }
 
-        // Where the record goes: behind the others where it fits, else first in the other half, with the next generation.
+        // Where the record goes: behind the others where it fits, else first in the other half, with the next
+        // generation.
         ensures here { Fits self.old (length event.now)
             → OnOk result (self.new ≡ behind self.old (length event.now)) }
         ensures beyond { HasNoRoom self.old (length event.now)

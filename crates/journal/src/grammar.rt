@@ -5,7 +5,8 @@ ghost use Rattle.journal.specs.Ready.{GoesOn};
 ghost use Rattle.journal.specs.Grammar.{in_grammar};
 
 /// A law, for a caller whose records have a grammar: where another record follows, its gate is open; so where the byte
-/// behind the records up to the first outside the grammar isn't 1, there is no such record, and a journal goes on there.
+/// behind the records up to the first outside the grammar isn't 1, there is no such record, and a journal goes on
+/// there.
 pub fn a_shut_gate_ends_the_list()
     ensures open { (bytes : List ℕ) (ps : List (List ℕ)) (q : List ℕ) (qs : List (List ℕ))
         → journal_list bytes ≡ ps ++ q ∷ qs → slice_index bytes (taken ps) ≡ 1 }

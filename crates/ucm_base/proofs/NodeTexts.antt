@@ -23,9 +23,11 @@ one-more (n ∷ ns) m =
     (append-nil (behind m)))
     ∙ sym (append_assoc (decimal n) (flat_map behind ns) (behind m))
 
-flagged : (n : ℕ) (flags : List Bool) → numbers_from n (flags ++ true ∷ []) ≡ numbers_from n flags ++ (n + length flags) ∷ []
+flagged : (n : ℕ) (flags : List Bool) → numbers_from n (flags ++ true ∷ []) ≡ numbers_from n flags ++ (n + length flags)
+    ∷ []
 flagged n [] = ap (λ m. m ∷ []) (omega arith)
-flagged n (true ∷ flags) = ap (λ ns. n ∷ ns) (flagged (n + 1) flags) ∙ ap (λ m. n ∷ (numbers_from (n + 1) flags ++ m ∷ [])) (omega arith)
+flagged n (true ∷ flags) =
+    ap (λ ns. n ∷ ns) (flagged (n + 1) flags) ∙ ap (λ m. n ∷ (numbers_from (n + 1) flags ++ m ∷ [])) (omega arith)
 flagged n (false ∷ flags) = flagged (n + 1) flags ∙ ap (λ m. numbers_from (n + 1) flags ++ m ∷ []) (omega arith)
 
 unflagged : (n : ℕ) (flags : List Bool) → numbers_from n (flags ++ false ∷ []) ≡ numbers_from n flags
@@ -39,13 +41,15 @@ pub with-node : (flags : List Bool) (i : ℕ) → i < length flags → get_or fl
 with-node flags i below is =
     ap (numbers_from 1) (take_more flags i false below ∙ ap (λ x. take i flags ++ x ∷ []) is)
     ∙ flagged 1 (take i flags)
-    ∙ ap (λ m. numbers_from 1 (take i flags) ++ m ∷ []) (ap (λ m. 1 + m) (length-take-le i flags (omega (arith, below))) ∙ omega arith)
+    ∙ ap (λ m. numbers_from 1 (take i flags) ++ m ∷ []) (ap (λ m. 1 + m) (length-take-le i flags (omega (arith, below)))
+    ∙ omega arith)
 
 -- the numbers up to another node
 pub without-node : (flags : List Bool) (i : ℕ) → i < length flags → get_or flags i false ≡ false
     → numbers_from 1 (take (i + 1) flags) ≡ numbers_from 1 (take i flags)
 without-node flags i below is =
-    ap (numbers_from 1) (take_more flags i false below ∙ ap (λ x. take i flags ++ x ∷ []) is) ∙ unflagged 1 (take i flags)
+    ap (numbers_from 1) (take_more flags i false below ∙ ap (λ x. take i flags ++ x ∷ []) is) ∙ unflagged 1
+    (take i flags)
 
 -- numbers and one more, as they are written one after another
 pub joined-more : (ns all : List ℕ) (m : ℕ) → all ≡ ns ++ m ∷ [] → joined ns ++ (separator ns ++ decimal m) ≡ joined all

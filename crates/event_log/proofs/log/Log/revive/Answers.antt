@@ -68,7 +68,8 @@ pub unreachable-requires : goal.unreachable-requires
 unreachable-requires g c =
     doubt_reads g.S.Stored.start g.S.Stored.step c.args.self.now
     (of_event g.S.Stored.step c.args.present.now c.args.event.now) _
-    (c.requires.in_doubt _ (c.restart.ensures.images _ (c.open.ensures.images _ (g.met.D.Disk.reads_as_image c.open.new.disk)))) (rw c.in_default.is at c.in_ok-found.ensures.found)
+    (c.requires.in_doubt _ (c.restart.ensures.images _ (c.open.ensures.images _
+    (g.met.D.Disk.reads_as_image c.open.new.disk)))) (rw c.in_default.is at c.in_ok-found.ensures.found)
 
 pub returns-clause-decided : goal.returns-clause-decided
 returns-clause-decided g c x now =
@@ -78,7 +79,8 @@ returns-clause-decided g c x now =
     let is = rw c.in-Some.is at c.in_ok-found.ensures.found in
     let held =
     settled s.start s.step c.args.self.now (of_event g.S.Stored.step c.args.present.now c.args.event.now) image
-    found.log found.text.items found.records is (c.requires.in_doubt _ (c.restart.ensures.images _ (c.open.ensures.images _ (g.met.D.Disk.reads_as_image c.open.new.disk)))) in
+    found.log found.text.items found.records is (c.requires.in_doubt _
+    (c.restart.ensures.images _ (c.open.ensures.images _ (g.met.D.Disk.reads_as_image c.open.new.disk)))) in
     subst (λ (p : List ℕ × Revived). Holds s.start s.step found.log
     (ended p.1 (of_event g.S.Stored.step c.args.present.now c.args.event.now)) p.0)
     (λ i. (
@@ -94,7 +96,8 @@ returns-clause-lost g c begun =
     let is = rw c.in-Some.is at c.in_ok-found.ensures.found in
     c.settle-revived.ensures ∙ lost s.start s.step c.args.self.now
     (of_event s.step c.args.present.now c.args.event.now) image found.log found.text.items found.records is
-    (Some c.args.present.now) (begun _ (c.restart.ensures.images _ (c.open.ensures.images _ (g.met.D.Disk.reads_as_image c.open.new.disk))))
+    (Some c.args.present.now) (begun _ (c.restart.ensures.images _ (c.open.ensures.images _
+    (g.met.D.Disk.reads_as_image c.open.new.disk))))
 
 pub returns-clause-pair : goal.returns-clause-pair
 returns-clause-pair g c = (rw c.in-Some.is at c.in_ok-found.ensures.found).pair
