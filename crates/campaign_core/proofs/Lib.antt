@@ -3,3 +3,4 @@ pub mod Appended
 pub mod Codes
 pub mod Worked
 pub mod Within
+pub mod Changes

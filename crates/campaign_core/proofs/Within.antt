@@ -1,6 +1,6 @@
 -- A legal list has no more campaigns than a master keeps.
-use Rattle.std.proofs.Common.{◌≡◌, ℕ, ◌+◌, ◌<◌, ◌≤◌, Bool, true, false, List, [], ◌∷◌, ◌++◌, length, Option, Some, None, refl, sym, ◌∙◌, ap, arith}
-use Rattle.std.specs.Prelude.{◌&&◌, nat_lt, is_none}
+use Rattle.std.proofs.Common.{◌≡◌, ℕ, ◌+◌, ◌≤◌, Bool, true, false, List, [], ◌∷◌, length, Option, Some, None, refl, arith}
+use Rattle.std.specs.Prelude.{◌&&◌, is_none}
 use Rattle.std.proofs.lemmas.Bool.Decides.{nat_tests}
 use Rattle.std.proofs.lemmas.List.{length-append}
 use Rattle.ucm_base.specs.Limits.{campaign_limit}
@@ -10,14 +10,15 @@ use Rattle.campaign_core.specs.declared.events.MasterEvent.{MasterEvent}
 use Rattle.campaign_core.specs.declared.events.MasterEvent.TheVariants.{Start, Begin, PhaseTo, VoteOf, CancelAsked, Decide, EndedAt, Enter}
 use Rattle.campaign_core.specs.declared.fold.Current.{Current}
 use Rattle.campaign_core.specs.declared.fold.Fold.{Fold}
-use Rattle.campaign_core.specs.Campaign.{after_event, campaign, campaign_from, changed_in, entered, IsLegal, IsLegalFrom, may_begin, nothing_yet, refusal_of, unless}
+use Rattle.campaign_core.specs.Campaign.{after_event, campaign_from, changed_in, entered, IsLegalFrom, may_begin, refusal_of, unless}
 use Rattle.campaign_core.specs.Standing.{IsWithin, running}
 
-both : (a b : Bool) → (a && b) ≡ true → (a ≡ true) × (b ≡ true)
+-- of two conditions that hold, each
+pub both : (a b : Bool) → (a && b) ≡ true → (a ≡ true) × (b ≡ true)
 both true b e = (refl, e)
 both false b e = absurd (cc)
 
-allowed : (b : Bool) → unless b ≡ None → b ≡ true
+pub allowed : (b : Bool) → unless b ≡ None → b ≡ true
 allowed true e = refl
 allowed false e = absurd (cc)
 

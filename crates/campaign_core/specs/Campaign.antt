@@ -1,6 +1,6 @@
 -- The master's list: which event is allowed after which, and what the list says.
 use Rattle.std.specs.Prelude.{◌≡◌, ℕ, ◌+◌, List, [], ◌∷◌, ◌++◌, length, Option, Some, None, Bool, true, false, not, ◌&&◌, ◌||◌, if◌then◌else◌, nat_eq, nat_lt, nat_le, is_none, is_some, option_map, replicate}
-use Rattle.std.specs.List.{list_all, position_from}
+use Rattle.std.specs.List.{position_from}
 use Rattle.ucm_base.specs.declared.ids.NodeSet.{NodeSet}
 use Rattle.pm_types.specs.declared.status.Outcome.{Outcome}
 use Rattle.pm_types.specs.declared.status.Outcome.TheVariants.{New, Old}
@@ -18,6 +18,7 @@ use Rattle.campaign_core.specs.declared.events.MasterEvent.TheVariants.{Start, B
 use Rattle.campaign_core.specs.declared.fold.Current.{Current}
 use Rattle.ucm_base.specs.Limits.{campaign_limit}
 use Rattle.campaign_core.specs.declared.fold.Fold.{Fold}
+pub use Rattle.campaign_core.specs.Earlier.{all_below}
 use Rattle.campaign_core.specs.Nodes.{part_of, with_part, flag_of, any_flag, all_flagged}
 
 -- the fold of no event
@@ -136,10 +137,6 @@ meets c CancelAsked = is_undecided c && not c.cancel
 meets c (Decide d) = may_decide c d
 meets c (EndedAt n o) = flag_of c.named n && (is_none (end_of c n) && is_new_of c.decision o)
 meets c (Enter r) = all_ended c && is_result_of c.decision r
-
--- every earlier campaign has a lower number
-abbrev pub all_below : ℕ → List (ℕ × CampaignResult) → Bool
-all_below k earlier = list_all (λ e. nat_lt e.0 k) earlier
 
 abbrev pub may_begin : Fold → ℕ → NodeSet → Bool
 may_begin f k named =

@@ -1,5 +1,7 @@
 pub mod Nodes
+pub mod Earlier
 pub mod Campaign
 pub mod Views
 pub mod Standing
 pub mod Printed
+pub mod Changes

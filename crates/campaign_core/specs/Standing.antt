@@ -1,7 +1,6 @@
 -- A campaign as its callers see it.
-use Rattle.std.specs.Prelude.{◌≡◌, ℕ, ◌+◌, ◌≤◌, Bool, true, false, List, length, take, Option, Some, None}
+use Rattle.std.specs.Prelude.{◌≡◌, ℕ, ◌+◌, ◌≤◌, Bool, true, false, length, Option, Some, None}
 use Rattle.ucm_base.specs.Limits.{campaign_limit}
-use Rattle.campaign_core.specs.declared.events.CampaignResult.{CampaignResult}
 use Rattle.campaign_core.specs.declared.fold.Current.{Current}
 use Rattle.campaign_core.specs.declared.events.MasterEvent.{MasterEvent}
 use Rattle.campaign_core.specs.declared.events.MasterEvent.TheVariants.{Start, Begin, Enter}
@@ -11,10 +10,6 @@ use Rattle.campaign_core.specs.declared.fold.Fold.{Fold}
 pub record Standing : Type 0 where
   pub fold : Fold
   pub ready : Bool
-
--- the first of these campaigns
-abbrev pub IsFront : List (ℕ × CampaignResult) → List (ℕ × CampaignResult) → Type 0
-IsFront first all = first ≡ take (length first) all
 
 -- whether an event is about the current campaign
 abbrev pub is_of_current : MasterEvent → Bool

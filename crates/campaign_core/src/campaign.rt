@@ -24,7 +24,8 @@ pub struct Campaign {
 
 impl Model for Campaign {
     ghost use Rattle.std.specs.Prelude.{◌≡◌, ◌<◌, true, vec_len, vec_capacity};
-    ghost use Rattle.campaign_core.specs.Standing.{Standing, IsFront};
+    ghost use Rattle.campaign_core.specs.Earlier.{IsFront};
+    ghost use Rattle.campaign_core.specs.Standing.{Standing};
 
     ghost Value = { Standing };
 
@@ -116,9 +117,9 @@ impl Campaign {
         ensures { self.new.fold ≡ after_event self.old.fold (MasterEvent.Enter given) }
     {
         if let Some(current) = self.fold.current.take() {
-            self.next.push_reserved((current.campaign, given));
+            let entry = (current.campaign, given);
+            self.fold.earlier.enter(&mut self.next, entry);
         }
-        self.fold.earlier.change_places(&mut self.next);
         self.ready = false;
     }
 

@@ -1,80 +1,12 @@
 //! What the master's list says: the epoch, the earlier campaigns and the current one.
-ghost use Rattle.std.specs.Prelude.{◌≡◌, ◌+◌, ◌<◌, ◌-◌, is_none, is_some, Option, None, [], IfOk, OnOk, vec_len, vec_capacity};
+ghost use Rattle.std.specs.Prelude.{◌≡◌, ◌+◌, ◌<◌, ◌-◌, is_none, is_some, Option, None};
 ghost use Rattle.campaign_core.specs.Campaign.{all_ended, all_yes, begun, end_of, first_no, first_cause, has_ended, is_marked, is_undecided, nothing_yet, vote_of, voted_no, voted_yes};
 ghost use Rattle.campaign_core.specs.Nodes.{any_flag, flag_of};
-ghost use Rattle.campaign_core.specs.Standing.{IsFront};
 
-use crate::{CampaignResult, Cause, Decision, Phase, Vote};
+use crate::{CampaignList, Cause, Decision, Phase, Vote};
 use pm_types::Outcome;
-use std::alloc::{AllocError, Global};
-use std::marker::Model;
-use std::mem;
+use std::alloc::Global;
 use ucm_base::{NodeId, NodeSet};
-
-/// Numbers of earlier campaigns with their results, in order, seen as their list.
-#[derive(Drop)]
-pub struct CampaignList {
-    items: Vec<(u32, CampaignResult)>,
-}
-
-impl Model for CampaignList {
-    ghost use Rattle.std.specs.Prelude.{ℕ, List};
-    ghost use Rattle.campaign_core.specs.declared.events.CampaignResult.{CampaignResult};
-
-    ghost Value = { List (ℕ × CampaignResult) };
-
-    ghost view = { λ a. a.items.items };
-}
-
-impl CampaignList {
-    /// The list of these campaigns. It takes no memory.
-    pub fn of(items: Vec<(u32, CampaignResult)>) -> CampaignList
-        ensures { result ≡ items.items }
-    {
-        CampaignList { items }
-    }
-
-    /// The campaigns, in order.
-    pub fn as_slice(&self) -> &[(u32, CampaignResult)]
-        ensures { result.now ≡ self.now }
-    {
-        self.items.as_slice()
-    }
-
-    /// A copy.
-    pub(crate) fn copy(&self) -> Result<Vec<(u32, CampaignResult)>, AllocError>
-        ensures { IfOk result (λ v. v.items ≡ self.now) }
-    {
-        Vec::from_slice(*self.items.allocator(), self.items.as_slice())
-    }
-
-    /// A list of none, in the same memory.
-    pub(crate) fn none(&self) -> Vec<(u32, CampaignResult)>
-        ensures { result.items ≡ [] }
-    {
-        Vec::new(*self.items.allocator())
-    }
-
-    /// Brings the first of these campaigns up to all of them, with room for one more.
-    pub(crate) fn make_room(&self, first: &mut Vec<(u32, CampaignResult)>) -> Result<(), AllocError>
-        requires first { IsFront first.old.items self.now }
-        ensures all { OnOk result (first.new.items ≡ self.now) }
-        ensures room { OnOk result (vec_len first.new < vec_capacity first.new) }
-        ensures front { IsFront first.new.items self.now }
-    {
-        let behind = &self.items[first.len()..];
-        first.extend_from_slice(behind)?;
-        first.reserve(1)
-    }
-
-    /// The two lists change places.
-    pub(crate) fn change_places(&mut self, items: &mut Vec<(u32, CampaignResult)>)
-        ensures here { self.new ≡ items.old.items }
-        ensures there { items.new.items ≡ self.old }
-    {
-        mem::swap(&mut self.items, items);
-    }
-}
 
 /// The campaign that began last and was not entered yet. Node n's part stands at place n - 1.
 #[derive(Clone, Copy)]

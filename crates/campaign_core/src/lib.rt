@@ -8,14 +8,18 @@
 
 mod campaign;
 mod display;
+mod earlier;
 mod events;
 mod fold;
+mod laws;
 mod table;
 mod views;
 
 pub use campaign::Campaign;
+pub use earlier::CampaignList;
 pub use events::{
     CampaignRefusal, CampaignResult, Cause, Decision, MasterEvent, MasterList, Phase, Vote,
 };
-pub use fold::{CampaignList, Current, Fold};
+pub use fold::{Current, Fold};
+pub use laws::an_allowed_event_changes_the_fold;
 pub use views::{CampaignState, CampaignView, CurrentView};

@@ -1,12 +1,11 @@
 //! The master's table: the condition of each event, and its effect.
 ghost use Rattle.std.specs.Prelude.{◌≡◌, ◌+◌, nat_eq, Bool, true, false};
-ghost use Rattle.campaign_core.specs.Campaign.{after_event, all_below, changed, is_activating, is_cause, is_new_of, is_next, is_result_of, may_begin, may_decide, meets, refusal_of};
+ghost use Rattle.campaign_core.specs.Campaign.{after_event, changed, is_activating, is_cause, is_new_of, is_next, is_result_of, may_begin, may_decide, meets, refusal_of};
 ghost use Rattle.campaign_core.specs.Standing.{is_entry};
 
 use crate::fold::{has_any, is_in, place_of};
 use crate::{
-    CampaignList, CampaignRefusal, CampaignResult, Cause, Current, Decision, Fold, MasterEvent,
-    Phase, Vote,
+    CampaignRefusal, CampaignResult, Cause, Current, Decision, Fold, MasterEvent, Phase, Vote,
 };
 use pm_types::Outcome;
 use ucm_base::limits::CAMPAIGN_LIMIT;
@@ -56,12 +55,6 @@ fn is_result_of(decision: Option<Decision>, result_given: CampaignResult) -> boo
         (Some(Decision::Abort(cause)), CampaignResult::Cancelled) => cause.is_cancel(),
         _ => false,
     }
-}
-
-fn all_below(campaign: u32, earlier: &CampaignList) -> bool
-    ensures { result ≡ all_below campaign earlier.now }
-{
-    earlier.as_slice().iter().all(|entry| entry.0 < campaign)
 }
 
 impl Current {
@@ -145,7 +138,7 @@ impl Fold {
         self.epoch >= 1
             && self.current.is_none()
             && campaign >= 1
-            && all_below(campaign, &self.earlier)
+            && self.earlier.are_below(campaign)
             && has_any(named)
             && self.earlier.as_slice().len() < CAMPAIGN_LIMIT
     }
