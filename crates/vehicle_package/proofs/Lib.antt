@@ -7,3 +7,4 @@ pub mod Steps
 pub mod Taken
 pub mod Again
 mod Worked
+mod Twice

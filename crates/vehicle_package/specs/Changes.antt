@@ -1,6 +1,6 @@
 -- The clusters that steps change on their nodes.
-use Rattle.std.specs.Prelude.{ℕ, ◌==◌, ◌&&◌, Bool, List, [], ◌∷◌, ◌++◌, map, find, slice_get, Option, Some, None, option_map, unwrap_or}
-use Rattle.std.specs.List.{list_any}
+use Rattle.std.specs.Prelude.{ℕ, zero, suc, ◌+◌, ◌==◌, ◌&&◌, Bool, List, [], length, map, find, take, slice_get, Option, Some, None, option_and_then, option_map, unwrap_or}
+use Rattle.std.specs.List.{flat_map, list_any}
 use Rattle.std.specs.Str.{bytes_eq}
 use Rattle.ucm_base.specs.Parts.{Bytes, cluster_of}
 use Rattle.ucm_base.specs.declared.parts.Part.{Part}
@@ -32,17 +32,24 @@ has_change above c = list_any (λ other. (other.node == c.node) && bytes_eq othe
 abbrev pub again_in : List Change → List Change → Option Change
 again_in above changes = find (has_change above) changes
 
+-- the clusters that the steps before a place change on their nodes
+abbrev pub changed_before : List PackedOf → List Step → ℕ → List Change
+changed_before packages steps place = flat_map (changes_of packages) (take place steps)
+
+-- the first cluster of the step at a place that an earlier step changes on the same node
+abbrev pub twice_at : List PackedOf → List Step → ℕ → Option Change
+twice_at packages steps place = option_and_then
+    (λ step. again_in (changed_before packages steps place) (changes_of packages step)) (slice_get steps place)
+
 abbrev pub or_else_below : Option Change → Option Change → Option Change
 or_else_below (Some c) below = Some c
 or_else_below None below = below
 
--- the first cluster of a step that is changed above on the same node, where these are changed above them all
-abbrev pub twice_below : List PackedOf → List Change → List Step → Option Change
-twice_below packages above [] = None
-twice_below packages above (step ∷ steps) =
-    or_else_below (again_in above (changes_of packages step))
-    (twice_below packages (above ++ changes_of packages step) steps)
+-- what the first of so many places from this one on has, of those that have one
+abbrev pub first_at : (ℕ → Option Change) → ℕ → ℕ → Option Change
+first_at at place zero = None
+first_at at place (suc n) = or_else_below (at place) (first_at at (place + 1) n)
 
--- the first cluster of a step that an earlier step changes on the same node
+-- in order of the steps, and in each in order of its parts, the first cluster that an earlier step changes on the same node
 abbrev pub twice_in : List PackedOf → List Step → Option Change
-twice_in packages steps = twice_below packages [] steps
+twice_in packages steps = first_at (twice_at packages steps) 0 (length steps)
