@@ -1,5 +1,5 @@
 //! What the master's list says: its epoch, the earlier campaigns and the current one.
-ghost use Rattle.std.specs.Prelude.{◌≡◌, ◌++◌, ◌<◌, ◌^◌, OnOk, length};
+ghost use Rattle.std.specs.Prelude.{◌≡◌, ◌++◌, ◌<◌, ◌^◌, IfOk, OnOk, length};
 ghost use Rattle.std.specs.List.{flat_map};
 ghost use Rattle.ucm_base.specs.Limits.{node_limit};
 ghost use Rattle.event_codec.specs.Spelling.{Any, ManyFit, OptionFits, option_spelled};
@@ -153,17 +153,8 @@ impl Take for Fold {
     }
 }
 
-/// Appends the spelling of an event. Where memory is wanting, a part of it may stand there.
-pub fn put_event(alloc: Global, into: &mut Vec<u8>, event: &MasterEvent) -> Result<(), AllocError>
-    ensures appended { OnOk result
-        (into.new.items ≡ into.old.items ++ event_spelled event.now) }
-    ensures form { OnOk result (EventFits event.now) }
-{
-    event.put(alloc, into)
-}
-
 /// Appends the spelling of what the master's list says. Where memory is wanting, a part of it may stand there.
-pub fn put_fold(alloc: Global, into: &mut Vec<u8>, fold: &Fold) -> Result<(), AllocError>
+fn put_fold(alloc: Global, into: &mut Vec<u8>, fold: &Fold) -> Result<(), AllocError>
     requires { length fold.now.earlier < 2 ^ 16 }
     ensures appended { OnOk result
         (into.new.items ≡ into.old.items ++ fold_spelled fold.now) }
@@ -174,4 +165,25 @@ pub fn put_fold(alloc: Global, into: &mut Vec<u8>, fold: &Fold) -> Result<(), Al
     (earlier.len() as u16).put(alloc, into)?;
     put_many(alloc, into, earlier)?;
     fold.current.put(alloc, into)
+}
+
+/// The spelling of an event.
+pub fn event_bytes(alloc: Global, event: &MasterEvent) -> Result<Vec<u8>, AllocError>
+    ensures spelled { IfOk result (λ bytes. bytes.items ≡ event_spelled event.now) }
+    ensures form { OnOk result (EventFits event.now) }
+{
+    let mut bytes = Vec::new(alloc);
+    event.put(alloc, &mut bytes)?;
+    Ok(bytes)
+}
+
+/// The spelling of what the master's list says.
+pub fn fold_bytes(alloc: Global, fold: &Fold) -> Result<Vec<u8>, AllocError>
+    requires { length fold.now.earlier < 2 ^ 16 }
+    ensures spelled { IfOk result (λ bytes. bytes.items ≡ fold_spelled fold.now) }
+    ensures form { OnOk result (FoldFits fold.now) }
+{
+    let mut bytes = Vec::new(alloc);
+    put_fold(alloc, &mut bytes, fold)?;
+    Ok(bytes)
 }
