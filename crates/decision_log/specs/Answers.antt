@@ -1,5 +1,5 @@
 -- What an add and a revival do to the fold and to what is pending.
-use Rattle.std.specs.Prelude.{◌≡◌, ℕ, ◌+◌, ◌-◌, ◌^◌, min, max, Option, Some, None, IsSome}
+use Rattle.std.specs.Prelude.{◌≡◌, ⊤, ℕ, ◌+◌, ◌-◌, ◌^◌, min, max, Option, Some, None, IsSome}
 use Rattle.campaign_core.specs.declared.events.MasterEvent.{MasterEvent}
 use Rattle.campaign_core.specs.declared.fold.Fold.{Fold}
 use Rattle.campaign_core.specs.Campaign.{after_event, refusal_of}
@@ -16,9 +16,20 @@ Adds e (Refused r) old new pending = (refusal_of old e ≡ Some r) × (new ≡ o
 Adds e (NoReply faults) old new pending = (refusal_of old e ≡ None) × (new ≡ old) × (pending ≡ Some e)
 Adds e OutOfMemory old new pending = (refusal_of old e ≡ None) × (new ≡ old) × (pending ≡ None)
 
--- how much the disk's faults rose: a count that stands at its last value counts as one rise
+-- an allowed event isn't acknowledged: the disk failed, or memory was wanting
+abbrev pub IsUnacknowledged : AddAnswer → Type 0
+IsUnacknowledged (NoReply faults) = ⊤
+IsUnacknowledged OutOfMemory = ⊤
+IsUnacknowledged Added = ⊥
+IsUnacknowledged (Refused r) = ⊥
+
+-- how much a count of faults rose: one that stands at its last value counts as one rise
+abbrev pub IsRise : ℕ → ℕ → ℕ → Type 0
+IsRise before now faults = (faults ≡ max (now - before) 1) × (min (before + faults) (2 ^ 64 - 1) ≡ now)
+
+-- what a call without a reply carries
 abbrev pub Carries : AddAnswer → ℕ → ℕ → Type 0
-Carries (NoReply faults) before now = (faults ≡ max (now - before) 1) × (min (before + faults) (2 ^ 64 - 1) ≡ now)
+Carries (NoReply faults) before now = IsRise before now faults
 Carries _ before now = Unit {0}
 
 -- how many events the list has

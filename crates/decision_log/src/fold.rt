@@ -5,7 +5,7 @@ ghost use Rattle.event_codec.specs.Master.{fold_longest};
 ghost use Rattle.event_codec.specs.DecidingMaster.{fold_of};
 
 use campaign_core::Fold;
-use event_codec::{put_fold, take_fold};
+use event_codec::{fold_bytes, take_fold};
 use event_log::Stored;
 use std::alloc::{AllocError, Global};
 use std::marker::Model;
@@ -54,8 +54,7 @@ impl<'a> Stored for Present<'a> {
         ensures text { IfOk result (λ text. fold_of text.items ≡ Some self.now) }
         ensures short { IfOk result (λ text. length text.items ≤ fold_longest) }
     {
-        let mut text = Vec::new(alloc);
-        put_fold(alloc, &mut text, self.fold)?;
+        let text = fold_bytes(alloc, self.fold)?;
         Ok(text)
     }
 }

@@ -13,14 +13,14 @@ ghost use Rattle.event_codec.specs.Master.{EventFits, event_spelled};
 ghost use Rattle.event_codec.specs.DecidingMaster.{fold_of};
 ghost use Rattle.decision_log.specs.Folds.{after_allowed, after_record};
 ghost use Rattle.decision_log.specs.Known.{IsBeforeOrAfter, IsKnown, IsOf};
-ghost use Rattle.decision_log.specs.Answers.{Adds, Carries, Revives, counted, counted_again, told};
+ghost use Rattle.decision_log.specs.Answers.{Adds, Carries, IsRise, IsUnacknowledged, Revives, counted, counted_again, told};
 
 use crate::answers::{AddAnswer, MasterRevived};
 use crate::fold::Present;
 use campaign_core::{Campaign, CampaignState, CampaignView, MasterEvent};
 use checkpoint::StoreError;
 use disk_core::{Disk, FaultPlan};
-use event_codec::put_event;
+use event_codec::event_bytes;
 use event_log::{Log, Revived};
 use std::alloc::{AllocError, Global};
 
@@ -67,6 +67,21 @@ impl<D: Disk> MasterLog<D> {
             → HasNoRoom self.old.log (length (event_spelled event))
             → self.new.log ≡ behind (switched self.old.log) (length (event_spelled event)) }
 
+        // An event that isn't acknowledged leaves the log where it was, or, where its record doesn't fit, maybe in the
+        // other half. One that is refused leaves all as it was.
+        ensures here_failed { IsUnacknowledged result
+            → Fits self.old.log (length (event_spelled event)) → self.new.log ≡ self.old.log }
+        ensures beyond_failed { IsUnacknowledged result
+            → HasNoRoom self.old.log (length (event_spelled event))
+            → (self.new.log ≡ self.old.log) ⊎ (self.new.log ≡ switched self.old.log) }
+        ensures refused_log { IfSome (refusal_of self.old.campaign.fold event)
+            (λ _. self.new.log ≡ self.old.log) }
+
+        // After a fault, within a switch of halves too, the list is closed: each image stands for the fold before the
+        // event or after it.
+        ensures in_doubt { self.new.pending ≡ Some event
+            → EachImage (D.images self.new.disk) (IsBeforeOrAfter self.old.campaign.fold event) }
+
         // Where a switch failed, `revive` will find the event lost.
         ensures switching { self.new.pending ≡ Some event
             → HasNoRoom self.old.log (length (event_spelled event))
@@ -89,7 +104,7 @@ impl<D: Disk> MasterLog<D> {
             }
             Err(StoreError::Failed) => {
                 self.pending = Some(event);
-                let faults = (self.disk.faults() - before).max(1);
+                let faults = self.rise(before);
                 AddAnswer::NoReply { faults }
             }
             Err(StoreError::OutOfMemory) => AddAnswer::OutOfMemory,
@@ -121,6 +136,10 @@ impl<D: Disk> MasterLog<D> {
             (self.new.log ≡ behind self.old.log (length (event_spelled event.now))) }
         ensures beyond { HasNoRoom self.old.log (length (event_spelled event.now)) → OnOk result
             (self.new.log ≡ behind (switched self.old.log) (length (event_spelled event.now))) }
+        ensures here_failed { Fits self.old.log (length (event_spelled event.now))
+            → OnErr result (self.new.log ≡ self.old.log) }
+        ensures beyond_failed { HasNoRoom self.old.log (length (event_spelled event.now)) → OnErr result
+            ((self.new.log ≡ self.old.log) ⊎ (self.new.log ≡ switched self.old.log)) }
         ensures switching { IsErrOf result StoreError.Failed
             → HasNoRoom self.old.log (length (event_spelled event.now))
             → self.new.log ≡ self.old.log → EachImage (D.images self.new.disk)
@@ -263,6 +282,14 @@ impl<D: Disk> MasterLog<D> {
         self.disk.faults()
     }
 
+    /// How far the disk's count of faults rose above an earlier one; 1 where it stands at its last value.
+    pub fn rise(&self, before: u64) -> u64
+        requires { HasRisen before (D.fault_count self.now.disk) }
+        ensures { IsRise before (D.fault_count self.now.disk) result }
+    {
+        (self.disk.faults() - before).max(1)
+    }
+
     /// Whether an event is pending: then `revive` comes before the next `add`.
     pub fn is_closed(&self) -> bool
         ensures { result ≡ is_some self.now.pending }
@@ -319,7 +346,5 @@ fn spelled(
     ensures fold { campaign.new.fold ≡ campaign.old.fold }
 {
     campaign.reserve()?;
-    let mut text = Vec::new(alloc);
-    put_event(alloc, &mut text, event)?;
-    Ok(text)
+    event_bytes(alloc, event)
 }

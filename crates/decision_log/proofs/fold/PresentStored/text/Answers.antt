@@ -1,7 +1,6 @@
-use Rattle.std.proofs.Common.{◌≡◌, ◌≤◌, ℕ, List, ◌++◌, length, Some, sym, ◌∙◌, ap, subst, arith}
+use Rattle.std.proofs.Common.{◌≤◌, ℕ, List, length, Some, sym, ◌∙◌, ap, subst, arith}
 use Rattle.campaign_core.specs.declared.fold.Fold.{Fold}
 use Rattle.ucm_base.specs.Limits.{campaign_limit}
-use Rattle.event_codec.specs.Master.{fold_spelled}
 use Rattle.event_codec.specs.DecidingMaster.{fold_of}
 use Rattle.event_codec.proofs.Sizes.{fold_short}
 use Rattle.decision_log.proofs.Records.{fold_back}
@@ -10,14 +9,15 @@ use Rattle.decision_log.proofs.fold.PresentStored.text.Goals as goal
 pub returns-clause-text : goal.returns-clause-text
 returns-clause-text c =
     let f = c.self.inside.fold.now in
-    let items : c.put_fold.new.into.items ≡ fold_spelled f = c.in_ok-put_fold.ensures.appended
-    ∙ ap (λ (xs : List ℕ). xs ++ fold_spelled f) c.new-text.ensures.items in
-    ap fold_of items ∙ fold_back f c.in_ok-put_fold.ensures.form ∙ ap (λ (g : Fold). Some g) c.self.view_is
+    ap fold_of c.in_ok-text.ensures.spelled ∙ fold_back f c.in_ok-text.ensures.form
+    ∙ ap (λ (g : Fold). Some g) c.self.view_is
 
 pub returns-clause-short : goal.returns-clause-short
 returns-clause-short c =
     let f = c.self.inside.fold.now in
-    let items : c.put_fold.new.into.items ≡ fold_spelled f = c.in_ok-put_fold.ensures.appended
-    ∙ ap (λ (xs : List ℕ). xs ++ fold_spelled f) c.new-text.ensures.items in
     let within = subst (λ (g : Fold). length g.earlier ≤ campaign_limit) (sym c.self.view_is) (omega (arith, c.requires)) in
-    omega (arith, ap (λ (xs : List ℕ). length xs) items, fold_short f c.in_ok-put_fold.ensures.form within)
+    omega (
+      arith,
+      ap (λ (xs : List ℕ). length xs) c.in_ok-text.ensures.spelled,
+      fold_short f c.in_ok-text.ensures.form within,
+    )
