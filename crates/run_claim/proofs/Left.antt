@@ -45,7 +45,7 @@ each-in P v (w ∷ ws) h (inr i) = each-in P v ws h.1 i
 module _ (read : Reading) (reading : IsReading read) (s : Script) (counted : ℕ → Counted) (n : ℕ)
     (list : List MasterEvent) (history : List Entry) (some : packages_of s n ≢ []) where
   -- no more calls of the rounds stand first than the evidence has
-  few : (epoch : ℕ) (rounds made : List Made) → IsOfRounds s.campaign epoch (packages_of s n) rounds
+  few : (epoch : ℕ) (rounds made : List Made) → IsOfRounds s.campaign epoch 1 (packages_of s n) rounds
       → map (λ m. m.call) made ≡ round_calls s.campaign (ids_given made) (packages_of s n) → length rounds ≤ length made
   few epoch rounds made r calls =
       let a = ap (λ (l : List Call). length l) r.calls in
@@ -81,7 +81,7 @@ module _ (read : Reading) (reading : IsReading read) (s : Script) (counted : ℕ
     -- from the evidence of the Yes on
     new-from : has_commit list ≡ true → has_end n list ≡ true → (epoch : ℕ)
         → ShowsAfterRounds read (opening_of s n) s.campaign epoch (packages_of s n) Activated history
-        → IsOfRounds s.campaign epoch (packages_of s n) master.order.rounds
+        → IsOfRounds s.campaign epoch 1 (packages_of s n) master.order.rounds
         → IsNew read s.campaign (parts_in read (packages_of s n)) (opening_of s n) history
     new-from commit ended epoch y first = conclude two.2
       where

@@ -42,7 +42,7 @@ pub record IsRefusedAt (k epoch : ℕ) (packages : List (List ℕ)) (at : CallNo
   pub refused : Made
   pub after : List Made
   pub there : made ≡ before ++ refused ∷ after
-  pub rounds : IsOfRounds k epoch packages (before ++ refused ∷ [])
+  pub rounds : IsOfRounds k epoch 1 packages (before ++ refused ∷ [])
   pub number : refused.at ≡ at
   pub reply : refused.reply ≡ Refused refusal
 

@@ -35,7 +35,7 @@ epoch_of_begin epoch (_ ∷ es) = epoch_of_begin epoch es
 -- in the epoch of Begin; without a Begin nothing is sent
 abbrev pub IsOfRoundsIn : Option ℕ → ℕ → List (List ℕ) → List Made → Type 0
 IsOfRoundsIn None k packages made = made ≡ []
-IsOfRoundsIn (Some epoch) k packages made = IsOfRounds k epoch packages made
+IsOfRoundsIn (Some epoch) k packages made = IsOfRounds k epoch 1 packages made
 
 -- whether an event decides
 abbrev pub is_decision : MasterEvent → Bool

@@ -27,11 +27,10 @@ use Rattle.sub_core.specs.declared.progress.Progress.{Progress}
 use Rattle.sub_core.specs.declared.progress.Wish.{Wish}
 use Rattle.sub_core.specs.Calls.{call_of}
 use Rattle.sub_core.specs.Driving.{after_send, after_todo, after_unit, at_free, at_session, at_shown, at_status, begun, end_after, end_wish, has_number, is_answer, is_missed, is_over, next_no, next_transfer, opened, progress_after, replied, round_after, round_step, settled_after, status_of, step, todo, todo_for, unreached, wish, wish_at, IsEnding}
-use Rattle.sub_core.specs.Evidence.{IsOwned}
 use Rattle.sub_core.specs.Given.{is_ending, message_of, reply_got}
 use Rattle.sub_core.specs.Sends.{decision_of}
 use Rattle.sub_core.specs.States.{DriverState, IsPlaced, IsPlacedEnd, IsSound, size_at}
-use Rattle.sub_core.proofs.Told.{EndTold, Found, IsTold, ToldAt, told_after, told_reply, told_unit}
+use Rattle.sub_core.proofs.Told.{EndTold, Found, IsOwned, IsTold, ToldAt, told_after, told_reply, told_unit}
 use Rattle.sub_core.proofs.Stages.{calls_of_wish, not_process, wish_of_todo, IsCalling}
 
 -- either progress was told enough
@@ -104,9 +103,11 @@ told_worked k epoch d Progress.Activating Ready told is t = t
 told_worked k epoch d Progress.Activating Processing told is t = t
 told_worked k epoch d Progress.Activating Activating told is t = t
 told_worked k epoch d Progress.Activating Verifying told is t = t
-told_worked k epoch d Progress.Activating Activated told is t = ap (λ a. a || showed_after_activate Activated told) t.0
+told_worked k epoch d Progress.Activating Activated told is t =
+    (ap (λ a. a || showed_after_activate Activated told) t.0, t.1)
 told_worked k epoch d Progress.Activating RollingBack told is t = t
-told_worked k epoch d Progress.Activating RolledBack told is t = ap (λ a. a || showed_after_activate RolledBack told) t.0
+told_worked k epoch d Progress.Activating RolledBack told is t =
+    (ap (λ a. a || showed_after_activate RolledBack told) t.0, t.1)
 told_worked k epoch d Progress.Activating CleaningUp told is t = t
 told_worked k epoch d (Progress.Voted finding) status told is t = absurd (cc is)
 told_worked k epoch d (Progress.Ending commit (EndProgress.Call asked)) status told is t = absurd (cc is)

@@ -1,5 +1,5 @@
 -- What a driver finds has its evidence.
-use Rattle.std.proofs.Common.{◌≡◌, ◌≢◌, ℕ, ◌<◌, ◌≤◌, Bool, true, false, if◌then◌else◌, nat_le, List, [], ◌∷◌, length, drop, Option, Some, None, refl, sym, ap, subst, ◌∙◌, arith, length-drop}
+use Rattle.std.proofs.Common.{◌≡◌, ℕ, ◌≤◌, Bool, true, false, if◌then◌else◌, nat_le, List, [], ◌∷◌, length, drop, Option, Some, None, refl, sym, ap, subst, ◌∙◌, arith, length-drop}
 use Rattle.std.proofs.lemmas.Bool.Decides.{nat_tests}
 use Rattle.ucm_base.specs.Limits.{attempt_limit}
 use Rattle.ucm_base.specs.declared.ids.CallNo.{CallNo}
@@ -33,6 +33,7 @@ use Rattle.sub_core.specs.States.{DriverState}
 use Rattle.sub_core.proofs.Allowed.{found_for}
 use Rattle.sub_core.proofs.Journeys.{Stands, Wishes, ToSend, ToWork, stands, wishes_of}
 use Rattle.sub_core.proofs.Kept.{HasRow, IsKept, IsLast, IsWithin, LastAt, early_at_round, not_ending, plain}
+use Rattle.sub_core.proofs.Making.{some_bytes}
 use Rattle.sub_core.proofs.Rounds.{sizes_of, stage_seen}
 use Rattle.sub_core.proofs.Stages.{done_at, done_of_todo, le_true, sizes_same, stands_calling}
 use Rattle.sub_core.proofs.Told.{Found, IsAtRest, IsNewest, ToldAt}
@@ -110,7 +111,7 @@ done_told k epoch d round (Progress.Ending commit (EndProgress.Delete listed pla
 done_told k epoch d round (Progress.Ending commit (EndProgress.Rest call_no)) told here within t is = absurd (cc is)
 
 -- a stage is past a round over lengths as over bytes
-past_sized : (phase : Option Phase) (stage : Stage) → is_past phase (sized stage) ≡ is_past phase stage
+pub past_sized : (phase : Option Phase) (stage : Stage) → is_past phase (sized stage) ≡ is_past phase stage
 past_sized phase Over = refl
 past_sized phase RefusedOnce = refl
 past_sized phase AtSync = refl
@@ -130,10 +131,6 @@ past_sized (Some Phase.Activating) (AtStart ids left) = refl
 past_sized (Some Phase.Activating) (AtData ids id counter bytes left) = refl
 past_sized (Some Phase.Activating) (AtProcess ids taken) = refl
 past_sized (Some Phase.Activating) AtActivate = refl
-
-some_bytes : (lent : List (List ℕ)) (steps : List PackageSize) → 0 < length steps → step_bytes lent steps ≢ []
-some_bytes lent [] some is = omega (arith, some)
-some_bytes lent (s ∷ steps) some is = cc is
 
 -- where the process stage of these ids is past its round, all are taken
 taken_all : (ids : List ℕ) (taken : ℕ) → is_past {B = ℕ} (Some Phase.Processing) (next_processed ids taken) ≡ true
@@ -253,7 +250,7 @@ pub data RestsBy (d : DriverState) (finding : Finding) : Type 0 where
   ByMisses : is_asked (plain d (wish d)) ≡ true → is_missed d ≡ true → unreached d.misses ≡ finding → RestsBy d finding
   ByWish : wish d ≡ Wish.Rest finding → RestsBy d finding
 
-rests_if : (d : DriverState) (w : Wish) (b : Bool) (finding : Finding) → wish d ≡ w → is_missed d ≡ b
+pub rests_if : (d : DriverState) (w : Wish) (b : Bool) (finding : Finding) → wish d ≡ w → is_missed d ≡ b
     → todo_for d w ≡ Todo.Rest finding → RestsBy d finding
 rests_if d (Wish.Rest f) b finding here is rests =
     ByWish (here ∙ (let same : f ≡ finding = cc rests in ap Wish.Rest same))
@@ -533,8 +530,8 @@ module _ (by_size : GoesBySize) (ends : RoundsEnd) (lent : List (List ℕ)) (tas
               (fits done.prepares done.accepted) (phase_of round)
               ∙ grind (arith, nat_tests, answered),
         )
-    shown Finding.Yes rests = (of_rest Finding.Yes rests, evidence Finding.Yes rests)
-    shown Finding.RolledBack rests = (of_rest Finding.RolledBack rests, evidence Finding.RolledBack rests)
+    shown Finding.Yes rests = (of_rest Finding.Yes rests, (evidence Finding.Yes rests).0)
+    shown Finding.RolledBack rests = (of_rest Finding.RolledBack rests, (evidence Finding.RolledBack rests).0)
     shown (Finding.Refused call_no why) rests = (
       of_rest (Finding.Refused call_no why) rests,
       refused call_no why (told_by tries) (evidence (Finding.Refused call_no why) rests),

@@ -127,7 +127,7 @@ module _ (by_size : GoesBySize) (lent : List (List ℕ)) (task : Task) (is : IsT
     next_opened : (g : Given) → IsVain (Todo.Send (next_no d) asked) g
         → ((ms : List Given) → misses_in (g ∷ ms) ≡ misses_in ms) → IsNext g (opened d) (Tried m None ∷ tries)
     next_opened g vain none = record {
-      kept = kept_opened lent task d tries so_far.kept asked wishes has_begun by_size is.there asks left;
+      kept = kept_opened lent task d tries so_far.kept asked wishes has_begun by_size is.there left;
       row = row_same g (opened d) refl plain_send (vain_send g vain) none refl;
     }
 
@@ -136,7 +136,7 @@ module _ (by_size : GoesBySize) (lent : List (List ℕ)) (task : Task) (is : IsT
         → IsNext (Gave (Got.Replied reply)) (if b then replied reply d else opened d)
         (Tried m (if b then Some reply else None) ∷ tries)
     next_reply reply true fits here = record {
-      kept = kept_replied lent task d tries so_far.kept asked wishes has_begun by_size is.there asks reply fits left;
+      kept = kept_replied lent task d tries so_far.kept asked wishes has_begun by_size is.there reply fits left;
       row = clean_row task (replied reply d) (Gave (Got.Replied reply) ∷ gs) here refl;
     }
     next_reply reply false fits here = next_opened (Gave (Got.Replied reply)) fits (λ ms. refl)
@@ -147,7 +147,7 @@ module _ (by_size : GoesBySize) (lent : List (List ℕ)) (task : Task) (is : IsT
     next_send (Got.UnitOf unit) here = next_opened (Gave (Got.UnitOf unit)) refl (λ ms. refl)
     next_send (Got.Miss losses faults) here = record {
       kept = kept_missed lent task (opened d) (Tried m None ∷ tries)
-          (kept_opened lent task d tries so_far.kept asked wishes has_begun by_size is.there asks left) losses faults few;
+          (kept_opened lent task d tries so_far.kept asked wishes has_begun by_size is.there left) losses faults few;
       row = row_miss losses faults (missed losses faults (opened d)) refl plain_send
           (vain_send (Gave (Got.Miss losses faults)) refl) refl;
     }

@@ -1,5 +1,5 @@
 -- What is kept of a driver and of its attempts, by whatever it is given.
-use Rattle.std.proofs.Common.{◌≡◌, ◌⊎◌, inl, inr, ℕ, suc, ◌+◌, ◌-◌, ◌<◌, ◌≤◌, Bool, true, false, ◌||◌, if◌then◌else◌, nat_eq, nat_lt, nat_le, List, [], ◌∷◌, ◌++◌, length, slice_index_or, take, ◌==◌, Option, Some, None, is_some, refl, sym, ap, subst, ◌∙◌, arith, append-nil}
+use Rattle.std.proofs.Common.{◌≡◌, ◌⊎◌, inl, inr, ℕ, suc, ◌+◌, ◌-◌, ◌<◌, ◌≤◌, Bool, true, false, if◌then◌else◌, nat_eq, nat_lt, nat_le, List, [], ◌∷◌, ◌++◌, length, slice_index_or, take, ◌==◌, Option, Some, None, is_some, refl, sym, ap, subst, ◌∙◌, arith, append-nil}
 use Rattle.std.proofs.lemmas.Bool.Decides.{nat_tests}
 use Rattle.std.specs.Ordering.{is_eq, is_lt}
 use Rattle.ucm_base.specs.Limits.{block_limit}
@@ -30,12 +30,13 @@ use Rattle.sub_core.specs.declared.progress.Wish.{Wish}
 use Rattle.sub_core.specs.Calls.{AreThere, call_of, step_bytes}
 use Rattle.sub_core.specs.Driving.{begun, end_step, end_wish, fresh, is_answer, is_missed, is_over, missed, next_no, opened, progress_after, replied, round_step, settled_after, todo, wish, wish_at, worked, CanBegin, IsBeforeEnd, IsEnding}
 use Rattle.sub_core.specs.Evidence.{AreVain, misses_in}
-use Rattle.sub_core.specs.Made.{is_end_call}
+use Rattle.sub_core.specs.Made.{is_end_call, made_in, made_of}
 use Rattle.sub_core.specs.Given.{Given, Task, after, is_ending, message_of}
 use Rattle.sub_core.specs.Sends.{AreCallsFor, AreNumbered, IsCallFor, decision_of}
 use Rattle.sub_core.specs.States.{DriverState, IsPlaced, IsPlacedEnd, IsSound, number_limit}
-use Rattle.sub_core.proofs.Allowed.{told_begun, told_replied, told_worked}
-use Rattle.sub_core.proofs.Ends.{ByNewest, newest_begun, newest_replied}
+use Rattle.sub_core.proofs.Allowed.{early_at, told_begun, told_replied, told_worked}
+use Rattle.sub_core.proofs.Ends.{IsEndAt, end_begins, end_replied, end_worked}
+use Rattle.sub_core.proofs.Making.{AreRounds, AreTurned, are_accepted, end_more, neither, none_made, one_more, some_bytes, turned}
 use Rattle.sub_core.proofs.Placed.{sound_begun, sound_missed, sound_opened, sound_replied, sound_worked}
 use Rattle.sub_core.proofs.Rounds.{StandsFor}
 use Rattle.sub_core.proofs.Stages.{asks_next, done_of_todo, stands_begun, stands_replied, stands_worked}
@@ -126,8 +127,14 @@ pub record IsKept (lent : List (List ℕ)) (task : Task) (d : DriverState) (atte
   pub fit : IsBeforeEnd d.round → has_refusal (told_by attempts) ≡ false
       → AllFit (step_bytes lent task.steps) AtSync (replies_by attempts)
   pub last : LastAt d.progress attempts
-  pub newest : ByNewest (told_by attempts) d.progress
+  pub end : IsEndAt d.round d.progress (told_by attempts)
   pub calls : AreCallsFor task.campaign (step_bytes lent task.steps) attempts
+  pub made : IsBeforeEnd d.round
+      → AreRounds task.campaign task.epoch task.first (step_bytes lent task.steps) d.number
+      (made_in (told_by attempts)) (replies_by attempts)
+  pub turned : IsEndRound d.round
+      → AreTurned task.campaign task.epoch task.first (step_bytes lent task.steps) d.number
+      (made_in (told_by attempts))
 
 -- numbers and what was told
 
@@ -431,6 +438,15 @@ fits_call k AtActivate r c is fits accepted =
 fits_call k Over r c is fits accepted = absurd (cc is)
 fits_call k RefusedOnce r c is fits accepted = absurd (cc is)
 
+-- the decision of the end phase
+end_round : (r : Option Round) → IsEndRound r → (commit : Bool) × (r ≡ Some (Round.End commit))
+end_round None end = absurd end
+end_round (Some Round.Sync) end = absurd end
+end_round (Some Round.Transfer) end = absurd end
+end_round (Some Round.Process) end = absurd end
+end_round (Some Round.Activate) end = absurd end
+end_round (Some (Round.End commit)) end = (commit, refl)
+
 -- the attempt of this message
 record IsNow (task : Task) (m : Message) (attempts : List Attempt) : Type 0 where
   rest : List Message
@@ -499,8 +515,8 @@ module _ (lent : List (List ℕ)) (k epoch : ℕ) (commit : Bool) (told : List T
 
 module _ (by_size : GoesBySize) (lent : List (List ℕ)) (task : Task) (d : DriverState) (tries : List Attempt)
     (kept : IsKept lent task d tries) (there : AreThere lent task.steps) (asked : SendStep)
-    (wishes : wish d ≡ Wish.Send asked) (asks : todo d ≡ Todo.Send (next_no d) asked) where
-  early_call : is_ending d.progress ≡ false
+    (wishes : wish d ≡ Wish.Send asked) where
+  pub early_call : is_ending d.progress ≡ false
       → call_at task.campaign (stage_of (step_bytes lent task.steps) AtSync (replies_by tries))
       ≡ Some (call_of lent asked)
   early_call early =
@@ -512,7 +528,7 @@ module _ (by_size : GoesBySize) (lent : List (List ℕ)) (task : Task) (d : Driv
       ≡ Some (call_of lent asked))
       kept.steps
       (asks_next by_size lent d (replies_by tries) kept.sound kept.stands (subst (AreThere lent) (sym kept.steps) there)
-      (not_ending d.progress early) (next_no d) asked asks))
+      (not_ending d.progress early) asked wishes))
 
   call_for : (p : Progress) → d.progress ≡ p
       → IsCallFor task.campaign (step_bytes lent task.steps) (is_ending p) (call_of lent asked) (replies_by tries)
@@ -535,7 +551,7 @@ module _ (by_size : GoesBySize) (lent : List (List ℕ)) (task : Task) (d : Driv
 
 module _ (lent : List (List ℕ)) (task : Task) (d : DriverState) (tries : List Attempt) (kept : IsKept lent task d tries)
     (asked : SendStep) (wishes : wish d ≡ Wish.Send asked) (has_begun : is_some d.round ≡ true)
-    (by_size : GoesBySize) (there : AreThere lent task.steps) (asks : todo d ≡ Todo.Send (next_no d) asked) where
+    (by_size : GoesBySize) (there : AreThere lent task.steps) where
   abbrev m : Message
   m = message_of lent d (next_no d) asked
 
@@ -615,26 +631,52 @@ module _ (lent : List (List ℕ)) (task : Task) (d : DriverState) (tries : List 
     fit = λ rounds accepted. subst (AllFit (step_bytes lent task.steps) AtSync) (sym (append-nil (replies_by tries)))
         (kept.fit rounds accepted);
     last = last_asked d d.progress (Tried m None ∷ tries) (λ call_no is. cc (sym wishes ∙ is));
-    newest = kept.newest;
-    calls = (is_call_for by_size lent task d tries kept there asked wishes asks, kept.calls);
+    end = kept.end;
+    calls = (is_call_for by_size lent task d tries kept there asked wishes, kept.calls);
+    made = λ rounds.
+        subst
+        (AreRounds task.campaign task.epoch task.first (step_bytes lent task.steps) d.number (made_in (told_by tries)))
+        (sym (append-nil (replies_by tries))) (kept.made rounds);
+    turned = kept.turned;
   }
 
   module _ (reply : Reply) (fits : is_answer asked reply ≡ true) where
-    refusal_of : (a b : Bool) → (a || b) ≡ false → (a ≡ false) × (b ≡ false)
-    refusal_of true b is = absurd (cc is)
-    refusal_of false b is = (refl, is)
+    abbrev ps : List (List ℕ)
+    ps = step_bytes lent task.steps
 
     fit_now : IsBeforeEnd d.round → has_refusal (told_by (Tried m (Some reply) ∷ tries)) ≡ false
-        → AllFit (step_bytes lent task.steps) AtSync (replies_by tries ++ reply ∷ [])
+        → AllFit ps AtSync (replies_by tries ++ reply ∷ [])
     fit_now rounds accepted =
-        let parts = refusal_of (is_refusal reply) (has_refusal (told_by tries)) accepted in
-        let early = not_ending d.progress (early_at_round d.round d.progress rounds kept.within) in
-        let next = asks_next by_size lent d (replies_by tries) kept.sound kept.stands
-        (subst (AreThere lent) (sym kept.steps) there) early (next_no d) asked asks in
-        fit_snoc (step_bytes lent task.steps) AtSync (replies_by tries) reply (kept.fit rounds parts.1)
-        (subst (λ steps. Fits (stage_of (step_bytes lent steps) AtSync (replies_by tries)) reply) kept.steps
-        (fits_call d.campaign (stage_of (step_bytes lent d.steps) AtSync (replies_by tries)) reply (call_of lent asked) next
-        (sym (same_answers lent asked reply) ∙ fits) parts.0))
+        let parts = neither (is_refusal reply) (has_refusal (told_by tries)) accepted in
+        let next = early_call by_size lent task d tries kept there asked wishes
+        (early_at_round d.round d.progress rounds kept.within) in
+        fit_snoc ps AtSync (replies_by tries) reply (kept.fit rounds parts.1)
+        (fits_call task.campaign (stage_of ps AtSync (replies_by tries)) reply (call_of lent asked) next
+        (sym (same_answers lent asked reply) ∙ fits) parts.0)
+
+    at_now : m.at ≡ record { epoch = task.epoch; number = d.number }
+    at_now = same_no m.at task.epoch d.number kept.epoch refl
+
+    made_now : IsBeforeEnd d.round
+        → AreRounds task.campaign task.epoch task.first ps (d.number + 1)
+        (made_in (told_by tries) ++ made_of m reply ∷ []) (replies_by tries ++ reply ∷ [])
+    made_now rounds =
+        let early = early_at_round d.round d.progress rounds kept.within in
+        let accepted =
+        (early_at d.campaign d.epoch d d.progress (told_by tries) asked kept.told (not_ending d.progress early) wishes).0 in
+        let some = some_bytes lent task.steps (subst (λ steps. 0 < length steps) kept.steps kept.sound.some) in
+        one_more task.campaign task.epoch task.first ps d.number (made_in (told_by tries)) (replies_by tries)
+        (kept.made rounds) some (kept.fit rounds accepted) (are_accepted (told_by tries) accepted) m at_now
+        (early_call by_size lent task d tries kept there asked wishes early) reply
+
+    turned_now : IsEndRound d.round
+        → AreTurned task.campaign task.epoch task.first ps (d.number + 1) (made_in (told_by tries) ++ made_of m reply ∷ [])
+    turned_now end =
+        let round = end_round d.round end in
+        let late : is_ending d.progress ≡ true = ap is_ending (kept.end round.0 round.1) in
+        end_more task.campaign task.epoch task.first ps d.number (made_in (told_by tries)) (kept.turned end) m at_now
+        (subst (λ b. IsCallFor task.campaign ps b m.call (replies_by tries)) late
+        (is_call_for by_size lent task d tries kept there asked wishes)) reply
 
     -- an attempt with its reply
     pub kept_replied : d.number < number_limit → IsKept lent task (replied reply d) (Tried m (Some reply) ∷ tries)
@@ -663,8 +705,10 @@ module _ (lent : List (List ℕ)) (task : Task) (d : DriverState) (tries : List 
         newest = now.sent;
         answered = refl;
       });
-      newest = newest_replied d d.progress m reply (told_by tries) refl;
-      calls = (is_call_for by_size lent task d tries kept there asked wishes asks, kept.calls);
+      end = end_replied d m reply (told_by tries) refl refl kept.end;
+      calls = (is_call_for by_size lent task d tries kept there asked wishes, kept.calls);
+      made = made_now;
+      turned = turned_now;
     }
 
 -- the end comes once
@@ -733,8 +777,10 @@ module _ (lent : List (List ℕ)) (task : Task) (d : DriverState) (tries : List 
     order = kept.order;
     fit = kept.fit;
     last = kept.last;
-    newest = kept.newest;
+    end = kept.end;
     calls = kept.calls;
+    made = kept.made;
+    turned = kept.turned;
   }
     where
       open_missed : (b : Bool) → OpenAt lent b d (sent_by tries) → OpenAt lent b (missed losses faults d) (sent_by tries)
@@ -760,8 +806,10 @@ module _ (lent : List (List ℕ)) (task : Task) (d : DriverState) (tries : List 
     order = kept.order;
     fit = kept.fit;
     last = last_asked d d.progress (Worked None ∷ tries) (λ call_no is. cc (sym wishes ∙ is));
-    newest = kept.newest;
+    end = kept.end;
     calls = kept.calls;
+    made = kept.made;
+    turned = kept.turned;
   }
 
   -- a unit with its status
@@ -782,8 +830,10 @@ module _ (lent : List (List ℕ)) (task : Task) (d : DriverState) (tries : List 
     order = kept.order;
     fit = kept.fit;
     last = last_worked d d.progress status (Worked (Some status) ∷ tries) wishes;
-    newest = tt;
+    end = end_worked d status (told_by tries) wishes kept.told kept.end;
     calls = kept.calls;
+    made = kept.made;
+    turned = kept.turned;
   }
     where
       open_worked : (b : Bool) → OpenAt lent b d (sent_by tries) → OpenAt lent b (worked status d) (sent_by tries)
@@ -814,8 +864,10 @@ module _ (lent : List (List ℕ)) (task : Task) (d : DriverState) (tries : List 
     order = λ rounds. kept.order (rounds_before round d can rounds).0;
     fit = λ rounds. kept.fit (rounds_before round d can rounds).0;
     last = last_begun round d tries kept.last;
-    newest = newest_begun task.campaign round d tries can kept.order kept.newest;
+    end = end_begins task.campaign round d tries can kept.order;
     calls = kept.calls;
+    made = made_begun d.is_open kept.pending;
+    turned = turned_begun round can;
   }
     where
       count_begun : (b : Bool) → d.number + (if b then 1 else 0) ≡ task.first + length (sent_by tries)
@@ -826,6 +878,29 @@ module _ (lent : List (List ℕ)) (task : Task) (d : DriverState) (tries : List 
       more : (b : Bool) → d.number ≤ (if b then d.number + 1 else d.number)
       more true = omega arith
       more false = omega arith
+
+      made_begun : (b : Bool) → OpenAt lent b d (sent_by tries) → IsBeforeEnd (Some round)
+          → AreRounds task.campaign task.epoch task.first (step_bytes lent task.steps) (if b then d.number + 1 else d.number)
+          (made_in (told_by tries)) (replies_by tries)
+      made_begun true pending rounds =
+          absurd (not_open round d can rounds pending.asked pending.begun pending.wish)
+      made_begun false pending rounds = kept.made (rounds_before round d can rounds).0
+
+      turned_begun : (r : Round) → CanBegin r d → IsEndRound (Some r)
+          → AreTurned task.campaign task.epoch task.first (step_bytes lent task.steps) (if d.is_open then d.number + 1 else d.number)
+          (made_in (told_by tries))
+      turned_begun (Round.End commit) begins end =
+          let made = kept.made begins in
+          let now : (if d.is_open then d.number + 1 else d.number) + 0 ≡ task.first + length (sent_by tries) =
+          count_begun d.is_open kept.count in
+          let later = more d.is_open in
+          turned task.campaign task.epoch task.first (step_bytes lent task.steps) d.number (length (sent_by tries)) (made_in (told_by tries))
+          (replies_by tries) made (omega (arith, made.count, now, later))
+          (if d.is_open then d.number + 1 else d.number) (omega (arith, now))
+      turned_begun Round.Sync begins end = absurd end
+      turned_begun Round.Transfer begins end = absurd end
+      turned_begun Round.Process begins end = absurd end
+      turned_begun Round.Activate begins end = absurd end
 
 -- a driver as it was made
 pub kept_fresh : (lent : List (List ℕ)) (task : Task)
@@ -847,6 +922,8 @@ kept_fresh lent task sound = record {
   order = λ rounds. tt;
   fit = λ rounds accepted. tt;
   last = tt;
-  newest = tt;
+  end = λ commit here. absurd (cc here);
   calls = tt;
+  made = λ rounds. none_made task.campaign task.epoch task.first (step_bytes lent task.steps);
+  turned = λ end. absurd end;
 }

@@ -4,9 +4,11 @@ pub mod Stages
 pub mod Allowed
 pub mod Placed
 pub mod Ends
+pub mod Making
 pub mod Kept
 pub mod Journeys
 pub mod Findings
 pub mod Misses
 pub mod Units
+pub mod Turns
 pub mod Sending

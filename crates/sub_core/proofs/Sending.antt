@@ -4,7 +4,6 @@ use Rattle.std.proofs.lemmas.Bool.Decides.{nat_tests}
 use Rattle.std.specs.List.{AllByRecursion}
 use Rattle.ucm_base.specs.declared.ids.CallNo.{CallNo}
 use Rattle.pm_types.specs.declared.replies.Reply.{Reply}
-use Rattle.pm_types.specs.declared.replies.Reply.TheVariants.{Synced}
 use Rattle.campaign_core.specs.Nodes.{flag_of}
 use Rattle.campaign_core.specs.declared.events.Phase.{Phase}
 use Rattle.campaign_core.specs.declared.fold.Current.{Current}
@@ -20,17 +19,18 @@ use Rattle.sub_core.specs.declared.answers.Todo.{Todo}
 use Rattle.sub_core.specs.declared.progress.EndProgress.{EndProgress}
 use Rattle.sub_core.specs.declared.progress.Progress.{Progress}
 use Rattle.sub_core.specs.declared.progress.Wish.{Wish}
-use Rattle.sub_core.specs.Calls.{AreThere, call_of, step_bytes}
-use Rattle.sub_core.specs.Driving.{is_over, next_no, round_step, todo, todo_for, wish, wish_at, IsBeforeEnd}
+use Rattle.sub_core.specs.Calls.{call_of, step_bytes}
+use Rattle.sub_core.specs.Driving.{at_shown, is_over, next_no, round_step, todo, todo_for, wish, wish_at, IsBeforeEnd}
+use Rattle.sub_core.specs.Ending.{end_at}
 use Rattle.sub_core.specs.Evidence.{EndIsFound}
 use Rattle.sub_core.specs.Given.{AreGiven, Given, IsTask, Task, after, attempts, message_of, sent_of, told_of}
 use Rattle.sub_core.specs.Sends.{AreEarlier, AreNumbered, CallsAreNext, IsAgain, IsAtEnd, IsInRound, IsMasters, IsNew, RepliesAreRead, SendsAreAllowed, decision_of, phase_of}
 use Rattle.sub_core.specs.States.{DriverState, size_at}
 use Rattle.sub_core.proofs.Allowed.{at_of_todo, early_at, late_told}
-use Rattle.sub_core.proofs.Ends.{ByNewest, end_sync_decided, rest_shown}
+use Rattle.sub_core.proofs.Ends.{end_sync_decided, rest_shown}
 use Rattle.sub_core.proofs.Journeys.{Stands, stands}
-use Rattle.sub_core.proofs.Kept.{FollowsAt, IsEndRound, IsKept, IsOpen, IsWithin, OpenAt, ToldBelow, early_at_round, not_ending, not_epoch, untold, no_end}
-use Rattle.sub_core.proofs.Stages.{IsCalling, asks_next, calls_of_wish, wish_of_todo}
+use Rattle.sub_core.proofs.Kept.{FollowsAt, IsEndRound, IsKept, IsOpen, OpenAt, ToldBelow, early_at_round, early_call, not_ending, not_epoch, untold, no_end}
+use Rattle.sub_core.proofs.Stages.{IsCalling, calls_of_wish, wish_of_todo}
 
 -- the round of a call has come
 
@@ -169,21 +169,6 @@ follow_decided false false true decided is = refl
 follow_decided false false false true is = absurd (cc is)
 follow_decided false false false false is = refl
 
-ending_at : (commit : Bool) (p : Progress) → IsWithin (Some (Round.End commit)) p
-    → (end : EndProgress) × (p ≡ Progress.Ending commit end)
-ending_at commit Progress.Sync within = absurd within
-ending_at commit Progress.Transfer within = absurd within
-ending_at commit (Progress.Data id counter left) within = absurd within
-ending_at commit (Progress.Process taken settled) within = absurd within
-ending_at commit Progress.Activating within = absurd (cc within)
-ending_at commit (Progress.Voted Finding.Yes) within = absurd (cc within)
-ending_at commit (Progress.Voted Finding.RolledBack) within = absurd (cc within)
-ending_at commit (Progress.Voted (Finding.Refused call_no why)) within = absurd within
-ending_at commit (Progress.Voted Finding.RoundDone) within = absurd within
-ending_at commit (Progress.Voted (Finding.Unreached losses faults)) within = absurd within
-ending_at commit (Progress.Voted (Finding.Ended call_no)) within = absurd within
-ending_at commit (Progress.Ending c end) within = (end, ap (λ b. Progress.Ending b end) (sym (cc within)))
-
 module _ (by_size : GoesBySize) (got : RepliesAreGot) (lent : List (List ℕ)) (task : Task) (gs : List Given)
     (is : IsTask lent task) (given_ : AreGiven task gs) (packages : Packages) (n : ℕ)
     (of_node : packages task.campaign n ≡ step_bytes lent task.steps) (earlier : List Message)
@@ -291,13 +276,8 @@ module _ (by_size : GoesBySize) (got : RepliesAreGot) (lent : List (List ℕ)) (
             let call = calls_of_wish d d.progress asked wishes early in
             let replies : replies_of task.campaign told (sent ++ earlier) ≡ replies_by tries =
             replies_are_read by_size got lent task gs is given_ in_rounds earlier before in
-            let next : call_at task.campaign (stage_of (step_bytes lent task.steps) AtSync (replies_by tries)) ≡ Some m.call =
-            subst (λ k. call_at k (stage_of (step_bytes lent task.steps) AtSync (replies_by tries)) ≡ Some m.call)
-            kept.campaign
-            (subst (λ steps. call_at d.campaign (stage_of (step_bytes lent steps) AtSync (replies_by tries)) ≡ Some m.call)
-            kept.steps
-            (asks_next by_size lent d (replies_by tries) kept.sound kept.stands
-            (subst (AreThere lent) (sym kept.steps) is.there) early (next_no d) asked asks)) in
+            let next = early_call by_size lent task d tries kept is.there asked wishes
+            (early_at_round d.round d.progress in_rounds kept.within) in
             let over = over_at d d.progress asked call.0 wishes in
             subst (λ x. MaySendBy packages d.epoch n c x told (sent ++ earlier) m.call) (sym master.undecided) (record {
               no_mark = master.no_mark;
@@ -352,9 +332,8 @@ module _ (by_size : GoesBySize) (got : RepliesAreGot) (lent : List (List ℕ)) (
       allowed_at Round.Process here master = in_round Round.Process here tt master
       allowed_at Round.Activate here master = in_round Round.Activate here tt master
       allowed_at (Round.End commit) here master =
-          let end = ending_at commit d.progress (subst (λ r. IsWithin r d.progress) here kept.within) in
           allowed_if d.is_open refl kept.pending master.named master.campaign (λ e. ap is_some master.decided)
-          (late_by (Round.End commit) here commit end.0 end.1 master)
+          (late_by (Round.End commit) here commit (end_at commit told) (kept.end commit here) master)
 
 -- each call that a driver asks for is allowed
 pub sends_are_allowed : GoesBySize → RepliesAreGot → SendsAreAllowed
@@ -373,14 +352,13 @@ sends_are_allowed by_size got lent task gs is given_ packages n of_node earlier 
 pub end_is_found : GoesBySize → EndIsFound
 end_is_found by_size lent task gs is given_ commit here m shown older told of_end free none =
     let d = after task gs in
-    let kept = (stands by_size lent task is gs given_).kept in
-    let end = ending_at commit d.progress (subst (λ r. IsWithin r d.progress) here kept.within) in
-    let newest : ByNewest (Answered m (Synced shown) ∷ older) (Progress.Ending commit end.0) =
-    subst (λ ts. ByNewest ts (Progress.Ending commit end.0)) told
-    (subst (ByNewest (told_of lent task gs)) end.1 kept.newest) in
-    let at : end.0 ≡ EndProgress.Rest m.at =
-    newest (end_sync_decided task.campaign task.epoch m of_end) ∙ rest_shown commit m.at shown free none in
-    ap (λ p. todo_for d (wish_at d p)) (end.1 ∙ ap (Progress.Ending commit) at)
+    let at : end_at commit (told_of lent task gs) ≡ EndProgress.Rest m.at =
+    ap (end_at commit) told
+    ∙ (ap (λ b. if b then at_shown commit m.at shown else EndProgress.Call SendStep.Sync)
+    (end_sync_decided task.campaign task.epoch m of_end)
+    ∙ rest_shown commit m.at shown free none) in
+    ap (λ p. todo_for d (wish_at d p))
+    ((stands by_size lent task is gs given_).kept.end commit here ∙ ap (Progress.Ending commit) at)
 
 -- each call is one for the replies before it
 pub calls_are_next : GoesBySize → CallsAreNext

@@ -416,10 +416,10 @@ call_seen packages d (Progress.Ending commit at) calling placed = absurd calling
 
 pub asks_next : GoesBySize → (packages : List (List ℕ)) (d : DriverState) (replies : List Reply) → IsSound d
     → StandsFor d replies → AreThere packages d.steps → (IsEnding d.progress → ⊥)
-    → (at : CallNo) (asked : SendStep) → todo d ≡ Todo.Send at asked
+    → (asked : SendStep) → wish d ≡ Wish.Send asked
     → call_at d.campaign (stage_of (step_bytes packages d.steps) AtSync replies) ≡ Some (call_of packages asked)
-asks_next by_size packages d replies sound stands there early at asked is =
-    let call = calls_of_wish d d.progress asked (wish_of_todo d (wish d) at asked is) early in
+asks_next by_size packages d replies sound stands there early asked is =
+    let call = calls_of_wish d d.progress asked is early in
     by_size.calls d.campaign (step_bytes packages d.steps) replies
     ∙ (ap
     (λ s. option_map (world_call d.campaign (step_bytes packages d.steps)) (step_at s))

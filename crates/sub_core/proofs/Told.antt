@@ -16,7 +16,7 @@ use Rattle.sub_core.specs.declared.progress.EndProgress.{EndProgress}
 use Rattle.sub_core.specs.declared.progress.Progress.{Progress}
 use Rattle.sub_core.specs.Calls.{call_of}
 use Rattle.sub_core.specs.Driving.{status_of}
-use Rattle.sub_core.specs.Evidence.{IsActivating, IsOwned}
+use Rattle.sub_core.specs.Evidence.{IsActivating}
 use Rattle.sub_core.specs.Given.{message_of, reply_got}
 use Rattle.sub_core.specs.Sends.{decision_of}
 use Rattle.sub_core.specs.States.{DriverState}
@@ -35,6 +35,12 @@ told_after packages d (Todo.Send call_no asked) got told =
     told_reply (message_of packages d call_no asked) (reply_got asked got) told
 told_after packages d Todo.Unit got told = told_unit got told
 told_after packages d (Todo.Rest finding) got told = told
+
+-- the last Sync of the end phase showed a session of the master
+pub record IsOwned (k epoch : ℕ) (told : List Told) : Type 0 where
+  pub shown : Shown
+  pub last : last_shown k epoch told ≡ Some shown
+  pub session : is_masters shown.session ≡ true
 
 -- the newest that was told is this reply to the call of this number
 pub record IsNewest (call_no : CallNo) (reply : Reply) (told : List Told) : Type 0 where
@@ -66,8 +72,8 @@ pub record IsAllowed (k epoch : ℕ) (commit : Bool) (asked : SendStep) (told : 
 
 -- the evidence of a finding
 abbrev pub Found : ℕ → ℕ → Finding → List Told → Type 0
-Found k epoch Finding.Yes told = showed_after_activate Activated told ≡ true
-Found k epoch Finding.RolledBack told = showed_after_activate RolledBack told ≡ true
+Found k epoch Finding.Yes told = (showed_after_activate Activated told ≡ true) × (has_refusal told ≡ false)
+Found k epoch Finding.RolledBack told = (showed_after_activate RolledBack told ≡ true) × (has_refusal told ≡ false)
 Found k epoch (Finding.Refused call_no why) told = IsNewest call_no (Refused why) told
 Found k epoch (Finding.Ended call_no) told = IsAtRest k epoch call_no told
 Found k epoch _ told = ⊤

@@ -1,5 +1,5 @@
 -- Why a driver rests.
-use Rattle.std.specs.Prelude.{◌≡◌, ◌⊎◌, ℕ, ◌≤◌, ⊤, Bool, true, false, List, [], ◌∷◌, ◌++◌, length, min, Some}
+use Rattle.std.specs.Prelude.{◌≡◌, ◌⊎◌, ◌↔◌, ℕ, ◌≤◌, ⊤, Bool, true, false, List, [], ◌∷◌, ◌++◌, length, min, Some}
 use Rattle.ucm_base.specs.Limits.{attempt_limit}
 use Rattle.ucm_base.specs.declared.ids.CallNo.{CallNo}
 use Rattle.pm_types.specs.declared.replies.Reply.{Reply}
@@ -12,14 +12,16 @@ use Rattle.world.specs.Evidence.{EndEvidence, VoteEvidence}
 use Rattle.world.specs.Messages.{Message, Told, Answered}
 use Rattle.world.specs.RoundCalls.{calls_until, ids_of, is_past, AllFit}
 use Rattle.world.specs.Rounds.{AtSync, stage_of}
-use Rattle.world.specs.Sends.{activate_done, has_refusal, is_end_sync, is_masters, is_settled, last_shown, showed_after_activate}
+use Rattle.world.specs.Sends.{activate_done, has_refusal, is_end_sync, is_masters, is_settled, showed_after_activate}
 use Rattle.sub_core.specs.declared.answers.Finding.{Finding}
 use Rattle.sub_core.specs.declared.answers.Got.{Got}
 use Rattle.sub_core.specs.declared.answers.Rises.{Rises}
 use Rattle.sub_core.specs.declared.answers.Round.{Round}
 use Rattle.sub_core.specs.declared.answers.Todo.{Todo}
 use Rattle.sub_core.specs.Calls.{step_bytes}
-use Rattle.sub_core.specs.Driving.{is_answer, step, todo, unanswered, IsBeforeEnd}
+use Rattle.sub_core.specs.Driving.{is_answer, is_missed, step, todo, unanswered, IsBeforeEnd}
+use Rattle.sub_core.specs.declared.progress.EndProgress.{EndProgress}
+use Rattle.sub_core.specs.Ending.{end_at}
 use Rattle.sub_core.specs.Failures.{faults_in, last_count, losses_in}
 use Rattle.sub_core.specs.Given.{AreGiven, Begun, Gave, GaveNothing, Given, IsTask, Task, after, is_asked, replies_to, sent_of, told_of}
 use Rattle.sub_core.specs.Sends.{phase_of}
@@ -120,26 +122,20 @@ IsActivating told =
 
 -- a package was accepted into processing, and since then the node wasn't seen not to work
 abbrev pub IsProcessing : List Told → Type 0
-IsProcessing told = (has_refusal told ≡ false) × (is_settled told ≡ false)
-
--- the last Sync of the end phase showed a session of the master
-pub record IsOwned (k epoch : ℕ) (told : List Told) : Type 0 where
-  pub shown : Shown
-  pub last : last_shown k epoch told ≡ Some shown
-  pub session : is_masters shown.session ≡ true
+IsProcessing told = (has_refusal told ≡ false) × (is_settled told ≡ false) × (activate_done told ≡ false)
 
 -- the node has something to do
-abbrev pub IsUnitDue : ℕ → ℕ → Round → List Told → Type 0
-IsUnitDue k epoch (Round.End commit) told = IsOwned k epoch told
-IsUnitDue k epoch Round.Activate told = IsProcessing told ⊎ IsActivating told
-IsUnitDue k epoch round told = IsProcessing told
+abbrev pub IsUnitDue : Round → List Told → Type 0
+IsUnitDue (Round.End commit) told = end_at commit told ≡ EndProgress.Units
+IsUnitDue Round.Activate told = IsProcessing told ⊎ IsActivating told
+IsUnitDue round told = IsProcessing told
 
--- units are asked for only there
+-- units are asked for exactly there, unless they were missed too often
 abbrev pub UnitsAreDue : Type 0
 UnitsAreDue =
     (lent : List (List ℕ)) (task : Task) (gs : List Given) → IsTask lent task → AreGiven task gs
     → (round : Round) → (after task gs).round ≡ Some round
-    → todo (after task gs) ≡ Todo.Unit → IsUnitDue task.campaign task.epoch round (told_of lent task gs)
+    → (todo (after task gs) ≡ Todo.Unit) ↔ (IsUnitDue round (told_of lent task gs) × (is_missed (after task gs) ≡ false))
 
 -- whether an attempt failed
 abbrev pub is_miss : Got → Bool

@@ -7,4 +7,6 @@ pub mod Subordinates
 pub mod Made
 pub mod Given
 pub mod Sends
+pub mod Ending
 pub mod Evidence
+pub mod Turns

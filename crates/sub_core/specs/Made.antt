@@ -1,11 +1,12 @@
 -- Calls with their replies, as the master makes them at one node: those of the rounds, then those of the end phase.
-use Rattle.std.specs.Prelude.{◌≡◌, ℕ, zero, suc, ◌+◌, Bool, true, false, not, ◌&&◌, IsTrue, List, [], ◌∷◌, map, length, take}
+use Rattle.std.specs.Prelude.{◌≡◌, ℕ, zero, suc, ◌+◌, ◌≤◌, Bool, true, false, not, ◌&&◌, IsTrue, List, [], ◌∷◌, ◌++◌, map, length, take}
+use Rattle.std.specs.List.{AllByRecursion}
 use Rattle.ucm_base.specs.declared.ids.CallNo.{CallNo}
 use Rattle.pm_types.specs.declared.calls.Call.{Call}
 use Rattle.pm_types.specs.declared.calls.Call.TheVariants.{Sync, DeleteTransfer, Finish, Rollback, RevertProcessedSwPackages as Revert}
 use Rattle.pm_types.specs.declared.replies.Reply.{Reply}
 use Rattle.pm_types.specs.declared.replies.Reply.TheVariants.{Synced}
-use Rattle.world.specs.Messages.{is_refusal, is_sync}
+use Rattle.world.specs.Messages.{Message, Told, Answered, Showed, is_refusal, is_sync}
 use Rattle.world.specs.RoundCalls.{round_calls, ids_of}
 use Rattle.world.specs.Sends.{is_masters}
 
@@ -14,6 +15,16 @@ pub record Made : Type 0 where
   pub at : CallNo
   pub call : Call
   pub reply : Reply
+
+-- the call of a message, with its reply
+abbrev pub made_of : Message → Reply → Made
+made_of m reply = record { at = m.at; call = m.call; reply = reply }
+
+-- the calls that were answered, the oldest first
+abbrev pub made_in : List Told → List Made
+made_in [] = []
+made_in (Answered m reply ∷ told) = made_in told ++ made_of m reply ∷ []
+made_in (Showed status ∷ told) = made_in told
 
 -- the ids that the replies gave to transfers
 abbrev pub ids_given : List Made → List ℕ
@@ -31,10 +42,10 @@ only_last_refused [] = true
 only_last_refused (m ∷ []) = true
 only_last_refused (m ∷ n ∷ ms) = not (is_refusal m.reply) && only_last_refused (n ∷ ms)
 
--- the calls of the rounds for these packages, up to some place, in this epoch
-pub record IsOfRounds (k epoch : ℕ) (packages : List (List ℕ)) (made : List Made) : Type 0 where
+-- the calls of the rounds for these packages, up to some place, from this number of this epoch on
+pub record IsOfRounds (k epoch first : ℕ) (packages : List (List ℕ)) (made : List Made) : Type 0 where
   pub calls : map (λ m. m.call) made ≡ take (length made) (round_calls k (ids_given made) packages)
-  pub numbers : map (λ m. m.at) made ≡ numbers_from epoch 1 (length made)
+  pub numbers : map (λ m. m.at) made ≡ numbers_from epoch first (length made)
   pub accepted : IsTrue (only_last_refused made)
 
 -- whether a list is empty
@@ -50,6 +61,22 @@ is_end_call Finish = true
 is_end_call Rollback = true
 is_end_call Revert = true
 is_end_call _ = false
+
+-- a call of the end phase, under a number of this epoch that isn't below this one
+pub record IsOfEnd (epoch from : ℕ) (m : Made) : Type 0 where
+  pub call : IsTrue (is_end_call m.call)
+  pub of_epoch : m.at.epoch ≡ epoch
+  pub later : from ≤ m.at.number
+
+-- first calls of the rounds, which sent so many messages, and then calls of the end phase under later numbers
+pub record AreInTurn (k epoch first : ℕ) (packages : List (List ℕ)) (made : List Made) : Type 0 where
+  pub rounds : List Made
+  pub ends : List Made
+  pub sent : ℕ
+  pub split : made ≡ rounds ++ ends
+  pub of_rounds : IsOfRounds k epoch first packages rounds
+  pub within : length rounds ≤ sent
+  pub of_end : AllByRecursion (IsOfEnd epoch (first + sent)) ends
 
 -- the reply shows no session of client 0 and no transfers
 abbrev pub shows_rest : Reply → Bool

@@ -1,6 +1,7 @@
 //! The laws of drivers.
 ghost use Rattle.sub_core.specs.Evidence.{DoneIsFound, EndIsFound, FindingsAreShown, MissesAreKept, OthersLeaveAll, RepliesFit, UnitsAreDue, UnreachedIsFound};
 ghost use Rattle.sub_core.specs.Sends.{CallsAreNext, RepliesAreRead, SendsAreAllowed, SendsAreNumbered};
+ghost use Rattle.sub_core.specs.Turns.{CallsAreInTurn, EndIsAsked, EndIsMade, RoundsAreMade, VotesAreMade};
 
 use world::campaign_law;
 
@@ -19,6 +20,11 @@ pub fn driver_law()
     ensures calls { CallsAreNext }
     ensures read { RepliesAreRead }
     ensures fit { RepliesFit }
+    ensures rounds { RoundsAreMade }
+    ensures votes { VotesAreMade }
+    ensures turns { CallsAreInTurn }
+    ensures at_end { EndIsAsked }
+    ensures rest { EndIsMade }
 {
     campaign_law();
 }

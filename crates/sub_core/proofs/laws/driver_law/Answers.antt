@@ -1,6 +1,7 @@
 use Rattle.sub_core.proofs.Findings.{done_is_found, findings_are_shown, misses_are_kept, replies_fit, sends_are_numbered}
 use Rattle.sub_core.proofs.Misses.{unreached_is_found}
 use Rattle.sub_core.proofs.Sending.{calls_are_next, end_is_found, replies_are_read, sends_are_allowed}
+use Rattle.sub_core.proofs.Turns.{calls_are_in_turn, end_is_asked, end_is_made, rounds_are_made, votes_are_made}
 use Rattle.sub_core.proofs.Units.{others_leave_all, units_are_due}
 use Rattle.sub_core.proofs.laws.driver_law.Goals as goal
 
@@ -20,4 +21,9 @@ returns c =
       calls = calls_are_next law.by_size;
       read = replies_are_read law.by_size law.attempts;
       fit = replies_fit law.by_size;
+      rounds = rounds_are_made law.by_size;
+      votes = votes_are_made law.by_size law.ends;
+      turns = calls_are_in_turn law.by_size;
+      at_end = end_is_asked law.by_size;
+      rest = end_is_made law.by_size;
     }
