@@ -30,13 +30,13 @@ use Rattle.sub_core.specs.declared.progress.Wish.{Wish}
 use Rattle.sub_core.specs.Calls.{AreThere, call_of, step_bytes}
 use Rattle.sub_core.specs.Driving.{begun, end_step, end_wish, fresh, is_answer, is_missed, is_over, missed, next_no, opened, progress_after, replied, round_step, settled_after, todo, wish, wish_at, worked, CanBegin, IsBeforeEnd, IsEnding}
 use Rattle.sub_core.specs.Evidence.{AreVain, misses_in}
-use Rattle.sub_core.specs.Made.{is_end_call, made_in, made_of}
+use Rattle.sub_core.specs.Made.{is_end_call, made_early, made_in, made_late, made_of, sent_early}
 use Rattle.sub_core.specs.Given.{Given, Task, after, is_ending, message_of}
 use Rattle.sub_core.specs.Sends.{AreCallsFor, AreNumbered, IsCallFor, decision_of}
 use Rattle.sub_core.specs.States.{DriverState, IsPlaced, IsPlacedEnd, IsSound, number_limit}
 use Rattle.sub_core.proofs.Allowed.{early_at, told_begun, told_replied, told_worked}
-use Rattle.sub_core.proofs.Ends.{IsEndAt, end_begins, end_replied, end_worked}
-use Rattle.sub_core.proofs.Making.{AreRounds, AreTurned, are_accepted, end_more, neither, none_made, one_more, some_bytes, turned}
+use Rattle.sub_core.proofs.Ends.{IsEndAt, end_begins, not_begun, end_replied, end_worked}
+use Rattle.sub_core.proofs.Making.{AreRounds, AreTurned, all_sent_early, are_accepted, end_more, neither, none_made, one_more, some_bytes, turned, with_late}
 use Rattle.sub_core.proofs.Placed.{sound_begun, sound_missed, sound_opened, sound_replied, sound_worked}
 use Rattle.sub_core.proofs.Rounds.{StandsFor}
 use Rattle.sub_core.proofs.Stages.{asks_next, done_of_todo, stands_begun, stands_replied, stands_worked}
@@ -134,7 +134,8 @@ pub record IsKept (lent : List (List ℕ)) (task : Task) (d : DriverState) (atte
       (made_in (told_by attempts)) (replies_by attempts)
   pub turned : IsEndRound d.round
       → AreTurned task.campaign task.epoch task.first (step_bytes lent task.steps) d.number
-      (made_in (told_by attempts))
+      (made_in (told_by attempts)) (made_early (told_by attempts)) (made_late (told_by attempts))
+      (sent_early (sent_by attempts))
 
 -- numbers and what was told
 
@@ -611,6 +612,18 @@ module _ (lent : List (List ℕ)) (task : Task) (d : DriverState) (tries : List 
   in_order reply rounds =
       (kept.campaign, early_at_round d.round d.progress rounds kept.within, now.may, kept.order rounds)
 
+  is_late : IsEndRound d.round → is_ending d.progress ≡ true
+  is_late end = let round = end_round d.round end in ap is_ending (kept.end round.0 round.1)
+
+  turned_opened : IsEndRound d.round
+      → AreTurned task.campaign task.epoch task.first (step_bytes lent task.steps) d.number (made_in (told_by tries))
+      (made_early (told_by tries)) (made_late (told_by tries)) (sent_early (with_sent m (sent_by tries)))
+  turned_opened end =
+      subst
+      (AreTurned task.campaign task.epoch task.first (step_bytes lent task.steps) d.number (made_in (told_by tries))
+      (made_early (told_by tries)) (made_late (told_by tries)))
+      (sym (with_late m (sent_by tries) (is_late end))) (kept.turned end)
+
   -- an attempt without an answer
   pub kept_opened : d.number < number_limit → IsKept lent task (opened d) (Tried m None ∷ tries)
   kept_opened left = record {
@@ -637,7 +650,7 @@ module _ (lent : List (List ℕ)) (task : Task) (d : DriverState) (tries : List 
         subst
         (AreRounds task.campaign task.epoch task.first (step_bytes lent task.steps) d.number (made_in (told_by tries)))
         (sym (append-nil (replies_by tries))) (kept.made rounds);
-    turned = kept.turned;
+    turned = turned_opened;
   }
 
   module _ (reply : Reply) (fits : is_answer asked reply ≡ true) where
@@ -669,13 +682,16 @@ module _ (lent : List (List ℕ)) (task : Task) (d : DriverState) (tries : List 
         (kept.made rounds) some (kept.fit rounds accepted) (are_accepted (told_by tries) accepted) m at_now
         (early_call by_size lent task d tries kept there asked wishes early) reply
 
+    abbrev answered : List Told
+    answered = Answered m reply ∷ told_by tries
+
     turned_now : IsEndRound d.round
-        → AreTurned task.campaign task.epoch task.first ps (d.number + 1) (made_in (told_by tries) ++ made_of m reply ∷ [])
+        → AreTurned task.campaign task.epoch task.first ps (d.number + 1) (made_in answered) (made_early answered)
+        (made_late answered) (sent_early (with_sent m (sent_by tries)))
     turned_now end =
-        let round = end_round d.round end in
-        let late : is_ending d.progress ≡ true = ap is_ending (kept.end round.0 round.1) in
-        end_more task.campaign task.epoch task.first ps d.number (made_in (told_by tries)) (kept.turned end) m at_now
-        (subst (λ b. IsCallFor task.campaign ps b m.call (replies_by tries)) late
+        end_more task.campaign task.epoch task.first ps d.number (sent_early (with_sent m (sent_by tries)))
+        (told_by tries) (turned_opened end) m (is_late end) at_now
+        (subst (λ b. IsCallFor task.campaign ps b m.call (replies_by tries)) (is_late end)
         (is_call_for by_size lent task d tries kept there asked wishes)) reply
 
     -- an attempt with its reply
@@ -888,15 +904,22 @@ module _ (lent : List (List ℕ)) (task : Task) (d : DriverState) (tries : List 
 
       turned_begun : (r : Round) → CanBegin r d → IsEndRound (Some r)
           → AreTurned task.campaign task.epoch task.first (step_bytes lent task.steps) (if d.is_open then d.number + 1 else d.number)
-          (made_in (told_by tries))
+          (made_in (told_by tries)) (made_early (told_by tries)) (made_late (told_by tries))
+          (sent_early (sent_by tries))
       turned_begun (Round.End commit) begins end =
           let made = kept.made begins in
           let now : (if d.is_open then d.number + 1 else d.number) + 0 ≡ task.first + length (sent_by tries) =
           count_begun d.is_open kept.count in
           let later = more d.is_open in
-          turned task.campaign task.epoch task.first (step_bytes lent task.steps) d.number (length (sent_by tries)) (made_in (told_by tries))
-          (replies_by tries) made (omega (arith, made.count, now, later))
-          (if d.is_open then d.number + 1 else d.number) (omega (arith, now))
+          let order = kept.order begins in
+          subst
+          (AreTurned task.campaign task.epoch task.first (step_bytes lent task.steps)
+          (if d.is_open then d.number + 1 else d.number) (made_in (told_by tries)) (made_early (told_by tries))
+          (made_late (told_by tries)))
+          (sym (all_sent_early task.campaign tries order))
+          (turned task.campaign task.epoch task.first (step_bytes lent task.steps) d.number (length (sent_by tries))
+          (told_by tries) (replies_by tries) made (not_begun task.campaign tries order)
+          (omega (arith, made.count, now, later)) (if d.is_open then d.number + 1 else d.number) (omega (arith, now)))
       turned_begun Round.Sync begins end = absurd end
       turned_begun Round.Transfer begins end = absurd end
       turned_begun Round.Process begins end = absurd end

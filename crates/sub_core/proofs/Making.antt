@@ -1,9 +1,12 @@
 -- The calls that were answered: first those of the rounds, then those of the end phase.
-use Rattle.std.proofs.Common.{◌≡◌, ◌≢◌, ℕ, zero, suc, ◌+◌, ◌<◌, ◌≤◌, Bool, true, false, not, ◌&&◌, ◌||◌, IsTrue, List, [], ◌∷◌, ◌++◌, map, length, take, Some, refl, sym, ap, subst, ◌∙◌, arith, append-nil}
+use Rattle.std.proofs.Common.{◌≡◌, ◌≢◌, ℕ, zero, suc, ◌+◌, ◌<◌, ◌≤◌, Bool, true, false, not, ◌&&◌, ◌||◌, if◌then◌else◌, IsTrue, List, [], ◌∷◌, ◌++◌, map, length, take, Some, refl, sym, ap, subst, ◌∙◌, arith, append-nil}
 use Rattle.std.proofs.lemmas.List.{length-map, map-append}
 use Rattle.std.specs.List.{AllByRecursion, slice_get}
 use Rattle.pm_types.specs.declared.replies.Reply.{Reply}
 use Rattle.pm_types.specs.declared.replies.Reply.TheVariants.{Done, Started, Synced, Refused}
+use Rattle.std.specs.Ordering.{is_eq}
+use Rattle.pm_types.specs.Steps.{call_no_cmp}
+use Rattle.world.specs.Attempts.{Attempt, Tried, Worked, AreInOrder, sent_by, with_sent}
 use Rattle.world.specs.Messages.{Message, Told, Answered, Showed, is_refusal}
 use Rattle.world.specs.RoundCalls.{AllFit, ids_of, round_calls}
 use Rattle.world.specs.Rounds.{Stage, AtSync, call_at, onward, stage_of}
@@ -12,7 +15,8 @@ use Rattle.world.proofs.Names.{append_assoc}
 use Rattle.world.proofs.RoundList.{IsReached, one-on, processed-is, reached-on, rest_of}
 use Rattle.sub_core.specs.declared.answers.PackageSize.{PackageSize}
 use Rattle.sub_core.specs.Calls.{step_bytes}
-use Rattle.sub_core.specs.Made.{AreInTurn, IsOfEnd, IsOfRounds, Made, ids_given, is_end_call, made_in, made_of, numbers_from, only_last_refused}
+use Rattle.sub_core.specs.Ending.{has_end_answer}
+use Rattle.sub_core.specs.Made.{IsOfEnd, IsOfRounds, Made, ids_given, is_end_call, made_early, made_in, made_late, made_of, numbers_from, only_last_refused, sent_early}
 
 -- lists that grow at their end
 
@@ -68,6 +72,51 @@ are_accepted (Answered m reply ∷ told) accepted =
     let both = neither (is_refusal reply) (has_refusal told) accepted in
     all_snoc (λ x. is_refusal x.reply ≡ false) (made_in told) (made_of m reply) (are_accepted told both.1) both.0
 are_accepted (Showed status ∷ told) accepted = are_accepted told accepted
+
+-- messages before the decision
+
+all_early : (told : List Told) → has_end_answer told ≡ false
+    → (made_early told ≡ made_in told) × (made_late told ≡ [])
+all_early [] early = (refl, refl)
+all_early (Answered m reply ∷ told) early =
+    let both = neither m.decided (has_end_answer told) early in
+    let older = all_early told both.1 in
+    let x = made_of m reply in (
+      ap (λ b. if b then made_early told else made_early told ++ x ∷ []) both.0 ∙ ap (λ l. l ++ x ∷ []) older.0,
+      ap (λ b. if b then made_late told ++ x ∷ [] else made_late told) both.0 ∙ older.1,
+    )
+all_early (Showed status ∷ told) early = all_early told early
+
+early_if : (m newest : Message) (sent : List Message) (b : Bool) → m.decided ≡ false
+    → sent_early (newest ∷ sent) ≡ suc (length sent)
+    → sent_early (if b then newest ∷ sent else m ∷ newest ∷ sent) ≡ length (if b then newest ∷ sent else m ∷ newest ∷ sent)
+early_if m newest sent true early all = all
+early_if m newest sent false early all =
+    ap (λ b. if b then sent_early (newest ∷ sent) else suc (sent_early (newest ∷ sent))) early ∙ ap suc all
+
+with_early : (m : Message) (sent : List Message) → m.decided ≡ false → sent_early sent ≡ length sent
+    → sent_early (with_sent m sent) ≡ length (with_sent m sent)
+with_early m [] early all = ap (λ b. if b then 0 else 1) early
+with_early m (newest ∷ sent) early all = early_if m newest sent (is_eq (call_no_cmp newest.at m.at)) early all
+
+pub all_sent_early : (k : ℕ) (attempts : List Attempt) → AreInOrder k attempts
+    → sent_early (sent_by attempts) ≡ length (sent_by attempts)
+all_sent_early k [] order = refl
+all_sent_early k (Tried m reply ∷ attempts) order =
+    with_early m (sent_by attempts) order.1 (all_sent_early k attempts order.3)
+all_sent_early k (Worked status ∷ attempts) order = all_sent_early k attempts order
+
+late_if : (m newest : Message) (sent : List Message) (b : Bool) → m.decided ≡ true
+    → sent_early (if b then newest ∷ sent else m ∷ newest ∷ sent) ≡ sent_early (newest ∷ sent)
+late_if m newest sent true late = refl
+late_if m newest sent false late =
+    ap (λ b. if b then sent_early (newest ∷ sent) else suc (sent_early (newest ∷ sent))) late
+
+-- one after it is no message of the rounds
+pub with_late : (m : Message) (sent : List Message) → m.decided ≡ true
+    → sent_early (with_sent m sent) ≡ sent_early sent
+with_late m [] late = ap (λ b. if b then 0 else 1) late
+with_late m (newest ∷ sent) late = late_if m newest sent (is_eq (call_no_cmp newest.at m.at)) late
 
 -- ids, whatever replies come later
 
@@ -185,43 +234,51 @@ module _ (k epoch first : ℕ) (ps : List (List ℕ)) where
       }
 
   -- in the end phase the calls of the rounds are those that there were
-  pub record AreTurned (number : ℕ) (made : List Made) : Type 0 where
-    pub turn : AreInTurn k epoch first ps made
-    pub below : first + turn.sent ≤ number
+  pub record AreTurned (number : ℕ) (all early late : List Made) (sent : ℕ) : Type 0 where
+    pub split : all ≡ early ++ late
+    pub of_rounds : IsOfRounds k epoch first ps early
+    pub within : length early ≤ sent
+    pub of_end : AllByRecursion (IsOfEnd epoch (first + sent)) late
+    pub below : first + sent ≤ number
 
-  pub turned : (number sent : ℕ) (made : List Made) (replies : List Reply) → AreRounds number made replies
-      → length made ≤ sent → (now : ℕ) → first + sent ≤ now → AreTurned now made
-  turned number sent made replies are within now below = record {
-    turn = record {
-      rounds = made;
-      ends = [];
-      sent = sent;
-      split = sym (append-nil made);
-      of_rounds = of_rounds number made replies are;
-      within = within;
-      of_end = tt;
-    };
-    below = below;
-  }
-
-  pub end_more : (number : ℕ) (made : List Made) → AreTurned number made
-      → (m : Message) → m.at ≡ record { epoch = epoch; number = number } → is_end_call m.call ≡ true → (reply : Reply)
-      → AreTurned (number + 1) (made ++ made_of m reply ∷ [])
-  end_more number made are m at is reply =
-      let t = are.turn in
+  pub turned : (number sent : ℕ) (told : List Told) (replies : List Reply) → AreRounds number (made_in told) replies
+      → has_end_answer told ≡ false → length (made_in told) ≤ sent → (now : ℕ) → first + sent ≤ now
+      → AreTurned now (made_in told) (made_early told) (made_late told) sent
+  turned number sent told replies are early within now below =
+      let before = all_early told early in
       record {
-        turn = record {
-          rounds = t.rounds;
-          ends = t.ends ++ made_of m reply ∷ [];
-          sent = t.sent;
-          split = ap (λ l. l ++ made_of m reply ∷ []) t.split ∙ append_assoc t.rounds t.ends (made_of m reply ∷ []);
-          of_rounds = t.of_rounds;
-          within = t.within;
-          of_end = all_snoc (IsOfEnd epoch (first + t.sent)) t.ends (made_of m reply) t.of_end (record {
-            call = is;
-            of_epoch = ap (λ a. a.epoch) at;
-            later = subst (λ n. first + t.sent ≤ n) (sym (ap (λ a. a.number) at)) are.below;
-          });
-        };
+        split = sym (append-nil (made_in told))
+            ∙ (ap (λ l. made_in told ++ l) (sym before.1) ∙ ap (λ l. l ++ made_late told) (sym before.0));
+        of_rounds = subst (IsOfRounds k epoch first ps) (sym before.0) (of_rounds number (made_in told) replies are);
+        within = subst (λ l. length l ≤ sent) (sym before.0) within;
+        of_end = subst (AllByRecursion (IsOfEnd epoch (first + sent))) (sym before.1) tt;
+        below = below;
+      }
+
+  pub end_more : (number sent : ℕ) (told : List Told)
+      → AreTurned number (made_in told) (made_early told) (made_late told) sent
+      → (m : Message) → m.decided ≡ true → m.at ≡ record { epoch = epoch; number = number }
+      → is_end_call m.call ≡ true → (reply : Reply)
+      → AreTurned (number + 1) (made_in (Answered m reply ∷ told)) (made_early (Answered m reply ∷ told))
+      (made_late (Answered m reply ∷ told)) sent
+  end_more number sent told are m decided at is reply =
+      let x = made_of m reply in
+      let early : made_early (Answered m reply ∷ told) ≡ made_early told =
+      ap (λ b. if b then made_early told else made_early told ++ x ∷ []) decided in
+      let late : made_late (Answered m reply ∷ told) ≡ made_late told ++ x ∷ [] =
+      ap (λ b. if b then made_late told ++ x ∷ [] else made_late told) decided in
+      record {
+        split = ap (λ l. l ++ x ∷ []) are.split
+            ∙ (append_assoc (made_early told) (made_late told) (x ∷ [])
+            ∙ (ap (λ l. made_early told ++ l) (sym late)
+            ∙ ap (λ l. l ++ made_late (Answered m reply ∷ told)) (sym early)));
+        of_rounds = subst (IsOfRounds k epoch first ps) (sym early) are.of_rounds;
+        within = subst (λ l. length l ≤ sent) (sym early) are.within;
+        of_end = subst (AllByRecursion (IsOfEnd epoch (first + sent))) (sym late)
+            (all_snoc (IsOfEnd epoch (first + sent)) (made_late told) x are.of_end (record {
+              call = is;
+              of_epoch = ap (λ a. a.epoch) at;
+              later = subst (λ n. first + sent ≤ n) (sym (ap (λ a. a.number) at)) are.below;
+            }));
         below = omega (arith, are.below);
       }

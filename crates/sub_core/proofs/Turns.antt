@@ -24,14 +24,15 @@ use Rattle.sub_core.specs.declared.progress.Wish.{Wish}
 use Rattle.sub_core.specs.Calls.{step_bytes}
 use Rattle.sub_core.specs.Driving.{is_missed, is_over, next_no, round_step, todo, todo_for, wish, wish_at, IsBeforeEnd}
 use Rattle.sub_core.specs.Given.{AreGiven, Given, IsTask, Task, after, attempts, message_of, replies_to, told_of}
-use Rattle.sub_core.specs.Made.{AreInTurn, Made, ends_at_rest, has_none, ids_given, made_in, made_of, shows_rest}
+use Rattle.sub_core.specs.Made.{AreInTurn, Made, ends_at_rest, has_none, ids_given, made_early, made_in, made_late, made_of, sent_early, shows_rest}
 use Rattle.sub_core.specs.States.{DriverState}
 use Rattle.sub_core.specs.Turns.{AreAllOfRounds, AreOfRounds, CallsAreInTurn, EndIsAsked, EndIsMade, IsLastRefused, RoundsAreMade, VoteIsMade, VotesAreMade}
 use Rattle.sub_core.proofs.Allowed.{early_at, found_for}
 use Rattle.sub_core.proofs.Journeys.{stands}
 use Rattle.sub_core.proofs.Kept.{FollowsAt, IsEndRound, IsKept, IsOpen, OpenAt, early_at_round, early_call, no_end, not_ending}
 use Rattle.sub_core.proofs.Findings.{RestsBy, ByMisses, ByWish, past_sized, rests_if}
-use Rattle.sub_core.proofs.Making.{AreAccepted, are_accepted, of_rounds, one_more, some_bytes, turned}
+use Rattle.sub_core.proofs.Ends.{not_begun}
+use Rattle.sub_core.proofs.Making.{AreAccepted, AreTurned, all_sent_early, are_accepted, of_rounds, one_more, some_bytes, turned}
 use Rattle.sub_core.proofs.Rounds.{StandsAt, sizes_of, stage_seen}
 use Rattle.sub_core.proofs.Stages.{le_true, sizes_same}
 use Rattle.sub_core.proofs.Told.{Found, IsAtRest, IsNewest}
@@ -80,17 +81,39 @@ module _ (by_size : GoesBySize) (lent : List (List ℕ)) (task : Task) (gs : Lis
       of_rounds task.campaign task.epoch task.first (step_bytes lent task.steps) d.number (made_in (told_by tries))
       (replies_by tries) (kept.made rounds)
 
+  in_turn_so : (number : ℕ)
+      → AreTurned task.campaign task.epoch task.first (step_bytes lent task.steps) number (made_in (told_by tries))
+      (made_early (told_by tries)) (made_late (told_by tries)) (sent_early (sent_by tries))
+      → AreInTurn task.campaign task.epoch task.first (step_bytes lent task.steps) (told_by tries) (sent_by tries)
+  in_turn_so number t = record { split = t.split; of_rounds = t.of_rounds; within = t.within; of_end = t.of_end }
+
   -- before the end there are none of its calls
   before : IsBeforeEnd d.round
-      → AreInTurn task.campaign task.epoch task.first (step_bytes lent task.steps) (made_in (told_by tries))
+      → AreInTurn task.campaign task.epoch task.first (step_bytes lent task.steps) (told_by tries) (sent_by tries)
   before rounds =
-      (turned task.campaign task.epoch task.first (step_bytes lent task.steps) d.number (length (made_in (told_by tries)))
-      (made_in (told_by tries)) (replies_by tries) (kept.made rounds) (omega arith)
-      (task.first + length (made_in (told_by tries))) (omega arith)).turn
+      let order = kept.order rounds in
+      let made = kept.made rounds in
+      let count = kept.count in
+      let sent : length (made_in (told_by tries)) ≤ length (sent_by tries) = few d.is_open made.count count in
+      in_turn_so (task.first + length (sent_by tries))
+      (subst
+      (AreTurned task.campaign task.epoch task.first (step_bytes lent task.steps)
+      (task.first + length (sent_by tries)) (made_in (told_by tries)) (made_early (told_by tries))
+      (made_late (told_by tries)))
+      (sym (all_sent_early task.campaign tries order))
+      (turned task.campaign task.epoch task.first (step_bytes lent task.steps) d.number (length (sent_by tries))
+      (told_by tries) (replies_by tries) made (not_begun task.campaign tries order) sent
+      (task.first + length (sent_by tries)) (omega arith)))
+    where
+      few : (b : Bool) → d.number ≡ task.first + length (made_in (told_by tries))
+          → d.number + (if b then 1 else 0) ≡ task.first + length (sent_by tries)
+          → length (made_in (told_by tries)) ≤ length (sent_by tries)
+      few true made count = omega (arith, made, count)
+      few false made count = omega (arith, made, count)
 
   in_turn : (r : Option Round) → d.round ≡ r
-      → AreInTurn task.campaign task.epoch task.first (step_bytes lent task.steps) (made_in (told_by tries))
-  in_turn (Some (Round.End commit)) here = (kept.turned (subst IsEndRound (sym here) tt)).turn
+      → AreInTurn task.campaign task.epoch task.first (step_bytes lent task.steps) (told_by tries) (sent_by tries)
+  in_turn (Some (Round.End commit)) here = in_turn_so d.number (kept.turned (subst IsEndRound (sym here) tt))
   in_turn None here = before (subst IsBeforeEnd (sym here) tt)
   in_turn (Some Round.Sync) here = before (subst IsBeforeEnd (sym here) tt)
   in_turn (Some Round.Transfer) here = before (subst IsBeforeEnd (sym here) tt)

@@ -1,5 +1,5 @@
 -- Calls with their replies, as the master makes them at one node: those of the rounds, then those of the end phase.
-use Rattle.std.specs.Prelude.{◌≡◌, ℕ, zero, suc, ◌+◌, ◌≤◌, Bool, true, false, not, ◌&&◌, IsTrue, List, [], ◌∷◌, ◌++◌, map, length, take}
+use Rattle.std.specs.Prelude.{◌≡◌, ℕ, zero, suc, ◌+◌, ◌≤◌, Bool, true, false, not, ◌&&◌, if◌then◌else◌, IsTrue, List, [], ◌∷◌, ◌++◌, map, length, take}
 use Rattle.std.specs.List.{AllByRecursion}
 use Rattle.ucm_base.specs.declared.ids.CallNo.{CallNo}
 use Rattle.pm_types.specs.declared.calls.Call.{Call}
@@ -25,6 +25,23 @@ abbrev pub made_in : List Told → List Made
 made_in [] = []
 made_in (Answered m reply ∷ told) = made_in told ++ made_of m reply ∷ []
 made_in (Showed status ∷ told) = made_in told
+
+-- those of them that were sent before the decision, and those that were sent after it
+abbrev pub made_early : List Told → List Made
+made_early [] = []
+made_early (Answered m reply ∷ told) =
+    if m.decided then made_early told else made_early told ++ made_of m reply ∷ []
+made_early (Showed status ∷ told) = made_early told
+
+abbrev pub made_late : List Told → List Made
+made_late [] = []
+made_late (Answered m reply ∷ told) = if m.decided then made_late told ++ made_of m reply ∷ [] else made_late told
+made_late (Showed status ∷ told) = made_late told
+
+-- how many messages were sent before the decision
+abbrev pub sent_early : List Message → ℕ
+sent_early [] = 0
+sent_early (m ∷ sent) = if m.decided then sent_early sent else suc (sent_early sent)
 
 -- the ids that the replies gave to transfers
 abbrev pub ids_given : List Made → List ℕ
@@ -68,15 +85,14 @@ pub record IsOfEnd (epoch from : ℕ) (m : Made) : Type 0 where
   pub of_epoch : m.at.epoch ≡ epoch
   pub later : from ≤ m.at.number
 
--- first calls of the rounds, which sent so many messages, and then calls of the end phase under later numbers
-pub record AreInTurn (k epoch first : ℕ) (packages : List (List ℕ)) (made : List Made) : Type 0 where
-  pub rounds : List Made
-  pub ends : List Made
-  pub sent : ℕ
-  pub split : made ≡ rounds ++ ends
-  pub of_rounds : IsOfRounds k epoch first packages rounds
-  pub within : length rounds ≤ sent
-  pub of_end : AllByRecursion (IsOfEnd epoch (first + sent)) ends
+-- first calls of the rounds, before the decision, and then calls of the end phase, under numbers behind those of all
+-- messages of the rounds
+pub record AreInTurn (k epoch first : ℕ) (packages : List (List ℕ)) (told : List Told) (sent : List Message) : Type 0
+  where
+    pub split : made_in told ≡ made_early told ++ made_late told
+    pub of_rounds : IsOfRounds k epoch first packages (made_early told)
+    pub within : length (made_early told) ≤ sent_early sent
+    pub of_end : AllByRecursion (IsOfEnd epoch (first + sent_early sent)) (made_late told)
 
 -- the reply shows no session of client 0 and no transfers
 abbrev pub shows_rest : Reply → Bool

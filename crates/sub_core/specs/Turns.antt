@@ -35,7 +35,8 @@ RoundsAreMade =
 abbrev pub CallsAreInTurn : Type 0
 CallsAreInTurn =
     (lent : List (List ℕ)) (task : Task) (gs : List Given) → IsTask lent task → AreGiven task gs
-    → AreInTurn task.campaign task.epoch task.first (step_bytes lent task.steps) (made_in (told_of lent task gs))
+    → AreInTurn task.campaign task.epoch task.first (step_bytes lent task.steps) (told_of lent task gs)
+    (sent_of lent task gs)
 
 -- all calls of the rounds were made, and none was refused
 pub record AreAllOfRounds (lent : List (List ℕ)) (task : Task) (made : List Made) : Type 0 where
