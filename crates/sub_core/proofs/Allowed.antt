@@ -104,10 +104,10 @@ told_worked k epoch d Progress.Activating Processing told is t = t
 told_worked k epoch d Progress.Activating Activating told is t = t
 told_worked k epoch d Progress.Activating Verifying told is t = t
 told_worked k epoch d Progress.Activating Activated told is t =
-    (ap (λ a. a || showed_after_activate Activated told) t.0, t.1)
+    (ap (λ a. a || showed_after_activate Activated told) t.0, t.1, t.3)
 told_worked k epoch d Progress.Activating RollingBack told is t = t
 told_worked k epoch d Progress.Activating RolledBack told is t =
-    (ap (λ a. a || showed_after_activate RolledBack told) t.0, t.1)
+    (ap (λ a. a || showed_after_activate RolledBack told) t.0, t.1, t.2)
 told_worked k epoch d Progress.Activating CleaningUp told is t = t
 told_worked k epoch d (Progress.Voted finding) status told is t = absurd (cc is)
 told_worked k epoch d (Progress.Ending commit (EndProgress.Call asked)) status told is t = absurd (cc is)

@@ -217,7 +217,7 @@ module _ (by_size : GoesBySize) (lent : List (List ℕ)) (task : Task) (is : IsT
 
   next : (g : Given) → MayBe g d → IsNext g (given g d) (with_given lent d g tries)
   next (Begun round) can = record {
-    kept = kept_begun lent task d tries so_far.kept round can;
+    kept = kept_begun lent task d tries so_far.kept by_size is.there round can;
     row = clean_row task (begun round d) (Begun round ∷ gs) refl refl;
   }
   next (Gave got) asks = gave (todo d) got (wishes_of d asks.asked) refl asks.number asks.begun

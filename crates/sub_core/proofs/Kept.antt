@@ -16,7 +16,7 @@ use Rattle.pm_types.specs.declared.status.Status.{Status}
 use Rattle.pm_types.specs.declared.status.Status.TheVariants.{Idle, Ready, Processing, Activating, Verifying, Activated, RollingBack, RolledBack, CleaningUp}
 use Rattle.world.specs.Attempts.{Attempt, Tried, Worked, told_by, sent_by, with_sent, replies_by, MayTry, AreInOrder}
 use Rattle.world.specs.Messages.{Message, Told, Answered, Showed, is_refusal, is_told, told_reply}
-use Rattle.world.specs.RoundCalls.{AllFit, Fits}
+use Rattle.world.specs.RoundCalls.{AllFit, Fits, round_calls}
 use Rattle.world.specs.Rounds.{Stage, AtSync, AtStart, AtData, AtProcess, AtActivate, Over, RefusedOnce, call_at, onward, stage_of}
 use Rattle.world.specs.RoundsBySize.{GoesBySize}
 use Rattle.world.specs.Sends.{end_call_at, has_refusal}
@@ -30,13 +30,14 @@ use Rattle.sub_core.specs.declared.progress.Wish.{Wish}
 use Rattle.sub_core.specs.Calls.{AreThere, call_of, step_bytes}
 use Rattle.sub_core.specs.Driving.{begun, end_step, end_wish, fresh, is_answer, is_missed, is_over, missed, next_no, opened, progress_after, replied, round_step, settled_after, todo, wish, wish_at, worked, CanBegin, IsBeforeEnd, IsEnding}
 use Rattle.sub_core.specs.Evidence.{AreVain, misses_in}
-use Rattle.sub_core.specs.Made.{is_end_call, made_early, made_in, made_late, made_of, sent_early}
+use Rattle.sub_core.specs.Made.{AreSentInTurn, Made, calls_in, ids_given, is_end_call, made_early, made_in, made_late, made_of, sent_early}
 use Rattle.sub_core.specs.Given.{Given, Task, after, is_ending, message_of}
 use Rattle.sub_core.specs.Sends.{AreCallsFor, AreNumbered, IsCallFor, decision_of}
 use Rattle.sub_core.specs.States.{DriverState, IsPlaced, IsPlacedEnd, IsSound, number_limit}
 use Rattle.sub_core.proofs.Allowed.{early_at, told_begun, told_replied, told_worked}
 use Rattle.sub_core.proofs.Ends.{IsEndAt, end_begins, not_begun, end_replied, end_worked}
-use Rattle.sub_core.proofs.Making.{AreRounds, AreTurned, all_sent_early, are_accepted, end_more, neither, none_made, one_more, some_bytes, turned, with_late}
+use Rattle.sub_core.proofs.Asked.{all_undecided, answered_in, answered_late, calls_answered, closed_of, count_answered, sent_late, shown_late}
+use Rattle.sub_core.proofs.Making.{AreRounds, AreTurned, all_early, all_sent_early, are_accepted, end_more, neither, next_taken, none_made, one_more, some_bytes, turned, with_late}
 use Rattle.sub_core.proofs.Placed.{sound_begun, sound_missed, sound_opened, sound_replied, sound_worked}
 use Rattle.sub_core.proofs.Rounds.{StandsFor}
 use Rattle.sub_core.proofs.Stages.{asks_next, done_of_todo, stands_begun, stands_replied, stands_worked}
@@ -136,6 +137,9 @@ pub record IsKept (lent : List (List ℕ)) (task : Task) (d : DriverState) (atte
       → AreTurned task.campaign task.epoch task.first (step_bytes lent task.steps) d.number
       (made_in (told_by attempts)) (made_early (told_by attempts)) (made_late (told_by attempts))
       (sent_early (sent_by attempts))
+  pub heard : IsBeforeEnd d.round → closed_of d.is_open (sent_by attempts) ≡ answered_in (told_by attempts)
+  pub messages : IsEndRound d.round
+      → AreSentInTurn task.campaign (step_bytes lent task.steps) (told_by attempts) (sent_by attempts)
 
 -- numbers and what was told
 
@@ -449,8 +453,9 @@ end_round (Some Round.Activate) end = absurd end
 end_round (Some (Round.End commit)) end = (commit, refl)
 
 -- the attempt of this message
-record IsNow (task : Task) (m : Message) (attempts : List Attempt) : Type 0 where
+record IsNow (task : Task) (m : Message) (is_open : Bool) (attempts : List Attempt) : Type 0 where
   rest : List Message
+  closed : rest ≡ closed_of is_open (sent_by attempts)
   sent : with_sent m (sent_by attempts) ≡ m ∷ rest
   count : m.at.number ≡ task.first + length rest
   epoch : m.at.epoch ≡ task.epoch
@@ -559,11 +564,12 @@ module _ (lent : List (List ℕ)) (task : Task) (d : DriverState) (tries : List 
   is_untold : told_reply (told_by tries) (next_no d) ≡ None
   is_untold = untold task.epoch (next_no d) (told_by tries) kept.below
 
-  open_now : (older : List Message) → sent_by tries ≡ m ∷ older → IsNow task m tries
+  open_now : (older : List Message) → sent_by tries ≡ m ∷ older → IsNow task m true tries
   open_now older is =
       let numbers = subst (AreNumbered task.epoch task.first) is kept.numbered in
       record {
         rest = older;
+        closed = ap (closed_of true) (sym is);
         sent = ap (with_sent m) is ∙ ap (λ b. if b then m ∷ older else m ∷ m ∷ older) (is_same m.at);
         count = ap (λ a. a.number) numbers.0;
         epoch = kept.epoch;
@@ -572,9 +578,10 @@ module _ (lent : List (List ℕ)) (task : Task) (d : DriverState) (tries : List 
       }
 
   new_now : (sent : List Message) → sent_by tries ≡ sent → d.number + 0 ≡ task.first + length (sent_by tries)
-      → IsNow task m tries
+      → IsNow task m false tries
   new_now [] is count = record {
     rest = [];
+    closed = sym is;
     sent = ap (with_sent m) is;
     count = omega (arith, count, ap length is);
     epoch = kept.epoch;
@@ -589,6 +596,7 @@ module _ (lent : List (List ℕ)) (task : Task) (d : DriverState) (tries : List 
       let epoch : newest.at.epoch ≡ d.epoch = ap (λ a. a.epoch) numbers.0 ∙ sym kept.epoch in
       record {
         rest = newest ∷ older;
+        closed = sym is;
         sent = ap (with_sent m) is
             ∙ ap (λ b. if b then newest ∷ older else m ∷ newest ∷ older) (not_same newest.at m.at less);
         count = omega (arith, count, all);
@@ -598,14 +606,14 @@ module _ (lent : List (List ℕ)) (task : Task) (d : DriverState) (tries : List 
       }
 
   now_if : (b : Bool) → d.number + (if b then 1 else 0) ≡ task.first + length (sent_by tries)
-      → OpenAt lent b d (sent_by tries) → IsNow task m tries
+      → OpenAt lent b d (sent_by tries) → IsNow task m b tries
   now_if true count pending =
       open_now pending.older
       (pending.newest
       ∙ ap (λ a. message_of lent d (next_no d) a ∷ pending.older) (same_send pending.asked asked (sym pending.wish ∙ wishes)))
   now_if false count pending = new_now (sent_by tries) refl count
 
-  now : IsNow task m tries
+  now : IsNow task m d.is_open tries
   now = now_if d.is_open kept.count kept.pending
 
   in_order : (reply : Option Reply) → IsBeforeEnd d.round → AreInOrder task.campaign (Tried m reply ∷ tries)
@@ -614,6 +622,11 @@ module _ (lent : List (List ℕ)) (task : Task) (d : DriverState) (tries : List 
 
   is_late : IsEndRound d.round → is_ending d.progress ≡ true
   is_late end = let round = end_round d.round end in ap is_ending (kept.end round.0 round.1)
+
+  end_call : IsEndRound d.round → is_end_call m.call ≡ true
+  end_call end =
+      subst (λ b. IsCallFor task.campaign (step_bytes lent task.steps) b m.call (replies_by tries)) (is_late end)
+      (is_call_for by_size lent task d tries kept there asked wishes)
 
   turned_opened : IsEndRound d.round
       → AreTurned task.campaign task.epoch task.first (step_bytes lent task.steps) d.number (made_in (told_by tries))
@@ -651,6 +664,10 @@ module _ (lent : List (List ℕ)) (task : Task) (d : DriverState) (tries : List 
         (AreRounds task.campaign task.epoch task.first (step_bytes lent task.steps) d.number (made_in (told_by tries)))
         (sym (append-nil (replies_by tries))) (kept.made rounds);
     turned = turned_opened;
+    heard = λ rounds. ap (closed_of true) now.sent ∙ (now.closed ∙ kept.heard rounds);
+    messages = λ end.
+        sent_late task.campaign (step_bytes lent task.steps) (told_by tries) m (is_late end) (end_call end) (sent_by tries)
+        (kept.messages end);
   }
 
   module _ (reply : Reply) (fits : is_answer asked reply ≡ true) where
@@ -690,9 +707,7 @@ module _ (lent : List (List ℕ)) (task : Task) (d : DriverState) (tries : List 
         (made_late answered) (sent_early (with_sent m (sent_by tries)))
     turned_now end =
         end_more task.campaign task.epoch task.first ps d.number (sent_early (with_sent m (sent_by tries)))
-        (told_by tries) (turned_opened end) m (is_late end) at_now
-        (subst (λ b. IsCallFor task.campaign ps b m.call (replies_by tries)) (is_late end)
-        (is_call_for by_size lent task d tries kept there asked wishes)) reply
+        (told_by tries) (turned_opened end) m (is_late end) at_now (end_call end) reply
 
     -- an attempt with its reply
     pub kept_replied : d.number < number_limit → IsKept lent task (replied reply d) (Tried m (Some reply) ∷ tries)
@@ -725,6 +740,10 @@ module _ (lent : List (List ℕ)) (task : Task) (d : DriverState) (tries : List 
       calls = (is_call_for by_size lent task d tries kept there asked wishes, kept.calls);
       made = made_now;
       turned = turned_now;
+      heard = λ rounds. now.sent ∙ ap (λ l. m ∷ l) (now.closed ∙ kept.heard rounds);
+      messages = λ end.
+          answered_late task.campaign ps (told_by tries) m (is_late end) (end_call end) reply (sent_by tries)
+          (kept.messages end);
     }
 
 -- the end comes once
@@ -774,6 +793,67 @@ module _ (lent : List (List ℕ)) (d : DriverState) (told : List Told) (within :
   follows_begun round can sent true pending follows = open_begun round can sent pending
   follows_begun round can sent false pending follows = closed_begun round can sent follows
 
+-- in the rounds all messages are of the rounds
+module _ (by_size : GoesBySize) (lent : List (List ℕ)) (task : Task) (d : DriverState) (tries : List Attempt)
+    (kept : IsKept lent task d tries) (there : AreThere lent task.steps) (rounds : IsBeforeEnd d.round) where
+  abbrev bytes : List (List ℕ)
+  bytes = step_bytes lent task.steps
+
+  abbrev before : List Made
+  before = made_in (told_by tries)
+
+  abbrev all_calls : List Call
+  all_calls = round_calls task.campaign (ids_given before) bytes
+
+  calls_closed : sent_by tries ≡ answered_in (told_by tries)
+      → calls_in (sent_by tries) ≡ take (length (sent_by tries)) all_calls
+  calls_closed heard =
+      let made = kept.made rounds in
+      ap calls_in heard
+      ∙ (calls_answered (told_by tries)
+      ∙ (made.calls []
+      ∙ (ap (λ l. take (length before) (round_calls task.campaign l bytes)) (append-nil (ids_given before))
+      ∙ ap (λ n. take n all_calls) (sym (ap length heard ∙ count_answered (told_by tries))))))
+
+  calls_open : (asked : SendStep) (older : List Message) → wish d ≡ Wish.Send asked
+      → sent_by tries ≡ message_of lent d (next_no d) asked ∷ older → older ≡ answered_in (told_by tries)
+      → calls_in (sent_by tries) ≡ take (length (sent_by tries)) all_calls
+  calls_open asked older wishes newest heard =
+      let call = call_of lent asked in
+      let early = early_at_round d.round d.progress rounds kept.within in
+      let accepted =
+      (early_at d.campaign d.epoch d d.progress (told_by tries) asked kept.told (not_ending d.progress early) wishes).0 in
+      let some = some_bytes lent task.steps (subst (λ steps. 0 < length steps) kept.steps kept.sound.some) in
+      let next = next_taken task.campaign task.epoch task.first bytes d.number before (replies_by tries)
+      (kept.made rounds) some (kept.fit rounds accepted) (are_accepted (told_by tries) accepted) call
+      (early_call by_size lent task d tries kept there asked wishes early) in
+      ap calls_in newest
+      ∙ (ap (λ l. calls_in l ++ call ∷ []) heard
+      ∙ (ap (λ l. l ++ call ∷ []) (calls_answered (told_by tries))
+      ∙ (next
+      ∙ ap (λ n. take n all_calls)
+      (sym (ap length newest ∙ ap suc (ap length heard ∙ count_answered (told_by tries)))))))
+
+  calls_if : (b : Bool) → closed_of b (sent_by tries) ≡ answered_in (told_by tries) → OpenAt lent b d (sent_by tries)
+      → calls_in (sent_by tries) ≡ take (length (sent_by tries)) all_calls
+  calls_if false heard pending = calls_closed heard
+  calls_if true heard pending =
+      calls_open pending.asked pending.older pending.wish pending.newest (ap (closed_of true) (sym pending.newest) ∙ heard)
+
+  pub sent_in_rounds : AreSentInTurn task.campaign bytes (told_by tries) (sent_by tries)
+  sent_in_rounds =
+      let order = kept.order rounds in
+      record {
+        early = sent_by tries;
+        late = [];
+        split = refl;
+        of_rounds = all_undecided task.campaign tries order;
+        calls = calls_if d.is_open (kept.heard rounds) kept.pending
+            ∙ ap (λ made. take (length (sent_by tries)) (round_calls task.campaign (ids_given made) bytes))
+            (sym (all_early (told_by tries) (not_begun task.campaign tries order)).0);
+        of_end = tt;
+      }
+
 module _ (lent : List (List ℕ)) (task : Task) (d : DriverState) (tries : List Attempt) (kept : IsKept lent task d tries) where
   -- the misses are no part of the rest
   pub kept_missed : (losses faults : ℕ) → is_missed d ≡ false → IsKept lent task (missed losses faults d) tries
@@ -797,6 +877,8 @@ module _ (lent : List (List ℕ)) (task : Task) (d : DriverState) (tries : List 
     calls = kept.calls;
     made = kept.made;
     turned = kept.turned;
+    heard = kept.heard;
+    messages = kept.messages;
   }
     where
       open_missed : (b : Bool) → OpenAt lent b d (sent_by tries) → OpenAt lent b (missed losses faults d) (sent_by tries)
@@ -826,6 +908,8 @@ module _ (lent : List (List ℕ)) (task : Task) (d : DriverState) (tries : List 
     calls = kept.calls;
     made = kept.made;
     turned = kept.turned;
+    heard = kept.heard;
+    messages = kept.messages;
   }
 
   -- a unit with its status
@@ -850,6 +934,9 @@ module _ (lent : List (List ℕ)) (task : Task) (d : DriverState) (tries : List 
     calls = kept.calls;
     made = kept.made;
     turned = kept.turned;
+    heard = kept.heard;
+    messages = λ end.
+        shown_late task.campaign (step_bytes lent task.steps) (told_by tries) (sent_by tries) status (kept.messages end);
   }
     where
       open_worked : (b : Bool) → OpenAt lent b d (sent_by tries) → OpenAt lent b (worked status d) (sent_by tries)
@@ -863,8 +950,9 @@ module _ (lent : List (List ℕ)) (task : Task) (d : DriverState) (tries : List 
       follows_worked false (m ∷ sent) follows = follows
 
   -- a round that begins
-  pub kept_begun : (round : Round) → CanBegin round d → IsKept lent task (begun round d) tries
-  kept_begun round can = record {
+  pub kept_begun : GoesBySize → AreThere lent task.steps → (round : Round) → CanBegin round d
+      → IsKept lent task (begun round d) tries
+  kept_begun by_size there round can = record {
     sound = sound_begun d kept.sound round;
     epoch = kept.epoch;
     campaign = kept.campaign;
@@ -884,8 +972,25 @@ module _ (lent : List (List ℕ)) (task : Task) (d : DriverState) (tries : List 
     calls = kept.calls;
     made = made_begun d.is_open kept.pending;
     turned = turned_begun round can;
+    heard = heard_begun d.is_open kept.pending kept.heard;
+    messages = messages_begun round can;
   }
     where
+      heard_begun : (b : Bool) → OpenAt lent b d (sent_by tries)
+          → (IsBeforeEnd d.round → closed_of b (sent_by tries) ≡ answered_in (told_by tries))
+          → IsBeforeEnd (Some round) → sent_by tries ≡ answered_in (told_by tries)
+      heard_begun true pending heard rounds =
+          absurd (not_open round d can rounds pending.asked pending.begun pending.wish)
+      heard_begun false pending heard rounds = heard (rounds_before round d can rounds).0
+
+      messages_begun : (r : Round) → CanBegin r d → IsEndRound (Some r)
+          → AreSentInTurn task.campaign (step_bytes lent task.steps) (told_by tries) (sent_by tries)
+      messages_begun (Round.End commit) begins end = sent_in_rounds by_size lent task d tries kept there begins
+      messages_begun Round.Sync begins end = absurd end
+      messages_begun Round.Transfer begins end = absurd end
+      messages_begun Round.Process begins end = absurd end
+      messages_begun Round.Activate begins end = absurd end
+
       count_begun : (b : Bool) → d.number + (if b then 1 else 0) ≡ task.first + length (sent_by tries)
           → (if b then d.number + 1 else d.number) + 0 ≡ task.first + length (sent_by tries)
       count_begun true count = omega (arith, count)
@@ -949,4 +1054,6 @@ kept_fresh lent task sound = record {
   calls = tt;
   made = λ rounds. none_made task.campaign task.epoch task.first (step_bytes lent task.steps);
   turned = λ end. absurd end;
+  heard = λ rounds. refl;
+  messages = λ end. absurd end;
 }

@@ -5,10 +5,12 @@ pub mod Allowed
 pub mod Placed
 pub mod Ends
 pub mod Making
+pub mod Asked
 pub mod Kept
 pub mod Journeys
 pub mod Findings
 pub mod Misses
 pub mod Units
+pub mod Votes
 pub mod Turns
 pub mod Sending

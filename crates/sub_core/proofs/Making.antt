@@ -2,6 +2,7 @@
 use Rattle.std.proofs.Common.{◌≡◌, ◌≢◌, ℕ, zero, suc, ◌+◌, ◌<◌, ◌≤◌, Bool, true, false, not, ◌&&◌, ◌||◌, if◌then◌else◌, IsTrue, List, [], ◌∷◌, ◌++◌, map, length, take, Some, refl, sym, ap, subst, ◌∙◌, arith, append-nil}
 use Rattle.std.proofs.lemmas.List.{length-map, map-append}
 use Rattle.std.specs.List.{AllByRecursion, slice_get}
+use Rattle.pm_types.specs.declared.calls.Call.{Call}
 use Rattle.pm_types.specs.declared.replies.Reply.{Reply}
 use Rattle.pm_types.specs.declared.replies.Reply.TheVariants.{Done, Started, Synced, Refused}
 use Rattle.std.specs.Ordering.{is_eq}
@@ -25,7 +26,7 @@ pub all_snoc : {X : Type 0} (P : X → Type 0) (xs : List X) (x : X) → AllByRe
 all_snoc P [] x all one = (one, tt)
 all_snoc P (y ∷ ys) x all one = (all.0, all_snoc P ys x all.1 one)
 
-length_snoc : {X : Type 0} (xs : List X) (x : X) → length (xs ++ x ∷ []) ≡ suc (length xs)
+pub length_snoc : {X : Type 0} (xs : List X) (x : X) → length (xs ++ x ∷ []) ≡ suc (length xs)
 length_snoc [] x = refl
 length_snoc (y ∷ ys) x = ap suc (length_snoc ys x)
 
@@ -75,7 +76,7 @@ are_accepted (Showed status ∷ told) accepted = are_accepted told accepted
 
 -- messages before the decision
 
-all_early : (told : List Told) → has_end_answer told ≡ false
+pub all_early : (told : List Told) → has_end_answer told ≡ false
     → (made_early told ≡ made_in told) × (made_late told ≡ [])
 all_early [] early = (refl, refl)
 all_early (Answered m reply ∷ told) early =
@@ -196,6 +197,14 @@ module _ (k epoch first : ℕ) (ps : List (List ℕ)) where
         ∙ (ap (λ l. ids_of replies ++ l) (ids_giving later) ∙ ap (λ l. l ++ later) (sym ids_here)))
         ∙ (ap (λ l. slice_get l (length replies)) (sym (rounds_are (ids_given made ++ later)))
         ∙ ap (slice_get (round_calls k (ids_given made ++ later) ps)) (sym many_here)))
+
+    -- with one more call, which isn't answered yet
+    pub next_taken : (call : Call) → call_at k (stage_of ps AtSync replies) ≡ Some call
+        → map (λ m. m.call) made ++ call ∷ [] ≡ take (suc (length made)) (round_calls k (ids_given made) ps)
+    next_taken call next =
+        ap (λ l. l ++ call ∷ []) (are.calls [])
+        ∙ (sym (take_next (round_calls k (ids_given made ++ []) ps) (length made) call (sym (call_here []) ∙ next))
+        ∙ ap (λ l. take (suc (length made)) (round_calls k l ps)) (append-nil (ids_given made)))
 
     module _ (m : Message) (at : m.at ≡ record { epoch = epoch; number = number })
         (next : call_at k (stage_of ps AtSync replies) ≡ Some m.call) (reply : Reply) where

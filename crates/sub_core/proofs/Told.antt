@@ -72,8 +72,12 @@ pub record IsAllowed (k epoch : ℕ) (commit : Bool) (asked : SendStep) (told : 
 
 -- the evidence of a finding
 abbrev pub Found : ℕ → ℕ → Finding → List Told → Type 0
-Found k epoch Finding.Yes told = (showed_after_activate Activated told ≡ true) × (has_refusal told ≡ false)
-Found k epoch Finding.RolledBack told = (showed_after_activate RolledBack told ≡ true) × (has_refusal told ≡ false)
+Found k epoch Finding.Yes told =
+    (showed_after_activate Activated told ≡ true) × (has_refusal told ≡ false)
+    × (showed_after_activate RolledBack told ≡ false)
+Found k epoch Finding.RolledBack told =
+    (showed_after_activate RolledBack told ≡ true) × (has_refusal told ≡ false)
+    × (showed_after_activate Activated told ≡ false)
 Found k epoch (Finding.Refused call_no why) told = IsNewest call_no (Refused why) told
 Found k epoch (Finding.Ended call_no) told = IsAtRest k epoch call_no told
 Found k epoch _ told = ⊤

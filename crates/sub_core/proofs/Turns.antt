@@ -24,12 +24,12 @@ use Rattle.sub_core.specs.declared.progress.Wish.{Wish}
 use Rattle.sub_core.specs.Calls.{step_bytes}
 use Rattle.sub_core.specs.Driving.{is_missed, is_over, next_no, round_step, todo, todo_for, wish, wish_at, IsBeforeEnd}
 use Rattle.sub_core.specs.Given.{AreGiven, Given, IsTask, Task, after, attempts, message_of, replies_to, told_of}
-use Rattle.sub_core.specs.Made.{AreInTurn, Made, ends_at_rest, has_none, ids_given, made_early, made_in, made_late, made_of, sent_early, shows_rest}
+use Rattle.sub_core.specs.Made.{AreInTurn, AreSentInTurn, Made, ends_at_rest, has_none, ids_given, made_early, made_in, made_late, made_of, sent_early, shows_rest}
 use Rattle.sub_core.specs.States.{DriverState}
-use Rattle.sub_core.specs.Turns.{AreAllOfRounds, AreOfRounds, CallsAreInTurn, EndIsAsked, EndIsMade, IsLastRefused, RoundsAreMade, VoteIsMade, VotesAreMade}
+use Rattle.sub_core.specs.Turns.{AreAllOfRounds, AreOfRounds, CallsAreInTurn, EndIsAsked, EndIsMade, IsLastRefused, MessagesAreInTurn, RoundsAreMade, VoteIsMade, VotesAreMade}
 use Rattle.sub_core.proofs.Allowed.{early_at, found_for}
 use Rattle.sub_core.proofs.Journeys.{stands}
-use Rattle.sub_core.proofs.Kept.{FollowsAt, IsEndRound, IsKept, IsOpen, OpenAt, early_at_round, early_call, no_end, not_ending}
+use Rattle.sub_core.proofs.Kept.{FollowsAt, IsEndRound, IsKept, IsOpen, OpenAt, early_at_round, early_call, no_end, not_ending, sent_in_rounds}
 use Rattle.sub_core.proofs.Findings.{RestsBy, ByMisses, ByWish, past_sized, rests_if}
 use Rattle.sub_core.proofs.Ends.{not_begun}
 use Rattle.sub_core.proofs.Making.{AreAccepted, AreTurned, all_sent_early, are_accepted, of_rounds, one_more, some_bytes, turned}
@@ -87,6 +87,10 @@ module _ (by_size : GoesBySize) (lent : List (List ℕ)) (task : Task) (gs : Lis
       → AreInTurn task.campaign task.epoch task.first (step_bytes lent task.steps) (told_by tries) (sent_by tries)
   in_turn_so number t = record { split = t.split; of_rounds = t.of_rounds; within = t.within; of_end = t.of_end }
 
+  in_rounds_so : IsBeforeEnd d.round
+      → AreSentInTurn task.campaign (step_bytes lent task.steps) (told_by tries) (sent_by tries)
+  in_rounds_so rounds = sent_in_rounds by_size lent task d tries kept is.there rounds
+
   -- before the end there are none of its calls
   before : IsBeforeEnd d.round
       → AreInTurn task.campaign task.epoch task.first (step_bytes lent task.steps) (told_by tries) (sent_by tries)
@@ -120,9 +124,23 @@ module _ (by_size : GoesBySize) (lent : List (List ℕ)) (task : Task) (gs : Lis
   in_turn (Some Round.Process) here = before (subst IsBeforeEnd (sym here) tt)
   in_turn (Some Round.Activate) here = before (subst IsBeforeEnd (sym here) tt)
 
+  -- and the messages likewise
+  sent_in_turn : (r : Option Round) → d.round ≡ r
+      → AreSentInTurn task.campaign (step_bytes lent task.steps) (told_by tries) (sent_by tries)
+  sent_in_turn (Some (Round.End commit)) here = kept.messages (subst IsEndRound (sym here) tt)
+  sent_in_turn None here = in_rounds_so (subst IsBeforeEnd (sym here) tt)
+  sent_in_turn (Some Round.Sync) here = in_rounds_so (subst IsBeforeEnd (sym here) tt)
+  sent_in_turn (Some Round.Transfer) here = in_rounds_so (subst IsBeforeEnd (sym here) tt)
+  sent_in_turn (Some Round.Process) here = in_rounds_so (subst IsBeforeEnd (sym here) tt)
+  sent_in_turn (Some Round.Activate) here = in_rounds_so (subst IsBeforeEnd (sym here) tt)
+
 pub rounds_are_made : GoesBySize → RoundsAreMade
 rounds_are_made by_size lent task gs is given_ rounds =
     (in_rounds by_size lent task gs is given_ rounds, with_newest by_size lent task gs is given_ rounds)
+
+pub messages_are_in_turn : GoesBySize → MessagesAreInTurn
+messages_are_in_turn by_size lent task gs is given_ =
+    sent_in_turn by_size lent task gs is given_ (after task gs).round refl
 
 pub calls_are_in_turn : GoesBySize → CallsAreInTurn
 calls_are_in_turn by_size lent task gs is given_ = in_turn by_size lent task gs is given_ (after task gs).round refl

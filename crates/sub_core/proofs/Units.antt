@@ -64,7 +64,7 @@ module _ (d : DriverState) where
       works (EndProgress.Delete listed place) is = absurd (cc is)
       works (EndProgress.Rest call_no) is = absurd (cc is)
 
-  refusal_told : (call_no : CallNo) (why : Refusal) (told : List Told) → IsNewest call_no (Refused why) told
+  pub refusal_told : (call_no : CallNo) (why : Refusal) (told : List Told) → IsNewest call_no (Refused why) told
       → has_refusal told ≡ true
   refusal_told call_no why told newest = ap has_refusal newest.is
 
@@ -77,7 +77,7 @@ module _ (d : DriverState) where
   after_if true false c more is = more is
   after_if false false c more is = more is
 
-  after_activate : (status : Status) (told : List Told) → showed_after_activate status told ≡ true
+  pub after_activate : (status : Status) (told : List Told) → showed_after_activate status told ≡ true
       → activate_done told ≡ true
   after_activate status [] is = absurd (cc is)
   after_activate status (Answered m reply ∷ told) is =

@@ -2,6 +2,7 @@
 use Rattle.std.specs.Prelude.{◌≡◌, ◌⊎◌, ◌↔◌, ℕ, ◌≤◌, ⊤, Bool, true, false, List, [], ◌∷◌, ◌++◌, length, min, Some}
 use Rattle.ucm_base.specs.Limits.{attempt_limit}
 use Rattle.ucm_base.specs.declared.ids.CallNo.{CallNo}
+use Rattle.pm_types.specs.declared.replies.Refusal.{Refusal}
 use Rattle.pm_types.specs.declared.replies.Reply.{Reply}
 use Rattle.pm_types.specs.declared.replies.Reply.TheVariants.{Synced}
 use Rattle.pm_types.specs.declared.replies.Synced.{Synced as Shown}
@@ -171,6 +172,18 @@ EndIsFound =
     → (m : Message) (shown : Shown) (older : List Told) → told_of lent task gs ≡ Answered m (Synced shown) ∷ older
     → is_end_sync task.campaign task.epoch m ≡ true → is_masters shown.session ≡ false → shown.transfers ≡ []
     → todo (after task gs) ≡ Todo.Rest (Finding.Ended m.at)
+
+-- a vote is found wherever its evidence is: a refusal, or what Activate came to
+abbrev pub VotesAreFound : Type 0
+VotesAreFound =
+    (lent : List (List ℕ)) (task : Task) (gs : List Given) → IsTask lent task → AreGiven task gs
+    → IsBeforeEnd (after task gs).round
+    → (has_refusal (told_of lent task gs) ≡ true
+    → ((call_no : CallNo) × (why : Refusal) × (todo (after task gs) ≡ Todo.Rest (Finding.Refused call_no why))))
+    × (has_refusal (told_of lent task gs) ≡ false → showed_after_activate Activated (told_of lent task gs) ≡ true
+    → todo (after task gs) ≡ Todo.Rest Finding.Yes)
+    × (has_refusal (told_of lent task gs) ≡ false → showed_after_activate RolledBack (told_of lent task gs) ≡ true
+    → todo (after task gs) ≡ Todo.Rest Finding.RolledBack)
 
 -- and eight misses in a row are found
 abbrev pub UnreachedIsFound : Type 0

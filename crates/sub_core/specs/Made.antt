@@ -47,6 +47,11 @@ sent_early (m ∷ sent) = if m.decided then sent_early sent else suc (sent_early
 abbrev pub ids_given : List Made → List ℕ
 ids_given made = ids_of (map (λ m. m.reply) made)
 
+-- the calls of messages, the oldest first
+abbrev pub calls_in : List Message → List Call
+calls_in [] = []
+calls_in (m ∷ sent) = calls_in sent ++ m.call ∷ []
+
 -- so many numbers of an epoch, one after another
 abbrev pub numbers_from : ℕ → ℕ → ℕ → List CallNo
 numbers_from epoch number zero = []
@@ -93,6 +98,20 @@ pub record AreInTurn (k epoch first : ℕ) (packages : List (List ℕ)) (told : 
     pub of_rounds : IsOfRounds k epoch first packages (made_early told)
     pub within : length (made_early told) ≤ sent_early sent
     pub of_end : AllByRecursion (IsOfEnd epoch (first + sent_early sent)) (made_late told)
+
+-- a message of the end phase
+abbrev pub IsEndMessage : Message → Type 0
+IsEndMessage m = (m.decided ≡ true) × (is_end_call m.call ≡ true)
+
+-- all messages, the newest first: those of the end phase behind those of the rounds, and the calls of these, answered or
+-- not, are first calls of the rounds
+pub record AreSentInTurn (k : ℕ) (packages : List (List ℕ)) (told : List Told) (sent : List Message) : Type 0 where
+  pub early : List Message
+  pub late : List Message
+  pub split : sent ≡ late ++ early
+  pub of_rounds : AllByRecursion (λ m. m.decided ≡ false) early
+  pub calls : calls_in early ≡ take (length early) (round_calls k (ids_given (made_early told)) packages)
+  pub of_end : AllByRecursion IsEndMessage late
 
 -- the reply shows no session of client 0 and no transfers
 abbrev pub shows_rest : Reply → Bool

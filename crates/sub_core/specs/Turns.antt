@@ -14,7 +14,7 @@ use Rattle.sub_core.specs.Calls.{step_bytes}
 use Rattle.sub_core.specs.Driving.{end_wish, todo, todo_for, IsBeforeEnd}
 use Rattle.sub_core.specs.Ending.{end_at}
 use Rattle.sub_core.specs.Given.{AreGiven, Given, IsTask, Task, after, sent_of, told_of}
-use Rattle.sub_core.specs.Made.{AreInTurn, IsOfRounds, Made, ends_at_rest, ids_given, made_in, made_of}
+use Rattle.sub_core.specs.Made.{AreInTurn, AreSentInTurn, IsOfRounds, Made, ends_at_rest, ids_given, made_in, made_of}
 
 -- these are first calls of the rounds of a task
 abbrev pub AreOfRounds : List (List ℕ) → Task → List Made → Type 0
@@ -37,6 +37,12 @@ CallsAreInTurn =
     (lent : List (List ℕ)) (task : Task) (gs : List Given) → IsTask lent task → AreGiven task gs
     → AreInTurn task.campaign task.epoch task.first (step_bytes lent task.steps) (told_of lent task gs)
     (sent_of lent task gs)
+
+-- and so is all that was sent, whether it was answered or not
+abbrev pub MessagesAreInTurn : Type 0
+MessagesAreInTurn =
+    (lent : List (List ℕ)) (task : Task) (gs : List Given) → IsTask lent task → AreGiven task gs
+    → AreSentInTurn task.campaign (step_bytes lent task.steps) (told_of lent task gs) (sent_of lent task gs)
 
 -- all calls of the rounds were made, and none was refused
 pub record AreAllOfRounds (lent : List (List ℕ)) (task : Task) (made : List Made) : Type 0 where

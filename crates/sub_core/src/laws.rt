@@ -1,7 +1,7 @@
 //! The laws of drivers.
-ghost use Rattle.sub_core.specs.Evidence.{DoneIsFound, EndIsFound, FindingsAreShown, MissesAreKept, OthersLeaveAll, RepliesFit, UnitsAreDue, UnreachedIsFound};
+ghost use Rattle.sub_core.specs.Evidence.{DoneIsFound, EndIsFound, FindingsAreShown, MissesAreKept, OthersLeaveAll, RepliesFit, UnitsAreDue, UnreachedIsFound, VotesAreFound};
 ghost use Rattle.sub_core.specs.Sends.{CallsAreNext, RepliesAreRead, SendsAreAllowed, SendsAreNumbered};
-ghost use Rattle.sub_core.specs.Turns.{CallsAreInTurn, EndIsAsked, EndIsMade, RoundsAreMade, VotesAreMade};
+ghost use Rattle.sub_core.specs.Turns.{CallsAreInTurn, EndIsAsked, EndIsMade, MessagesAreInTurn, RoundsAreMade, VotesAreMade};
 
 use world::campaign_law;
 
@@ -12,6 +12,7 @@ pub fn driver_law()
     ensures numbered { SendsAreNumbered }
     ensures shown { FindingsAreShown }
     ensures found { DoneIsFound }
+    ensures voted { VotesAreFound }
     ensures ended { EndIsFound }
     ensures unreached { UnreachedIsFound }
     ensures missed { MissesAreKept }
@@ -23,6 +24,7 @@ pub fn driver_law()
     ensures rounds { RoundsAreMade }
     ensures votes { VotesAreMade }
     ensures turns { CallsAreInTurn }
+    ensures messages { MessagesAreInTurn }
     ensures at_end { EndIsAsked }
     ensures rest { EndIsMade }
 {

@@ -1,8 +1,9 @@
 use Rattle.sub_core.proofs.Findings.{done_is_found, findings_are_shown, misses_are_kept, replies_fit, sends_are_numbered}
 use Rattle.sub_core.proofs.Misses.{unreached_is_found}
 use Rattle.sub_core.proofs.Sending.{calls_are_next, end_is_found, replies_are_read, sends_are_allowed}
-use Rattle.sub_core.proofs.Turns.{calls_are_in_turn, end_is_asked, end_is_made, rounds_are_made, votes_are_made}
+use Rattle.sub_core.proofs.Turns.{calls_are_in_turn, end_is_asked, end_is_made, messages_are_in_turn, rounds_are_made, votes_are_made}
 use Rattle.sub_core.proofs.Units.{others_leave_all, units_are_due}
+use Rattle.sub_core.proofs.Votes.{votes_are_found}
 use Rattle.sub_core.proofs.laws.driver_law.Goals as goal
 
 pub returns : goal.returns
@@ -13,6 +14,7 @@ returns c =
       numbered = sends_are_numbered law.by_size;
       shown = findings_are_shown law.by_size law.ends;
       found = done_is_found law.by_size law.ends;
+      voted = votes_are_found law.by_size;
       ended = end_is_found law.by_size;
       unreached = unreached_is_found law.by_size;
       missed = misses_are_kept law.by_size;
@@ -24,6 +26,7 @@ returns c =
       rounds = rounds_are_made law.by_size;
       votes = votes_are_made law.by_size law.ends;
       turns = calls_are_in_turn law.by_size;
+      messages = messages_are_in_turn law.by_size;
       at_end = end_is_asked law.by_size;
       rest = end_is_made law.by_size;
     }
