@@ -6,3 +6,4 @@ pub mod Spelling
 pub mod Printing
 pub mod Packed
 pub mod Lies
+pub mod Printed

@@ -5,6 +5,7 @@
 //! are not, and what is printed is read as what it was printed of.
 #![tactic(auto)]
 
+mod display;
 mod fault;
 mod fields;
 mod laws;

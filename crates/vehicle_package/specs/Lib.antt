@@ -5,3 +5,4 @@ pub mod Fields
 pub mod Changes
 pub mod Reading
 pub mod Spelling
+pub mod Printed

@@ -7,6 +7,7 @@
 #![tactic(auto)]
 
 mod changes;
+mod display;
 mod fault;
 mod fields;
 mod laws;
