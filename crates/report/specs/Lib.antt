@@ -2,3 +2,4 @@ pub mod Answers
 pub mod Entries
 pub mod Lines
 pub mod Report
+pub mod Shown

@@ -9,6 +9,7 @@ mod answers;
 mod blocks;
 mod entries;
 mod lines;
+mod order;
 mod print;
 mod shown;
 
