@@ -1,5 +1,5 @@
 //! Look-ups of a transfer that a call would change.
-ghost use Rattle.std.specs.Prelude.{◌≡◌, ◌≢◌, ◌≤◌, ◌+◌, None, Some, IfSome};
+ghost use Rattle.std.specs.Prelude.{◌≡◌, ◌≢◌, ◌≤◌, ◌+◌, ◌↔◌, None, Some, IfSome};
 ghost use Rattle.pm_types.specs.Refusals.{first_refusal};
 ghost use Rattle.pm_types.specs.Transfers.{data_refusals, exit_refusals};
 ghost use Rattle.transfer_blocks.specs.Table.{found_of, stored_header};
@@ -20,8 +20,8 @@ pub fn find_taking(
 ) -> Option<Found>
     ensures found { IfSome result (λ f. found_of list.now client id ≡ Some f) }
     ensures fits { IfSome result (λ f. f.header.received + length ≤ f.header.size) }
-    ensures refused { result ≡ None → first_refusal
-        (data_refusals (stored_header list.now client id) counter length) ≢ None }
+    ensures refused { (result ≡ None) ↔ (first_refusal
+        (data_refusals (stored_header list.now client id) counter length) ≢ None) }
 {
     let found = find(list, client, id)?;
     match data_refusal(&found.header, counter, length) {
@@ -33,8 +33,8 @@ pub fn find_taking(
 /// The client's transfer of this id, where TransferExit isn't refused before its bytes are read.
 pub fn find_ending(list: &TransferList, client: ClientId, id: u32) -> Option<Found>
     ensures found { IfSome result (λ f. found_of list.now client id ≡ Some f) }
-    ensures refused { result ≡ None
-        → first_refusal (exit_refusals (stored_header list.now client id)) ≢ None }
+    ensures refused { (result ≡ None)
+        ↔ (first_refusal (exit_refusals (stored_header list.now client id)) ≢ None) }
 {
     let found = find(list, client, id)?;
     match exit_refusal(&found.header) {

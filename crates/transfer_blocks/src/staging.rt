@@ -1,9 +1,9 @@
 //! The trait of what keeps the areas.
-ghost use Rattle.std.specs.Prelude.{◌≡◌, ◌+◌, ◌≤◌, ℕ, length, slice_range, IfOk, OnOk, OnErr, IsErrOf, is_ok};
+ghost use Rattle.std.specs.Prelude.{◌≡◌, ◌+◌, ◌≤◌, ℕ, length, slice_range, IfOk, OnOk, OnErr, IsErrOf};
 ghost use Rattle.ucm_base.specs.Limits.{package_limit};
 ghost use Rattle.pm_types.specs.Stored.{Areas};
 ghost use Rattle.transfer_blocks.specs.Areas.{content_of, IsArea, AreasFit, LeavesOutside};
-ghost use Rattle.transfer_blocks.specs.Steps.{Step, puts, gets, with_bytes};
+ghost use Rattle.transfer_blocks.specs.Steps.{Step, puts, gets, ended, with_bytes};
 ghost use Rattle.fault_count.specs.Faults.{HasRisen};
 
 use crate::{Area, StagingError};
@@ -25,7 +25,7 @@ pub trait Staging {
     ghost obeys: { Self → Step → Self → Type 0 } = { λ _ _ _. Unit {0} };
 
     /// Puts the bytes at `at` in place of those that lie there. The area grows where the range ends
-    /// behind it. After a failure the bytes of the range may be any, and all others stand.
+    /// behind it. After a failure the bytes of the range may be any, and all others stand; where memory is wanting all do.
     fn put(&mut self, area: Area, at: u64, bytes: &[u8]) -> Result<(), StagingError>
         requires fit { is_fit self.old }
         requires area { IsArea area }
@@ -35,7 +35,9 @@ pub trait Staging {
             (areas self.new ≡ with_bytes area at bytes.now (areas self.old)) }
         ensures outside { OnErr result
             (LeavesOutside area at (length bytes.now) (areas self.old) (areas self.new)) }
-        ensures obeys { obeys self.old (puts area at bytes.now (is_ok result)) self.new }
+        ensures memory { IsErrOf result StagingError.OutOfMemory
+            → areas self.new ≡ areas self.old }
+        ensures obeys { obeys self.old (puts area at bytes.now (ended result)) self.new }
         ensures fit { is_fit self.new }
         ensures faults { fault_count self.old ≤ fault_count self.new }
         ensures cause { IsErrOf result StagingError.Failed
@@ -49,7 +51,7 @@ pub trait Staging {
         ensures bytes { IfOk result (λ v. v.items
             ≡ slice_range (content_of area (areas self.old)) at (at + len)) }
         ensures areas { areas self.new ≡ areas self.old }
-        ensures obeys { obeys self.old (gets (is_ok result)) self.new }
+        ensures obeys { obeys self.old (gets (ended result)) self.new }
         ensures fit { is_fit self.new }
         ensures faults { fault_count self.old ≤ fault_count self.new }
         ensures cause { IsErrOf result StagingError.Failed
