@@ -1,5 +1,5 @@
 -- What a call of extents may leave on the disk.
-use Rattle.std.specs.Prelude.{◌≡◌, true, false, ⊤, List, [], ◌∷◌, ℕ, length}
+use Rattle.std.specs.Prelude.{◌≡◌, ⊤, List, [], ◌∷◌, ℕ, length, Ok, Err}
 use Rattle.disk_core.specs.Bytes.{Torn, Puts}
 use Rattle.disk_core.specs.Images.{EachImage, From, Only}
 use Rattle.disk_core.specs.Moments.{LeavesOnly}
@@ -7,30 +7,34 @@ use Rattle.disk_core.specs.declared.plan.FaultPlan.{FaultPlan}
 use Rattle.disk_area.specs.Windows.{window, InArea}
 use Rattle.transfer_blocks.specs.Areas.{IsArea}
 use Rattle.transfer_blocks.specs.Steps.{Step, puts, gets, wrote}
+use Rattle.transfer_blocks.specs.declared.fault.StagingError.TheVariants.{Failed, OutOfMemory}
 use Rattle.slot_store.specs.Extents.{extent_in, held_in}
 use Rattle.slot_store.specs.declared.places.Places.{Places}
 
--- what a crash during the call may have changed: any bytes in the range that is put
+-- what a crash during the call may have changed: any bytes in the range that is put, and nothing where memory is wanting
 abbrev pub Tears : Places → Step → List ℕ → List ℕ → Type 0
-Tears places (puts area at bytes done) old new = InArea (extent_in places area) (Torn at (length bytes)) old new
-Tears places (gets done) old new = new ≡ old
+Tears places (puts area at bytes (Err OutOfMemory)) old new = new ≡ old
+Tears places (puts area at bytes end) old new = InArea (extent_in places area) (Torn at (length bytes)) old new
+Tears places (gets end) old new = new ≡ old
 
 -- the bytes are put, where the call succeeded
 abbrev pub IsPut : Places → Step → List ℕ → List ℕ → Type 0
-IsPut places (puts area at bytes true) old new =
+IsPut places (puts area at bytes (Ok given)) old new =
     Puts at bytes (window (extent_in places area) old) (window (extent_in places area) new)
-IsPut places (puts area at bytes false) old new = ⊤
-IsPut places (gets done) old new = ⊤
+IsPut places (puts area at bytes (Err fault)) old new = ⊤
+IsPut places (gets end) old new = ⊤
 
 -- what has changed after the call
 abbrev pub Does : Places → Step → List ℕ → List ℕ → Type 0
 Does places step old new = Tears places step old new × IsPut places step old new
 
--- a put ends with a sync: where it succeeded nothing is pending behind it, and behind a read where nothing was
+-- a put ends with a sync: where it succeeded nothing is pending behind it; behind one that wanted memory, and behind a
+-- read, where nothing was
 abbrev pub Settles : Step → Type 0 → Type 0 → Type 0
-Settles (puts area at bytes true) before after = after
-Settles (puts area at bytes false) before after = ⊤
-Settles (gets done) before after = before → after
+Settles (puts area at bytes (Ok given)) before after = after
+Settles (puts area at bytes (Err Failed)) before after = ⊤
+Settles (puts area at bytes (Err OutOfMemory)) before after = before → after
+Settles (gets end) before after = before → after
 
 -- A crash at any moment of the call leaves an image of before it, torn in the range that is put; a crash after it, one
 -- with the bytes put, where the call succeeded.
@@ -49,8 +53,8 @@ TornBy places (step ∷ steps) old new = (mid : List ℕ) × Tears places step o
 
 -- the call is one on an area of a node
 abbrev pub IsOnArea : Step → Type 0
-IsOnArea (puts area at bytes done) = IsArea area
-IsOnArea (gets done) = ⊤
+IsOnArea (puts area at bytes end) = IsArea area
+IsOnArea (gets end) = ⊤
 
 -- the areas hold what these calls put into them, where each succeeded
 abbrev pub Wrote : Places → List Step → List ℕ → List ℕ → Type 0

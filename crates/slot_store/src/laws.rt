@@ -8,7 +8,7 @@ ghost use Rattle.disk_area.specs.Windows.{InArea};
 ghost use Rattle.transfer_blocks.specs.declared.area.Area.{Area as an_area};
 ghost use Rattle.ucm_base.specs.Limits.{package_limit};
 ghost use Rattle.transfer_blocks.specs.Areas.{IsArea, content_of, LeavesOutside};
-ghost use Rattle.transfer_blocks.specs.Steps.{Step, Ran, IsDone};
+ghost use Rattle.transfer_blocks.specs.Steps.{Step, Ran, IsDone, HasNoFault};
 ghost use Rattle.slot_store.specs.Extents.{node_places, node_end, extent_in, held_in, HasExtents};
 ghost use Rattle.slot_store.specs.Leaves.{TornBy, Wrote, IsOnArea};
 ghost use Rattle.slot_store.specs.declared.extents.Extents.{Extents as some_extents};
@@ -35,7 +35,7 @@ pub fn extents_lie_apart()
 {}
 
 /// A law, on calls of extents one after another: a crash at any moment leaves what they may have torn; where each
-/// succeeded the areas hold what they put, and nothing is pending where nothing was before.
+/// succeeded the areas hold what they put; where none met a fault nothing is pending, if nothing was before.
 pub fn runs_leave_what_they_put<D: Disk>()
     ensures any_moment { (steps : List Step) (old new : some_extents D)
         → Ran ⟦<Extents<D> as Staging>⟧.obeys steps old new
@@ -46,7 +46,7 @@ pub fn runs_leave_what_they_put<D: Disk>()
         → AllByRecursion IsDone steps → AllByRecursion IsOnArea steps
         → EachImage (D.images new.disk) (From (D.images old.disk) (Wrote node_places steps)) }
     ensures durable { (steps : List Step) (old new : some_extents D)
-        → Ran ⟦<Extents<D> as Staging>⟧.obeys steps old new → AllByRecursion IsDone steps
+        → Ran ⟦<Extents<D> as Staging>⟧.obeys steps old new → AllByRecursion HasNoFault steps
         → Only (D.seen old.disk) (D.images old.disk)
         → Only (D.seen new.disk) (D.images new.disk) }
     ensures plan { (steps : List Step) (old new : some_extents D)

@@ -16,9 +16,9 @@ returns-clause-put g c steps old new ran done on =
     steps old new ran done on
 
 pub returns-clause-durable : goal.returns-clause-durable
-returns-clause-durable g c steps old new ran done only =
+returns-clause-durable g c steps old new ran sound only =
     let d = g.D.Disk in
-    ran_settles (λ s. s.disk) d.seen d.images d.moment d.left_since d.armed node_places steps old new ran done only
+    ran_settles (λ s. s.disk) d.seen d.images d.moment d.left_since d.armed node_places steps old new ran sound only
 
 pub returns-clause-plan : goal.returns-clause-plan
 returns-clause-plan g c steps old new ran =

@@ -1,4 +1,4 @@
-use Rattle.std.proofs.Common.{ℕ, List, length, true, false, sym, ◌∙◌, subst}
+use Rattle.std.proofs.Common.{ℕ, List, length, Ok, Err, sym, ◌∙◌, subst}
 use Rattle.disk_core.specs.Bytes.{Puts, Torn}
 use Rattle.disk_core.specs.Images.{From}
 use Rattle.disk_core.specs.Moments.{LeavesOnly}
@@ -7,7 +7,8 @@ use Rattle.disk_area.specs.Windows.{InArea}
 use Rattle.slot_store.specs.Extents.{node_places, extent_in}
 use Rattle.slot_store.proofs.Apart.{node_sound}
 use Rattle.slot_store.proofs.Held.{torn_leaves, put_held}
-use Rattle.slot_store.proofs.Puts.{put_moments, put_failed}
+use Rattle.slot_store.proofs.Puts.{put_moments, put_after}
+use Rattle.transfer_blocks.specs.declared.fault.StagingError.TheVariants.{Failed}
 use Rattle.slot_store.proofs.extents.ExtentsStaging.put.Goals as goal
 
 pub returns-in-Ok-clause-put : goal.returns-in-Ok-clause-put
@@ -35,7 +36,7 @@ returns-in-Ok-clause-obeys g c =
     subst (λ (x : Window × List ℕ). InArea x.0 (Torn at (length bytes)) x.1 (d.seen new))
     (λ i. (c.extent.ensures i, c.reserve.ensures.reads i)) c.in-Ok.ensures.reads in
     record {
-      moments = put_moments d.moment d.left_since d.images node_places c.args.area at bytes true old mid new
+      moments = put_moments d.moment d.left_since d.images node_places c.args.area at bytes (Ok tt) old mid new
           (g.met.D.Disk.only_now old) c.reserve.ensures.images c.reserve.ensures.time more;
       after = λ x now. (
         d.seen old,
@@ -73,11 +74,13 @@ returns-in-Err-clause-obeys g c =
     subst (λ (w : Window). LeavesOnly d.moment d.left_since mid new (From (d.images mid) (InArea w
     (Torn at (length bytes))))) c.extent.ensures c.in-Err.ensures.any_moment in
     record {
-      moments = put_moments d.moment d.left_since d.images node_places c.args.area at bytes false old mid new
+      moments = put_moments d.moment d.left_since d.images node_places c.args.area at bytes (Err Failed) old mid new
           (g.met.D.Disk.only_now old) c.reserve.ensures.images c.reserve.ensures.time more;
-      after = put_failed d.moment d.left_since d.images node_places c.args.area at bytes false old mid new
+      after = λ x now.
+          let from = put_after d.moment d.left_since d.images node_places c.args.area at bytes (Err Failed) old mid new
           (g.met.D.Disk.only_now old) c.reserve.ensures.images c.reserve.ensures.time more
-          (λ x now. g.met.D.Disk.counts_now new (d.moment mid) x more.later now);
+          (λ x now. g.met.D.Disk.counts_now new (d.moment mid) x more.later now) x now in
+          (from.0, from.1, (from.2, tt));
       settles = tt;
       plan = c.in-Err.ensures.served.same_plan ∙ c.reserve.ensures.plan;
     }
