@@ -10,7 +10,7 @@ use Rattle.node_core.proofs.Names.{filter-means, first_refusal, found-has, good_
 use Rattle.node_core.proofs.Names.{if◌then◌else◌, in_phase, is-transferring, is_in, is_of, kept_by, last_id, length}
 use Rattle.node_core.proofs.Names.{length-map, lowest_free, map, map-append, meaning, nat_le, nat_lt, nat_tests}
 use Rattle.node_core.proofs.Names.{node_of, not, not-false, option_map, option_map_or, option_or, over, package_limit}
-use Rattle.node_core.proofs.Names.{package_reading, parts_read, placed, received, refl, refusal_by, refused_or}
+use Rattle.node_core.proofs.Names.{package_reading, parts_read, received, refl, refusal_by, refused_or}
 use Rattle.node_core.proofs.Names.{rows-clear, slice_index_or, slots_differ, slots_of, some_passes, start}
 use Rattle.node_core.proofs.Names.{start_refusals, started, stored_header, stored_of, subst, sym, table-filter}
 use Rattle.node_core.proofs.Names.{table-fresh, table_of, take, take_block, transfer_limit, transfer_meaning}

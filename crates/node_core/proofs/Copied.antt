@@ -1,10 +1,10 @@
 -- What copying the next unit of a package leaves of a sound node, and makes ready.
 use Rattle.node_core.proofs.Names.{AllByRecursion, AreCopied, Areas, AreasFit, Bytes, Change, Extent, Holding, IfSome, IsArea, IsExtent, StandsFor, node_of}
-use Rattle.node_core.proofs.Names.{IsNextUnit, IsPackageReady, IsReservedWork, IsSound, IsUnitOf, LeavesOutside, LieWithin, List, NextUnit, None}
-use Rattle.node_core.proofs.Names.{Ok, OnOk, Option, Piece, Processing, Result, SessionOf, Some, State, StoredTransfer, Err}
+use Rattle.node_core.proofs.Names.{IsPackageReady, IsReservedWork, IsSound, IsUnitOf, LeavesOutside, LieWithin, List, NextUnit, None}
+use Rattle.node_core.proofs.Names.{Option, Piece, Processing, SessionOf, Some, State, StoredTransfer}
 use Rattle.node_core.proofs.Names.{Transfer as MeantTransfer, ap, append-nil, arith, before-stands, changes_due, changes_to, content-here, content_of}
 use Rattle.node_core.proofs.Names.{drop, each-imp, extents_in, if◌then◌else◌, length, length-drop, length-map, length-take, on_side, found-has, is_of, IsCopiedIn, Part, PartsLie, option_map}
-use Rattle.node_core.proofs.Names.{overwritten, package_limit, package_reading, parts_place, piece_of, plan_kept, refl, side_of, slice_range}
+use Rattle.node_core.proofs.Names.{overwritten, package_limit, package_reading, parts_place, piece_of, plan_kept, side_of, slice_range}
 use Rattle.node_core.proofs.Names.{subst, sym, take, take-overwritten, take-take, transfer_meaning, with_content, with_length, ℕ, ◌++◌}
 use Rattle.node_core.proofs.Names.{◌+◌, ◌-◌, ◌<◌, ◌∙◌, ◌≡◌, ◌≢◌, ◌≤◌}
 use Rattle.transfer_blocks.specs.declared.area.Area.TheVariants.{Transfer}

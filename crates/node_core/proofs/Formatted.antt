@@ -1,7 +1,10 @@
 -- A node that begins with installed clusters is sound.
 use Rattle.std.proofs.Math.Seq.{take-append_seam}
-use Rattle.std.specs.Prelude.{Bool}
-use Rattle.transfer_blocks.specs.Steps.{Step, Ran, puts, with_bytes, wrote}
+use Rattle.std.specs.Prelude.{Ok, Err}
+use Rattle.transfer_blocks.specs.Steps.{End, Step, HasNoFault, Ran, puts, with_bytes, wrote}
+use Rattle.transfer_blocks.specs.declared.fault.StagingError.{StagingError}
+use Rattle.transfer_blocks.specs.declared.fault.StagingError.TheVariants.{Failed, OutOfMemory}
+use Rattle.node_core.proofs.Runs.{ok-faultless}
 use Rattle.transfer_blocks.proofs.Areas.{fits-with}
 use Rattle.transfer_blocks.proofs.Runs.{ran_both, wrote_both}
 use Rattle.node_core.proofs.Lists.{each-append, each-first}
@@ -12,9 +15,9 @@ use Rattle.node_core.proofs.Names.{AllByRecursion, AreInstalled, Area, Areas, Ar
 use Rattle.node_core.proofs.Names.{IsSound, List, Side, ap, append-nil, ap₂, arith, bytes_eq, cluster_limit, cluster_meaning}
 use Rattle.node_core.proofs.Names.{cluster_place, content-elsewhere, content-here, content_of, different_names, each-unmap, false}
 use Rattle.node_core.proofs.Names.{formatted, fresh_state, holding, in_order, keeps-fit, length, length-append, length-map, map}
-use Rattle.node_core.proofs.Names.{map-append, name_lt, names-behind, names-tail, names_fit_places, names_of, names_rise, nat_tests}
-use Rattle.node_core.proofs.Names.{package_limit, package_reading, placed, placed_from, refl, subst, sym, take, take_all, true}
-use Rattle.node_core.proofs.Names.{with_content, [], ℕ, ◌++◌, ◌+◌, ◌<◌, ◌==◌, ◌∙◌, ◌∷◌, ◌≡◌, ◌≢◌, ◌≤◌}
+use Rattle.node_core.proofs.Names.{name_lt, names-behind, names-tail, names_fit_places, names_of, names_rise, nat_tests}
+use Rattle.node_core.proofs.Names.{package_limit, package_reading, placed, placed_from, refl, subst, sym, take, true}
+use Rattle.node_core.proofs.Names.{[], ℕ, ◌++◌, ◌+◌, ◌<◌, ◌==◌, ◌∙◌, ◌∷◌, ◌≡◌, ◌≢◌, ◌≤◌}
 use Rattle.node_core.proofs.Free.{fits-onto}
 use Rattle.node_core.proofs.Named.{not-more}
 use Rattle.node_core.proofs.Ordered.{lt-differ, order-each, order-rises}
@@ -132,15 +135,15 @@ put-means k (c ∷ cs) areas fit few short =
     (put-means (k + 1) cs after after-fit (omega (arith, few)) short.1)
 
 installs-append : (k : ℕ) (cs : List (Cluster Bytes)) (c : Cluster Bytes)
-    → installs k (cs ++ c ∷ []) ≡ installs k cs ++ puts (Side (k + length cs) 0) 0 c.content true ∷ []
-installs-append k [] c = ap (λ n. puts (Side n 0) 0 c.content true ∷ []) (omega arith)
+    → installs k (cs ++ c ∷ []) ≡ installs k cs ++ puts (Side (k + length cs) 0) 0 c.content (Ok tt) ∷ []
+installs-append k [] c = ap (λ n. puts (Side n 0) 0 c.content (Ok tt) ∷ []) (omega arith)
 installs-append k (d ∷ cs) c = grind (arith, installs-append (k + 1) cs c)
 
 -- and from the first place on
 installs-next : (cs : List (Cluster Bytes)) (c : Cluster Bytes)
-    → installs 0 (cs ++ c ∷ []) ≡ installs 0 cs ++ puts (Side (length cs) 0) 0 c.content true ∷ []
+    → installs 0 (cs ++ c ∷ []) ≡ installs 0 cs ++ puts (Side (length cs) 0) 0 c.content (Ok tt) ∷ []
 installs-next cs c =
-    installs-append 0 cs c ∙ ap (λ n. installs 0 cs ++ puts (Side n 0) 0 c.content true ∷ []) (zero-add (length cs))
+    installs-append 0 cs c ∙ ap (λ n. installs 0 cs ++ puts (Side n 0) 0 c.content (Ok tt) ∷ []) (zero-add (length cs))
 
 placed-append : (k : ℕ) (cs : List (Cluster Bytes)) (c : Cluster Bytes)
     → placed_from k (cs ++ c ∷ []) ≡ placed_from k cs ++ placed (k + length cs) c ∷ []
@@ -151,7 +154,12 @@ placed-length : (k : ℕ) (cs : List (Cluster Bytes)) → length (placed_from k 
 placed-length k [] = refl
 placed-length k (c ∷ cs) = let rest = placed-length (k + 1) cs in omega (arith, rest)
 
--- each of these calls puts bytes to the first side of a place
+-- each of these calls succeeds
+installs-faultless : (k : ℕ) (cs : List (Cluster Bytes)) → AllByRecursion HasNoFault (installs k cs)
+installs-faultless k [] = tt
+installs-faultless k (c ∷ cs) = (ok-faultless, installs-faultless (k + 1) cs)
+
+-- and puts bytes to the first side of a place
 installs-sides : (k : ℕ) (cs : List (Cluster Bytes)) → k + length cs ≤ cluster_limit → AreShort cs
     → AllByRecursion Installs (installs k cs)
 installs-sides k [] few short = tt
@@ -191,26 +199,28 @@ module _ {S : Type 0} (obeys : S → Step → S → Type 0) (cs rest all : List 
   room : length cs < cluster_limit
   room = next-room cs rest all c whole few stored is place behind
 
-  put-here : (ok : Bool) → obeys at (puts (Side place 0) 0 bytes ok) new
-      → obeys at (puts (Side (length cs) 0) 0 c.content ok) new
-  put-here ok obeyed =
-      subst (λ (k : ℕ × Bytes). obeys at (puts (Side k.0 0) 0 k.1 ok) new) (λ i. (place-is i, same i)) obeyed
+  put-here : (end : End) → obeys at (puts (Side place 0) 0 bytes end) new
+      → obeys at (puts (Side (length cs) 0) 0 c.content end) new
+  put-here end obeyed =
+      subst (λ (k : ℕ × Bytes). obeys at (puts (Side k.0 0) 0 k.1 end) new) (λ i. (place-is i, same i)) obeyed
 
-  -- what follows fails
-  pub next-failed : (ok : Bool) → obeys at (puts (Side place 0) 0 bytes ok) new → Formats obeys all false old new
-  next-failed ok obeyed = record {
-    steps = installs 0 cs ++ puts (Side (length cs) 0) 0 c.content ok ∷ [];
-    ran = ran_both obeys (installs 0 cs) _ old at new ran (new, put-here ok obeyed, refl);
+  -- it, or what follows, fails, with a fault where it met one
+  pub next-failed : (end : End) (fault : StagingError) → (let failed : End = Err fault in failed ≢ Err Failed → end ≢ Err Failed)
+      → obeys at (puts (Side place 0) 0 bytes end) new → Formats obeys all (Err fault) old new
+  next-failed end fault tells obeyed = record {
+    steps = installs 0 cs ++ puts (Side (length cs) 0) 0 c.content end ∷ [];
+    ran = ran_both obeys (installs 0 cs) _ old at new ran (new, put-here end obeyed, refl);
+    faultless = λ e. each-append HasNoFault (installs 0 cs) _ (installs-faultless 0 cs) (tells e, tt);
     sides = each-append Installs (installs 0 cs) _
         (installs-sides 0 cs (omega (arith, room)) (each-first _ cs (c ∷ rest) (subst AreShort (sym whole) short)))
         ((room, refl, let wide = next-short cs rest all c whole short in omega (arith, wide)), tt);
     whole = λ e. absurd (cc e);
   }
 
-  pub next-ran : obeys at (puts (Side place 0) 0 bytes true) new → Ran obeys (installs 0 (cs ++ c ∷ [])) old new
+  pub next-ran : obeys at (puts (Side place 0) 0 bytes (Ok tt)) new → Ran obeys (installs 0 (cs ++ c ∷ [])) old new
   next-ran obeyed =
       subst (λ steps. Ran obeys steps old new) (sym (installs-next cs c))
-      (ran_both obeys (installs 0 cs) _ old at new ran (new, put-here true obeyed, refl))
+      (ran_both obeys (installs 0 cs) _ old at new ran (new, put-here (Ok tt) obeyed, refl))
 
   -- one more is placed
   pub next-placed : (more : List (Cluster Extent)) → more ≡ stored ++ placed place c ∷ []
@@ -225,27 +235,40 @@ module _ {S : Type 0} (obeys : S → Step → S → Type 0) (cs rest all : List 
   next-areas held before after held-is put =
       put ∙ (λ i. with_bytes (Side (place-is i) 0) 0 (same i) (held-is i))
       ∙ sym (ap (λ steps. wrote steps held) (installs-next cs c)
-      ∙ wrote_both (installs 0 cs) (puts (Side (length cs) 0) 0 c.content true ∷ []) held)
+      ∙ wrote_both (installs 0 cs) (puts (Side (length cs) 0) 0 c.content (Ok tt) ∷ []) held)
 
 -- all are put
 pub all-formats : {S : Type 0} (obeys : S → Step → S → Type 0) (cs all : List (Cluster Bytes)) (old new : S)
     → cs ≡ all → length all ≤ cluster_limit → AreShort all → Ran obeys (installs 0 cs) old new
-    → Formats obeys all true old new
+    → Formats obeys all (Ok tt) old new
 all-formats obeys cs all old new same few short ran = record {
   steps = installs 0 all;
   ran = subst (λ l. Ran obeys (installs 0 l) old new) same ran;
   sides = installs-sides 0 all (omega (arith, few)) short;
+  faultless = λ e. installs-faultless 0 all;
   whole = λ e. refl;
 }
 
--- nothing was put, or what follows fails
+-- nothing was put, or what follows wants memory
 pub none-formats : {S : Type 0} (obeys : S → Step → S → Type 0) (all : List (Cluster Bytes)) (old : S)
-    → Formats obeys all false old old
-none-formats obeys all old = record { steps = []; ran = refl; sides = tt; whole = λ e. absurd (cc e) }
+    → Formats obeys all (Err OutOfMemory) old old
+none-formats obeys all old = record {
+  steps = [];
+  ran = refl;
+  sides = tt;
+  faultless = λ e. tt;
+  whole = λ e. absurd (cc e);
+}
 
-pub then-failed : {S : Type 0} {obeys : S → Step → S → Type 0} {all : List (Cluster Bytes)} {ok : Bool} {old new : S}
-    → Formats obeys all ok old new → Formats obeys all false old new
-then-failed f = record { steps = f.steps; ran = f.ran; sides = f.sides; whole = λ e. absurd (cc e) }
+pub then-failed : {S : Type 0} {obeys : S → Step → S → Type 0} {all : List (Cluster Bytes)} {old new : S}
+    → Formats obeys all (Ok tt) old new → Formats obeys all (Err OutOfMemory) old new
+then-failed f = record {
+  steps = f.steps;
+  ran = f.ran;
+  sides = f.sides;
+  faultless = λ e. f.faultless ok-faultless;
+  whole = λ e. absurd (cc e);
+}
 
 -- a node that begins with clusters, over areas that they were put to
 pub formatted-node : (held : Areas) (ordered cs : List (Cluster Bytes)) → ordered ≡ in_order cs

@@ -1,5 +1,11 @@
 -- Facts of each member of a list, and lists in which one member is changed.
-use Rattle.std.specs.Prelude.{Err, IsErrAnd, Ok, Result, is_ok}
+use Rattle.std.specs.Prelude.{Err, IsErrAnd, Ok, Result}
+use Rattle.transfer_blocks.specs.Steps.{End}
+use Rattle.transfer_blocks.specs.declared.fault.StagingError.{StagingError}
+use Rattle.transfer_blocks.specs.declared.fault.StagingError.TheVariants.{Failed, OutOfMemory}
+use Rattle.node_core.specs.Errors.{end_by, error_of, fault_of}
+use Rattle.node_core.specs.declared.node.ReserveError.{ReserveError}
+use Rattle.node_core.proofs.Names.{subst, sym}
 use Rattle.node_core.proofs.Names.{AllByRecursion, is_some, Bool, List, Some, and_parts, arith, both_true, cond, false, filter, find}
 use Rattle.node_core.proofs.Names.{if◌then◌else◌, list_all, list_any, map, neither, option_map, refl, true, [], ◌++◌, ◌||◌, ◌∷◌, ◌≡◌}
 
@@ -80,7 +86,17 @@ pub change-each : {X : Type 0} (P : X → Type 0) (p : X → Bool) (g : X → X)
 change-each P p g [] changed each = tt
 change-each {X} P p g (x ∷ xs) changed each = grind (arith, change-each P p g xs changed.1 each.1)
 
--- what holds of a failure holds where a `?` returns one
-pub at-err : {X E : Type 0} (P : Bool → Type 0) (Q : E → Type 0) (r : Result X E) → IsErrAnd r Q → P false → P (is_ok r)
-at-err P Q (Err e) is p = p
-at-err P Q (Ok x) is p = absurd is
+-- what holds where an error was met holds where a `?` hands it on
+pub at-err : {X : Type 0} (P : End → Type 0) (e : ReserveError) (r : Result X ReserveError) → IsErrAnd r (λ x. x ≡ e)
+    → P (Err (fault_of e)) → P (end_by r)
+at-err P e (Err x) is p = subst (λ y. P (Err (fault_of y))) (sym is) p
+at-err P e (Ok x) is p = absurd is
+
+-- and where it was one of the staging
+pub at-fault : {X : Type 0} (P : End → Type 0) (fault : StagingError) (r : Result X ReserveError)
+    → IsErrAnd r (λ x. x ≡ error_of fault) → P (Err fault) → P (end_by r)
+at-fault P fault r is p = at-err P (error_of fault) r is (subst (λ f. P (Err f)) (same fault) p)
+  where
+    same : (fault : StagingError) → fault ≡ fault_of (error_of fault)
+    same Failed = refl
+    same OutOfMemory = refl

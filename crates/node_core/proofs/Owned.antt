@@ -5,7 +5,8 @@ use Rattle.node_core.proofs.Names.{package_reading, subst, sym, ℕ, ◌∙◌, 
 use Rattle.node_core.proofs.Reserved.{reserves-ready, stand-sound}
 use Rattle.node_core.specs.Reserves.{Reserves}
 use Rattle.transfer_blocks.specs.Steps.{Step}
-use Rattle.std.specs.Prelude.{is_ok}
+use Rattle.node_core.specs.Errors.{end_by}
+use Rattle.node_core.specs.declared.node.ReserveError.{ReserveError}
 
 module _ {S : Type 0} {a b : Owning S} (e : a ≡ b) where
   pub held-is : a.held ≡ b.held
@@ -31,9 +32,9 @@ module _ (old new : Areas) (r n : Readied) (same : n.state ≡ r.state) (sound :
   stays-node = ap (meaning package_reading new) same ∙ stand.node
 
 -- what a reserve that succeeded left is ready over the staging's own areas
-pub ready-ok : {S X E : Type 0} {obeys : S → Step → S → Type 0} {areas : S → Areas} {s : State}
-    {Bring : Step → Type 0} {R : Areas → Type 0} {old new : S} (r : Result X E) → AreasFit (areas old)
+pub ready-ok : {S X : Type 0} {obeys : S → Step → S → Type 0} {areas : S → Areas} {s : State}
+    {Bring : Step → Type 0} {R : Areas → Type 0} {old new : S} (r : Result X ReserveError) → AreasFit (areas old)
     → StandsFor (areas old) s (meaning package_reading (areas old) s)
-    → Reserves obeys areas s Bring R (is_ok r) old new → OnOk r (R (areas new))
+    → Reserves obeys areas s Bring R (end_by r) old new → OnOk r (R (areas new))
 ready-ok (Ok x) fit stands reserves = reserves-ready fit stands reserves
 ready-ok (Err e) fit stands reserves = tt

@@ -9,7 +9,7 @@ use Rattle.node_core.proofs.Names.{not-false, option_map, option_or, package_rea
 use Rattle.node_core.proofs.Names.{places_in, put_back, refl, refusal_by, rows-clear, session_meaning}
 use Rattle.node_core.proofs.Names.{session_refusals, slice_index_or, slots_differ, some_passes, status_table}
 use Rattle.node_core.proofs.Names.{stop_processing, stored_header, stored_of, sym, take, transfer_meaning, true}
-use Rattle.node_core.proofs.Names.{units_done, whole, with_bytes, with_length, with_phase, with_slots, ℕ, [], ◌==◌}
+use Rattle.node_core.proofs.Names.{units_done, with_bytes, with_length, with_phase, with_slots, ℕ, [], ◌==◌}
 use Rattle.node_core.proofs.Names.{◌∙◌, ◌∷◌, ◌≡◌}
 use Rattle.node_core.proofs.Arrived.{marked, copied-by, led-stands}
 use Rattle.node_core.proofs.Lists.{every, change-each}

@@ -1,21 +1,30 @@
 -- Calls of a staging that make ready for a call or a unit, and areas that stand in after them.
-use Rattle.std.specs.Prelude.{Err, IsErrAnd, IsSomeAnd, Ok, Result, is_ok}
+use Rattle.std.specs.Prelude.{Err, IsErrAnd, IsSomeAnd, Ok, Result}
 use Rattle.pm_types.specs.Histories.{verdict_for}
-use Rattle.pm_types.specs.Steps.{refusal}
 use Rattle.transfer_blocks.specs.declared.area.Area.{Area}
 use Rattle.transfer_blocks.specs.declared.area.Area.TheVariants.{Transfer}
-use Rattle.transfer_blocks.specs.Steps.{Step, puts, gets, with_bytes, wrote}
-use Rattle.node_core.specs.Reserves.{Brings, Copies, IsPut, IsRead, Reads, Reserves, Spares, Writes}
+use Rattle.transfer_blocks.specs.Steps.{End, Step, puts, gets, with_bytes}
+use Rattle.node_core.specs.Reserves.{Brings, BringsNew, Copies, IsPut, IsRead, Reads, Reserves, Spares, Writes}
 use Rattle.node_core.specs.declared.prepared.Prepared.TheVariants.{Nothing}
-use Rattle.node_core.proofs.Names.{AllByRecursion, Areas, AreasFit, Bool, Bytes, Call, Found, Holding, IsFit, IsReady, State, false, holding, meaning}
+use Rattle.node_core.proofs.Names.{Areas, AreasFit, Bytes, Call, Found, Holding, IsFit, IsReady, State, false, holding, meaning}
 use Rattle.node_core.proofs.Names.{IsReservedWork, IsSound, IsUnitOf, LeavesOutside, NextUnit, NodeState, Option, Piece, Prepared}
 use Rattle.node_core.proofs.Names.{Processing, Some, StandsFor, StoredTransfer, TransferData, ap, arith, content_of, drop, each-imp, find}
 use Rattle.node_core.proofs.Names.{found_of, is_of, length, length-drop, length-take, node_of, option_map, option_map_or, package_limit}
 use Rattle.node_core.proofs.Names.{package_reading, parts_place, piece_of, plan_kept, put-leaves, refl, side_of, slice_range, stored_of}
-use Rattle.node_core.proofs.Names.{subst, sym, take, transfer_meaning, true, [], ℕ, ◌+◌, ◌-◌, ◌∙◌, ◌≡◌, ◌≢◌, ◌≤◌}
+use Rattle.node_core.proofs.Names.{subst, sym, take, transfer_meaning, [], ℕ, ◌+◌, ◌-◌, ◌∙◌, ◌≡◌, ◌≢◌, ◌≤◌}
 use Rattle.node_core.proofs.Names.{IsVerdictKept, None, TransferExit, exit_refusals, first_refusal, header_of, transfer_of, verdict_kept}
 use Rattle.node_core.proofs.Names.{Activate, Cancel, DeleteTransfer, Finish, ProcessSwPackage, RevertProcessedSwPackages, Rollback, Sync, TransferStart}
 use Rattle.node_core.proofs.Names.{Extent, IfSome, Readied, IsNextUnit, IsPackageReady, IsUnitReady, SessionOf}
+use Rattle.pm_types.specs.NodeState.{of_client}
+use Rattle.pm_types.specs.Steps.{repeat_of}
+use Rattle.ucm_base.specs.declared.ids.CallNo.{CallNo}
+use Rattle.transfer_blocks.specs.Table.{stored_header}
+use Rattle.transfer_blocks.specs.declared.fault.StagingError.{StagingError}
+use Rattle.pm_types.specs.Transfers.{data_refusals}
+use Rattle.node_core.specs.Errors.{end_by, fault_of}
+use Rattle.node_core.specs.declared.node.ReserveError.{ReserveError}
+use Rattle.node_core.proofs.Names.{is_some}
+use Rattle.node_core.proofs.Lists.{at-err}
 use Rattle.node_core.proofs.Copied.{Needs, PieceNeeds, needs}
 use Rattle.node_core.proofs.Pieces.{slice-take}
 use Rattle.node_core.proofs.Runs.{reads-none, reads-once, reads-wrote}
@@ -46,11 +55,11 @@ module _ {S : Type 0} (obeys : S → Step → S → Type 0) (areas : S → Areas
   node = meaning package_reading (areas old) s
 
   -- reading reserves, where what is ready is so over areas that stand for the node
-  pub reads-reserve : (ok : Bool) → ((done : Bool) → Bring (gets done)) → Reads obeys ok old new
+  pub reads-reserve : (end : End) → ((e : End) → Bring (gets e)) → Reads obeys end old new
       → areas new ≡ areas old → StandsFor (areas old) s node
-      → (ok ≡ true → (held : Areas) → AreasFit held → StandsFor held s node → R held)
-      → Reserves obeys areas s Bring R ok old new
-  reads-reserve ok bring reads same stands ready = record {
+      → (end ≡ Ok tt → (held : Areas) → AreasFit held → StandsFor held s node → R held)
+      → Reserves obeys areas s Bring R end old new
+  reads-reserve end bring reads same stands ready = record {
     steps = reads.steps;
     ran = reads.ran;
     once = omega (arith, ap length (reads-once reads.steps reads.reads));
@@ -58,28 +67,29 @@ module _ {S : Type 0} (obeys : S → Step → S → Type 0) (areas : S → Areas
     spares = each-imp IsRead (Spares s node) spares reads.steps reads.reads;
     stands = subst (λ (a : Areas). StandsFor a s node) (sym same) stands;
     done = reads.done;
+    faultless = reads.faultless;
     moved = λ e. same ∙ sym (reads-wrote reads.steps reads.reads (areas old));
     holds = λ e held fit stand. subst (λ a. StandsFor a s node × R a) (sym (reads-wrote reads.steps reads.reads held))
         (stand, ready e held fit stand);
   }
     where
       brings : (step : Step) → IsRead step → Bring step
-      brings (puts area at bytes done) read = absurd read
-      brings (gets done) read = bring done
+      brings (puts area at bytes end) read = absurd read
+      brings (gets end) read = bring end
 
       spares : (step : Step) → IsRead step → Spares s node step
-      spares (puts area at bytes done) read = absurd read
-      spares (gets done) read = tt
+      spares (puts area at bytes end) read = absurd read
+      spares (gets end) read = tt
 
   -- and so does putting bytes where nothing is named
-  pub writes-reserve : (ok : Bool) (area : Area) (at : ℕ) (bytes : Bytes) → ((done : Bool) → Bring (gets done))
-      → ((done : Bool) → Bring (puts area at bytes done)) → ((done : Bool) → Spares s node (puts area at bytes done))
-      → Writes obeys area at bytes ok old new → (ok ≡ true → areas new ≡ with_bytes area at bytes (areas old))
+  pub writes-reserve : (end : End) (area : Area) (at : ℕ) (bytes : Bytes) → ((e : End) → Bring (gets e))
+      → ((e : End) → Bring (puts area at bytes e)) → ((e : End) → Spares s node (puts area at bytes e))
+      → Writes obeys area at bytes end old new → (end ≡ Ok tt → areas new ≡ with_bytes area at bytes (areas old))
       → StandsFor (areas new) s node
-      → (ok ≡ true → (held : Areas) → AreasFit held → StandsFor held s node
+      → (end ≡ Ok tt → (held : Areas) → AreasFit held → StandsFor held s node
       → StandsFor (with_bytes area at bytes held) s node × R (with_bytes area at bytes held))
-      → Reserves obeys areas s Bring R ok old new
-  writes-reserve ok area at bytes reading putting spare writes put stands holds = record {
+      → Reserves obeys areas s Bring R end old new
+  writes-reserve end area at bytes reading putting spare writes put stands holds = record {
     steps = writes.steps;
     ran = writes.ran;
     once = writes.once;
@@ -87,37 +97,38 @@ module _ {S : Type 0} (obeys : S → Step → S → Type 0) (areas : S → Areas
     spares = each-imp (IsPut area at bytes) (Spares s node) spares writes.steps writes.only;
     stands = stands;
     done = writes.done;
+    faultless = writes.faultless;
     moved = λ e. put e ∙ sym (writes.put e (areas old));
     holds = λ e held fit stand.
         subst (λ a. StandsFor a s node × R a) (sym (writes.put e held)) (holds e held fit stand);
   }
     where
       brings : (step : Step) → IsPut area at bytes step → Bring step
-      brings (puts other place other_bytes done) same =
-          subst (λ (k : Area × ℕ × Bytes). Bring (puts k.0 k.1 k.2 done))
-          (λ i. (sym same.0 i, sym same.1 i, sym same.2 i)) (putting done)
-      brings (gets done) same = reading done
+      brings (puts other place other_bytes end) same =
+          subst (λ (k : Area × ℕ × Bytes). Bring (puts k.0 k.1 k.2 end))
+          (λ i. (sym same.0 i, sym same.1 i, sym same.2 i)) (putting end)
+      brings (gets end) same = reading end
 
       spares : (step : Step) → IsPut area at bytes step → Spares s node step
-      spares (puts other place other_bytes done) same =
-          subst (λ (k : Area × ℕ × Bytes). Spares s node (puts k.0 k.1 k.2 done))
-          (λ i. (sym same.0 i, sym same.1 i, sym same.2 i)) (spare done)
-      spares (gets done) same = tt
+      spares (puts other place other_bytes end) same =
+          subst (λ (k : Area × ℕ × Bytes). Spares s node (puts k.0 k.1 k.2 end))
+          (λ i. (sym same.0 i, sym same.1 i, sym same.2 i)) (spare end)
+      spares (gets end) same = tt
 
 -- nothing was done, and all that is needed is there
 pub nothing-reserves : {S : Type 0} (obeys : S → Step → S → Type 0) (areas : S → Areas) (s : State)
-    (Bring : Step → Type 0) (R : Areas → Type 0) (ok : Bool) (old : S) → ((done : Bool) → Bring (gets done))
+    (Bring : Step → Type 0) (R : Areas → Type 0) (end : End) (old : S) → ((e : End) → Bring (gets e))
     → StandsFor (areas old) s (meaning package_reading (areas old) s)
-    → (ok ≡ true → (held : Areas) → AreasFit held → StandsFor held s (meaning package_reading (areas old) s) → R held)
-    → Reserves obeys areas s Bring R ok old old
-nothing-reserves obeys areas s Bring R ok old bring stands ready =
-    reads-reserve obeys areas s Bring R old old ok bring (reads-none obeys ok old) refl stands ready
+    → (end ≡ Ok tt → (held : Areas) → AreasFit held → StandsFor held s (meaning package_reading (areas old) s) → R held)
+    → Reserves obeys areas s Bring R end old old
+nothing-reserves obeys areas s Bring R end old bring stands ready =
+    reads-reserve obeys areas s Bring R old old end bring (reads-none obeys end old) refl stands ready
 
 -- what reserves for one thing reserves for what follows from it, over areas that stand for the node
 pub reserves-for : {S : Type 0} {obeys : S → Step → S → Type 0} {areas : S → Areas} {s : State} {Bring : Step → Type 0}
-    {R Q : Areas → Type 0} {old new : S} {ok : Bool}
+    {R Q : Areas → Type 0} {old new : S} {end : End}
     → ((held : Areas) → StandsFor held s (meaning package_reading (areas old) s) → R held → Q held)
-    → Reserves obeys areas s Bring R ok old new → Reserves obeys areas s Bring Q ok old new
+    → Reserves obeys areas s Bring R end old new → Reserves obeys areas s Bring Q end old new
 reserves-for to r = record {
   steps = r.steps;
   ran = r.ran;
@@ -126,35 +137,54 @@ reserves-for to r = record {
   spares = r.spares;
   stands = r.stands;
   done = r.done;
+  faultless = r.faultless;
   moved = r.moved;
   holds = λ e held fit stand. let h = r.holds e held fit stand in (h.0, to _ h.0 h.1);
 }
 
 -- of a call and a state that are the same
 pub reserves-at : {S : Type 0} {obeys : S → Step → S → Type 0} {areas : S → Areas} {v w : Readied} (e : v ≡ w)
-    {a b : Call} (same : b ≡ a) (client : ℕ) {R Q : Areas → Type 0} {ok : Bool} {old new : S}
+    {a b : Call} (same : b ≡ a) (client : ℕ) {R Q : Areas → Type 0} {end : End} {old new : S}
     → ((held : Areas) → R held → Q held)
-    → Reserves obeys areas v.state (Brings v.state client a) R ok old new
-    → Reserves obeys areas w.state (Brings w.state client b) Q ok old new
-reserves-at {obeys = obeys} {areas = areas} e same client {R = R} {ok = ok} {old = old} {new = new} to r =
+    → Reserves obeys areas v.state (BringsNew v.state client a) R end old new
+    → Reserves obeys areas w.state (BringsNew w.state client b) Q end old new
+reserves-at {obeys = obeys} {areas = areas} e same client {R = R} {end = end} {old = old} {new = new} to r =
     reserves-for (λ held stand ready. to held ready)
-    (subst (λ (k : Readied × Call). Reserves obeys areas k.0.state (Brings k.0.state client k.1) R ok old new)
+    (subst (λ (k : Readied × Call). Reserves obeys areas k.0.state (BringsNew k.0.state client k.1) R end old new)
     (λ i. (e i, sym same i)) r)
 
--- of a staging and a state that are the same
-pub reserves-same : {S : Type 0} {obeys : S → Step → S → Type 0} {areas : S → Areas} (Bring : State → Step → Type 0)
-    {k l : S × State} (e : k ≡ l) {R Q : Areas → Type 0} {ok : Bool} {new : S} → ((held : Areas) → R held → Q held)
-    → Reserves obeys areas k.1 (Bring k.1) R ok k.0 new → Reserves obeys areas l.1 (Bring l.1) Q ok l.0 new
-reserves-same {S = S} {obeys = obeys} {areas = areas} Bring e {R = R} {ok = ok} {new = new} to r =
-    reserves-for (λ held stand ready. to held ready)
-    (subst (λ (k : S × State). Reserves obeys areas k.1 (Bring k.1) R ok k.0 new) e r)
+-- what a newer call brings
+pub brings-new : (s : State) (client : ℕ) (call_no : CallNo) (call : Call)
+    → repeat_of call_no (of_client s.last client) ≡ None → (step : Step) → BringsNew s client call step
+    → Brings s client call_no call step
+brings-new s client call_no call newer (gets end) brought = tt
+brings-new s client call_no call newer (puts area at bytes end) brought = (newer, brought)
 
--- what was done before a failure
-pub failed-reserves : {S X E : Type 0} {obeys : S → Step → S → Type 0} {areas : S → Areas} {s : State}
-    {Bring : Step → Type 0} {R Q : Areas → Type 0} {old new : S} (P : E → Type 0) (r : Result X E) → IsErrAnd r P
-    → Reserves obeys areas s Bring R false old new → Reserves obeys areas s Bring Q (is_ok r) old new
-failed-reserves P (Ok x) is r = absurd is
-failed-reserves P (Err e) is r = record {
+-- of a staging and a state that are the same, where what is brought is told otherwise, too
+pub reserves-same : {S : Type 0} {obeys : S → Step → S → Type 0} {areas : S → Areas}
+    (Bring More : S → State → Step → Type 0) {k l : S × State} (e : k ≡ l)
+    {R Q : Areas → Type 0} {end : End} {new : S} → ((step : Step) → Bring l.0 l.1 step → More l.0 l.1 step)
+    → ((held : Areas) → R held → Q held)
+    → Reserves obeys areas k.1 (Bring k.0 k.1) R end k.0 new → Reserves obeys areas l.1 (More l.0 l.1) Q end l.0 new
+reserves-same {S = S} {obeys = obeys} {areas = areas} Bring More {l = l} e {R = R} {end = end} {new = new} more to r =
+    let same = subst (λ (k : S × State). Reserves obeys areas k.1 (Bring k.0 k.1) R end k.0 new) e r in record {
+      steps = same.steps;
+      ran = same.ran;
+      once = same.once;
+      brings = each-imp (Bring l.0 l.1) (More l.0 l.1) more same.steps same.brings;
+      spares = same.spares;
+      stands = same.stands;
+      done = same.done;
+      faultless = same.faultless;
+      moved = same.moved;
+      holds = λ e held fit stand. let h = same.holds e held fit stand in (h.0, to _ h.1);
+    }
+
+-- after a failure nothing is ready
+pub only-failed : {S : Type 0} {obeys : S → Step → S → Type 0} {areas : S → Areas} {s : State} {Bring : Step → Type 0}
+    {R Q : Areas → Type 0} {old new : S} {fault : StagingError}
+    → Reserves obeys areas s Bring R (Err fault) old new → Reserves obeys areas s Bring Q (Err fault) old new
+only-failed r = record {
   steps = r.steps;
   ran = r.ran;
   once = r.once;
@@ -162,23 +192,41 @@ failed-reserves P (Err e) is r = record {
   spares = r.spares;
   stands = r.stands;
   done = λ e. absurd (cc e);
+  faultless = r.faultless;
   moved = λ e. absurd (cc e);
   holds = λ e. absurd (cc e);
 }
 
-pub reads-failed : {S X E : Type 0} (obeys : S → Step → S → Type 0) (areas : S → Areas) (s : State)
-    {Bring : Step → Type 0} {Q : Areas → Type 0} (old new : S) (P : E → Type 0) (r : Result X E) → IsErrAnd r P
-    → ((done : Bool) → Bring (gets done)) → IsSound (holding (areas old) s) → Reads obeys false old new
-    → areas new ≡ areas old → Reserves obeys areas s Bring Q (is_ok r) old new
-reads-failed obeys areas s {Bring} {Q} old new P r is bring sound reads same =
-    failed-reserves P r is (reads-reserve obeys areas s Bring Q old new false bring reads same
-    (sound-stands (holding (areas old) s) sound) (λ e. absurd (cc e)))
+-- what was done before a failure, which a `?` hands on
+pub failed-reserves : {S X : Type 0} {obeys : S → Step → S → Type 0} {areas : S → Areas} {s : State}
+    {Bring : Step → Type 0} {R Q : Areas → Type 0} {old new : S} (e : ReserveError) (r : Result X ReserveError)
+    → IsErrAnd r (λ x. x ≡ e) → Reserves obeys areas s Bring R (Err (fault_of e)) old new
+    → Reserves obeys areas s Bring Q (end_by r) old new
+failed-reserves {obeys = obeys} {areas = areas} {s = s} {Bring = Bring} {Q = Q} {old = old} {new = new} e r is done =
+    at-err (λ end. Reserves obeys areas s Bring Q end old new) e r is (only-failed done)
+
+pub reads-failed : {S : Type 0} (obeys : S → Step → S → Type 0) (areas : S → Areas) (s : State)
+    {Bring : Step → Type 0} {Q : Areas → Type 0} (old new : S) (fault : StagingError) → ((e : End) → Bring (gets e))
+    → IsSound (holding (areas old) s) → Reads obeys (Err fault) old new → areas new ≡ areas old
+    → Reserves obeys areas s Bring Q (Err fault) old new
+reads-failed obeys areas s {Bring} {Q} old new fault bring sound reads same =
+    reads-reserve obeys areas s Bring Q old new (Err fault) bring reads same
+    (sound-stands (holding (areas old) s) sound) (λ e. absurd (cc e))
+
+-- and is handed on by a `?`
+pub reads-handed : {S X : Type 0} (obeys : S → Step → S → Type 0) (areas : S → Areas) {s : State}
+    {Bring : Step → Type 0} {Q : Areas → Type 0} {old new : S} (e : ReserveError) (r : Result X ReserveError)
+    → IsErrAnd r (λ x. x ≡ e) → ((end : End) → Bring (gets end)) → IsSound (holding (areas old) s)
+    → Reads obeys (Err (fault_of e)) old new → areas new ≡ areas old → Reserves obeys areas s Bring Q (end_by r) old new
+reads-handed obeys areas {s} {Bring} {Q} {old} {new} e r is bring sound reads same =
+    at-err (λ end. Reserves obeys areas s Bring Q end old new) e r is
+    (reads-failed obeys areas s old new (fault_of e) bring sound reads same)
 
 -- and it is ready over the node's own areas
 pub reserves-ready : {S : Type 0} {obeys : S → Step → S → Type 0} {areas : S → Areas} {s : State}
     {Bring : Step → Type 0} {R : Areas → Type 0} {old new : S} → AreasFit (areas old)
     → StandsFor (areas old) s (meaning package_reading (areas old) s)
-    → Reserves obeys areas s Bring R true old new → R (areas new)
+    → Reserves obeys areas s Bring R (Ok tt) old new → R (areas new)
 reserves-ready {areas = areas} {R = R} {old = old} fit stands r =
     subst R (sym (r.moved refl)) (r.holds refl (areas old) fit stands).1
 
@@ -189,6 +237,17 @@ exit-ready v held client id stand ready =
     subst (λ (k : NodeState). first_refusal (exit_refusals (header_of (transfer_of k client id))) ≡ None
     → IsVerdictKept (verdict_kept v.prepared) (verdict_for package_reading k client (TransferExit id)))
     (sym stand.node) ready
+
+pub none-unless : {X : Type 0} (o : Option X) → (o ≢ None → ⊥) → o ≡ None
+none-unless None h = refl
+none-unless (Some x) h = absurd (h (λ e. absurd (cc e)))
+
+pub none-is : {X : Type 0} (o : Option X) → false ≡ is_some o → o ≡ None
+none-is None h = refl
+none-is (Some x) h = absurd (cc h)
+
+some-and : {X : Type 0} (P : X → Type 0) (o : Option X) (x : X) → o ≡ Some x → P x → IsSomeAnd o P
+some-and P o x e p = subst (λ o. IsSomeAnd o P) (sym e) p
 
 -- a block that is put behind the bytes that came reserves for its call
 module _ {S : Type 0} (obeys : S → Step → S → Type 0) (areas : S → Areas) (s : State) (old new : S)
@@ -206,8 +265,8 @@ module _ {S : Type 0} (obeys : S → Step → S → Type 0) (areas : S → Areas
   abbrev at : ℕ
   at = f.header.received
 
-  block-spares : (done : Bool) → Spares s (node_of v) (puts area at block done)
-  block-spares done = (
+  block-spares : (end : End) → Spares s (node_of v) (puts area at block end)
+  block-spares end = (
     found-slot v sound client id f e,
     block-fits,
     λ held torn fit stand left.
@@ -226,26 +285,29 @@ module _ {S : Type 0} (obeys : S → Step → S → Type 0) (areas : S → Areas
         put-ready w good client id f e fit counter block,
       )
 
-  pub block-reserves : (ok : Bool) → AreasFit (areas old) → Writes obeys area at block ok old new
-      → (ok ≡ true → areas new ≡ with_bytes area at block (areas old))
+  -- which the table accepts
+  abbrev IsAccepted : Type 0
+  IsAccepted = first_refusal (data_refusals (stored_header s.transfers client id) counter (length block)) ≡ None
+
+  pub block-reserves : IsAccepted → (end : End) → AreasFit (areas old) → Writes obeys area at block end old new
+      → (end ≡ Ok tt → areas new ≡ with_bytes area at block (areas old))
       → LeavesOutside area at (length block) (areas old) (areas new)
-      → Reserves obeys areas s (Brings s client (TransferData id counter block))
-      (λ held. IsReady (holding held s) client (TransferData id counter block)) ok old new
-  block-reserves ok fit writes put left =
-      writes-reserve obeys areas s (Brings s client (TransferData id counter block))
-      (λ held. IsReady (holding held s) client (TransferData id counter block)) old new ok area at block
-      (λ done. tt)
-      (λ done. subst (λ o. IsSomeAnd o (λ g. (area ≡ Transfer g.slot) × (at ≡ g.header.received) × (block ≡ block)))
-      (sym e) (refl, refl, refl))
+      → Reserves obeys areas s (BringsNew s client (TransferData id counter block))
+      (λ held. IsReady (holding held s) client (TransferData id counter block)) end old new
+  block-reserves accepted end fit writes put left =
+      writes-reserve obeys areas s (BringsNew s client (TransferData id counter block))
+      (λ held. IsReady (holding held s) client (TransferData id counter block)) old new end area at block
+      (λ end. tt)
+      (λ end. (accepted, some-and _ _ f e (refl, refl, refl)))
       block-spares writes put (failed-stands v sound client id f e fit (length block) (areas new) left) (λ ok. block-holds)
 
   -- and so does one that was put whole
-  pub put-reserves : AreasFit (areas old) → Writes obeys area at block true old new
+  pub put-reserves : IsAccepted → AreasFit (areas old) → Writes obeys area at block (Ok tt) old new
       → areas new ≡ with_bytes area at block (areas old)
-      → Reserves obeys areas s (Brings s client (TransferData id counter block))
-      (λ held. IsReady (holding held s) client (TransferData id counter block)) true old new
-  put-reserves fit writes put =
-      block-reserves true fit writes (λ ok. put) (subst (LeavesOutside area at (length block) (areas old)) (sym put)
+      → Reserves obeys areas s (BringsNew s client (TransferData id counter block))
+      (λ held. IsReady (holding held s) client (TransferData id counter block)) (Ok tt) old new
+  put-reserves accepted fit writes put =
+      block-reserves accepted (Ok tt) fit writes (λ ok. put) (subst (LeavesOutside area at (length block) (areas old)) (sym put)
       (put-left v sound client id f e fit block))
 
 -- the bytes that came for a transfer are the same in areas that stand for the node
@@ -313,9 +375,24 @@ module _ (v : Holding) (sound : IsSound v) (busy : v.state.status ≡ Processing
         ∙ ap (λ xs. piece_of xs (parts_place (length n.extents.items)) n.done n.extents.items) same
         ∙ (needs v sound busy u).front ∙ found)
 
+  -- it is the next one, as the state tells
+  unit-copies : piece.len ≢ 0 → (e : End) → Copies v.areas v.state (puts side piece.at bytes e)
+  unit-copies some e = (
+    busy,
+    some-and _ _ u.x u.session (some-and _ _ u.id u.processing (some-and _ _ u.transfer u.stored
+        (some-and _ _ piece
+        ((λ i. piece_of (content_of (Transfer (sym u.slot i)) v.areas) (parts_place (length (sym u.extents i)))
+        (sym u.done i) (sym u.extents i)) ∙ found) (
+          refl,
+          refl,
+          ap (λ slot. slice_range (content_of (Transfer slot) v.areas) piece.from (piece.from + piece.len)) u.slot,
+          omega (arith, some),
+        )))),
+  )
+
   -- a put of its bytes spares what is named
-  unit-spares : piece.len ≢ 0 → (done : Bool) → Spares v.state (node_of v) (puts side piece.at bytes done)
-  unit-spares some done = (
+  unit-spares : piece.len ≢ 0 → (e : End) → Spares v.state (node_of v) (puts side piece.at bytes e)
+  unit-spares some e = (
     piece-own.area,
     (let fits = piece-own.fits in omega (arith, fits, long)),
     λ held torn fit stand left. stand-on v held torn stand ((piece-here held stand).stands fit some torn
@@ -352,18 +429,19 @@ pub unit-reserves : {S : Type 0} (obeys : S → Step → S → Type 0) (areas : 
     (sound : IsSound (holding (areas old) s)) (busy : s.status ≡ Processing) {n : NextUnit} (u : IsUnitOf s n)
     (piece : Piece) (found : piece_of (content_of (Transfer n.slot) (areas old)) (parts_place (length n.extents.items))
     n.done n.extents.items ≡ Some piece) (p : Prepared) (plan : plan_kept p ≡ option_map (λ c. c.items) n.changes)
-    → piece.len ≢ 0 → AreasFit (areas old) → (ok : Bool)
+    → piece.len ≢ 0 → AreasFit (areas old) → (end : End)
     → Writes obeys (side_of piece.to) piece.at
-    (slice_range (content_of (Transfer n.slot) (areas old)) piece.from (piece.from + piece.len)) ok old new
-    → (ok ≡ true → areas new ≡ with_bytes (side_of piece.to) piece.at
+    (slice_range (content_of (Transfer n.slot) (areas old)) piece.from (piece.from + piece.len)) end old new
+    → (end ≡ Ok tt → areas new ≡ with_bytes (side_of piece.to) piece.at
     (slice_range (content_of (Transfer n.slot) (areas old)) piece.from (piece.from + piece.len)) (areas old))
     → LeavesOutside (side_of piece.to) piece.at piece.len (areas old) (areas new)
-    → Reserves obeys areas s (Copies s) (λ held. IsReservedWork (record { areas = held; state = s; prepared = p })) ok old
-    new
-unit-reserves obeys areas s old new sound busy {n = n} u piece found p plan some fit ok writes put left =
+    → Reserves obeys areas s (Copies (areas old) s)
+    (λ held. IsReservedWork (record { areas = held; state = s; prepared = p })) end old new
+unit-reserves obeys areas s old new sound busy {n = n} u piece found p plan some fit end writes put left =
     let v : Holding = holding (areas old) s in
-    writes-reserve obeys areas s (Copies s) (λ held. IsReservedWork (record { areas = held; state = s; prepared = p })) old
-    new ok (side_of piece.to) piece.at (bytes v sound busy u piece found) (λ done. tt) (λ done. busy)
+    writes-reserve obeys areas s (Copies (areas old) s)
+    (λ held. IsReservedWork (record { areas = held; state = s; prepared = p })) old new end (side_of piece.to) piece.at
+    (bytes v sound busy u piece found) (λ e. tt) (unit-copies v sound busy u piece found some)
     (unit-spares v sound busy u piece found some) writes put
     ((piece-own v sound busy u piece found).stands fit some (areas new) left)
     (λ ok. unit-holds v sound busy u piece found p plan some)

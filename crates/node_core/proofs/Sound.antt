@@ -4,7 +4,7 @@ use Rattle.node_core.proofs.Names.{IsTrue, List, NodeState, None, Ok, PackageErr
 use Rattle.node_core.proofs.Names.{after_call, all_differ, and_parts, arith, both_true, client_limit, cluster_of}
 use Rattle.node_core.proofs.Names.{each-both, each-imp, each-unmap, ids-mean, ids_of, keeps-fit, length, length-map}
 use Rattle.node_core.proofs.Names.{map, mark_of, nat_tests, node_of, not, numbers_rise, of_client, option_map}
-use Rattle.node_core.proofs.Names.{package_limit, package_reading, placed, refl, repeat_of, reply_to, rise-above}
+use Rattle.node_core.proofs.Names.{package_limit, package_reading, refl, repeat_of, reply_to, rise-above}
 use Rattle.node_core.proofs.Names.{rise-tail, slots_differ, step, step_by, stored_ids, subst, sym, synced, table_of}
 use Rattle.node_core.proofs.Names.{transfer_limit, transfer_meaning, true, verdict_of, ℕ, [], ◌<◌, ◌==◌, ◌∷◌, ◌≡◌}
 use Rattle.node_core.proofs.Names.{◌≤◌}

@@ -2,15 +2,15 @@
 use Rattle.transfer_blocks.specs.Steps.{with_bytes}
 use Rattle.node_core.proofs.Names.{StandsFor, holding}
 use Rattle.node_core.proofs.Names.{AllByRecursion, Areas, AreasFit, Bytes, ExitVerdict, Found, Holding, IsBehind, IsCopiedIn}
-use Rattle.node_core.proofs.Names.{IsReady, IsSound, IsVerdict, LeavesOutside, List, None, Prepared}
+use Rattle.node_core.proofs.Names.{IsReady, IsSound, IsVerdict, LeavesOutside, List, None}
 use Rattle.node_core.proofs.Names.{data_refusals, stored_header}
 use Rattle.node_core.proofs.Names.{Some, StoredTransfer, Transfer as NodeTransfer, TransferData, TransferExit, and_parts, ap, arith}
 use Rattle.node_core.proofs.Names.{content-here, content_of, each-both, each-imp, each-unmap, eq-eqb, eqb-false}
-use Rattle.node_core.proofs.Names.{exit_refusals, find, first_refusal, found-has, found_of, front_slice, header-means, is_of}
-use Rattle.node_core.proofs.Names.{length, length-take, map, node_of, not, not-true, option_map, option_map_or, overwritten}
+use Rattle.node_core.proofs.Names.{exit_refusals, first_refusal, found-has, found_of, front_slice, header-means, is_of}
+use Rattle.node_core.proofs.Names.{length, length-take, node_of, not, not-true, option_map, option_map_or}
 use Rattle.node_core.proofs.Names.{package_limit, package_reading, put-leaves, refl, slice-overwritten, slice_range, slots_differ}
 use Rattle.node_core.proofs.Names.{slots_of, stored_of, subst, sym, take, transfer-stands, transfer_limit, transfer_meaning, true}
-use Rattle.node_core.proofs.Names.{units_done, with_content, zero-add, [], ℕ, ◌+◌, ◌<◌, ◌==◌, ◌∙◌, ◌∷◌, ◌≡◌, ◌≢◌, ◌≤◌, ◌⊎◌}
+use Rattle.node_core.proofs.Names.{units_done, zero-add, [], ℕ, ◌+◌, ◌<◌, ◌==◌, ◌∙◌, ◌∷◌, ◌≡◌, ◌≢◌, ◌≤◌, ◌⊎◌}
 use Rattle.pm_types.specs.Validity.{IsSound as IsSoundTransfer}
 use Rattle.transfer_blocks.specs.declared.area.Area.TheVariants.{Transfer}
 use Rattle.node_core.specs.declared.prepared.Prepared.TheVariants.{Verdict as Judged}

@@ -9,7 +9,7 @@ use Rattle.node_core.proofs.Names.{process_stored, refl, stored_of, stored_units
 use Rattle.node_core.proofs.Names.{unit_passes, unit_stored, unwrap_or, with_entry, with_slots, work_on, worked, ℕ}
 use Rattle.node_core.proofs.Names.{[], ◌+◌, ◌∙◌, ◌≡◌}
 use Rattle.node_core.proofs.Handled.{InHand, at_process, busy, changes-ready, in-hand, more-unit, stored-same}
-use Rattle.node_core.proofs.Lastly.{last-unit, planned as planned_now, processed_with}
+use Rattle.node_core.proofs.Lastly.{last-unit, processed_with}
 use Rattle.node_core.proofs.Worked.{IsUnit, activated-unit, at-work, at_work, cleaned-unit, rolled-unit, turned-unit, verified-unit, worked-fit}
 use Rattle.node_core.proofs.Executed.{line-stands}
 use Rattle.node_core.specs.Units.{answer_of}

@@ -1,5 +1,5 @@
 -- A node in memory: its stored state, where its bytes lie, and what is ready for the next call.
-use Rattle.std.specs.Prelude.{◌≡◌, ◌≤◌, ◌+◌, ℕ, ⊤, [], length, slice_range, slice_index_or, Option, Some, None}
+use Rattle.std.specs.Prelude.{◌≡◌, ◌+◌, ℕ, ⊤, [], length, slice_range, slice_index_or, Option, Some, None}
 use Rattle.std.specs.List.{AllByRecursion}
 use Rattle.ucm_base.specs.declared.ids.CallNo.{CallNo}
 use Rattle.ucm_base.specs.Parts.{Bytes}

@@ -1,5 +1,5 @@
 -- The clusters that a node begins with.
-use Rattle.std.specs.Prelude.{◌≡◌, Bool, true, ℕ, ◌+◌, ◌≤◌, ◌<◌, ⊤, List, [], ◌∷◌, length, map, filter}
+use Rattle.std.specs.Prelude.{◌≡◌, ℕ, ◌+◌, ◌≤◌, ◌<◌, ⊤, List, [], ◌∷◌, length, map, filter, ◌≢◌, Ok, Err}
 use Rattle.std.specs.List.{AllByRecursion, fold}
 use Rattle.ucm_base.specs.Limits.{cluster_limit, package_limit}
 use Rattle.ucm_base.specs.Names.{name_lt}
@@ -10,7 +10,8 @@ use Rattle.pm_types.specs.Clusters.{with_cluster}
 use Rattle.pm_types.specs.Histories.{formatted}
 use Rattle.pm_types.specs.Stored.{Areas, State, cluster_meaning, meaning}
 use Rattle.transfer_blocks.specs.declared.area.Area.TheVariants.{Side, Transfer}
-use Rattle.transfer_blocks.specs.Steps.{Step, puts, gets, Ran, wrote}
+use Rattle.transfer_blocks.specs.Steps.{End, Step, puts, gets, Ran, HasNoFault, wrote}
+use Rattle.transfer_blocks.specs.declared.fault.StagingError.TheVariants.{Failed}
 use Rattle.node_core.specs.Core.{IsSound, holding}
 use Rattle.node_core.specs.Packages.{package_reading}
 
@@ -45,7 +46,7 @@ pub record AreInstalled (areas : Areas) (stored : List (Cluster Extent))
 -- each cluster's bytes are put to the first side of its place
 abbrev pub installs : ℕ → List (Cluster Bytes) → List Step
 installs place [] = []
-installs place (c ∷ clusters) = puts (Side place 0) 0 c.content true ∷ installs (place + 1) clusters
+installs place (c ∷ clusters) = puts (Side place 0) 0 c.content (Ok tt) ∷ installs (place + 1) clusters
 
 -- areas that the clusters were put to, whatever they held
 abbrev pub with_installed : List (Cluster Bytes) → Areas → Areas
@@ -53,18 +54,20 @@ with_installed clusters areas = wrote (installs 0 clusters) areas
 
 -- the call puts bytes to the first side of a place, or reads
 abbrev pub Installs : Step → Type 0
-Installs (puts (Side place side) at bytes done) =
+Installs (puts (Side place side) at bytes end) =
     (place < cluster_limit) × (side ≡ 0) × (at + length bytes ≤ package_limit)
-Installs (puts (Transfer slot) at bytes done) = ⊥
-Installs (gets done) = ⊤
+Installs (puts (Transfer slot) at bytes end) = ⊥
+Installs (gets end) = ⊤
 
--- calls of the staging were made that touch first sides alone; at Ok they put these clusters, each once
-pub record Formats {S : Type 0} (obeys : S → Step → S → Type 0) (clusters : List (Cluster Bytes)) (ok : Bool)
+-- calls of the staging were made that touch first sides alone, none of which met a fault where this ended with none; at Ok
+-- they put these clusters, each once
+pub record Formats {S : Type 0} (obeys : S → Step → S → Type 0) (clusters : List (Cluster Bytes)) (end : End)
     (old new : S) : Type 0 where
   pub steps : List Step
   pub ran : Ran obeys steps old new
   pub sides : AllByRecursion Installs steps
-  pub whole : ok ≡ true → steps ≡ installs 0 clusters
+  pub faultless : end ≢ Err Failed → AllByRecursion HasNoFault steps
+  pub whole : end ≡ Ok tt → steps ≡ installs 0 clusters
 
 -- over areas that the clusters were put to, whatever they held, the state is that of a node that begins with them
 pub record IsFormatted (clusters : List (Cluster Bytes)) (held : Areas) (s : State) : Type 0 where

@@ -1,17 +1,11 @@
 -- A stored node's session, and what a call makes of it.
 use Rattle.pm_types.specs.Sessions.{names_among}
-use Rattle.std.specs.Prelude.{⊤, ℕ, Bool, ◌==◌, ◌||◌, not, if◌then◌else◌, [], ◌∷◌, List, length, map, is_none, option_map, Option, Some, None}
+use Rattle.std.specs.Prelude.{ℕ, Bool, ◌||◌, not, if◌then◌else◌, [], ◌∷◌, List, length, is_none, Option}
 use Rattle.std.specs.Option.{option_map_or}
-use Rattle.pm_types.specs.declared.calls.Call.{Call}
-use Rattle.pm_types.specs.declared.calls.Call.TheVariants.{Finish, Rollback, RevertProcessedSwPackages}
 use Rattle.pm_types.specs.declared.clusters.Change.{Change}
 use Rattle.pm_types.specs.declared.clusters.Extent.{Extent}
-use Rattle.pm_types.specs.declared.status.Outcome.{Outcome}
-use Rattle.pm_types.specs.declared.status.Outcome.TheVariants.{Old}
 use Rattle.pm_types.specs.declared.state.StoredTransfer.{StoredTransfer}
-use Rattle.pm_types.specs.declared.status.Phase.{Phase}
-use Rattle.pm_types.specs.declared.status.Phase.TheVariants.{Transferred, Processing}
-use Rattle.pm_types.specs.declared.status.Status.TheVariants.{Ready, CleaningUp}
+use Rattle.pm_types.specs.declared.status.Phase.TheVariants.{Transferred}
 use Rattle.pm_types.specs.declared.clusters.Cluster.{Cluster}
 use Rattle.ucm_base.specs.declared.parts.Part.{Part}
 use Rattle.pm_types.specs.declared.replies.Refusal.{Refusal}
@@ -20,11 +14,10 @@ use Rattle.pm_types.specs.declared.transfers.Header.{Header}
 use Rattle.pm_types.specs.Clusters.{cluster_of, has_cluster}
 use Rattle.std.specs.List.{list_any}
 use Rattle.std.specs.Str.{bytes_eq}
-use Rattle.pm_types.specs.NodeState.{SessionOf, is_in, some_passes}
+use Rattle.pm_types.specs.NodeState.{is_in, some_passes}
 use Rattle.ucm_base.specs.Needs.{Needing, Unmet}
 use Rattle.pm_types.specs.Sessions.{Goal, To, CleanUp, Resume, is_wrong_tag}
 use Rattle.pm_types.specs.Stored.{State}
-use Rattle.transfer_blocks.specs.Table.{moved}
 use Rattle.node_core.specs.declared.session_rules.Goal.{Goal as Aim}
 use Rattle.node_core.specs.declared.session_rules.Goal.TheVariants.{To as to, CleanUp as clean_up, Resume as resume}
 

@@ -1,10 +1,8 @@
 -- Units of work.
 use Rattle.std.specs.Prelude.{option_map}
 use Rattle.std.specs.Prelude.{◌≤◌}
-use Rattle.std.specs.Prelude.{◌≡◌, ℕ, ◌+◌, ◌*◌, min, nat_lt, not, if◌then◌else◌, Bool, false, ⊤, List, length, unwrap_or, IfSome, Option, Some, None, [], ◌∷◌, ◌-◌}
-use Rattle.std.specs.Str.{bytes_eq}
+use Rattle.std.specs.Prelude.{◌≡◌, ℕ, ◌+◌, ◌*◌, min, nat_lt, if◌then◌else◌, Bool, false, ⊤, List, length, unwrap_or, IfSome, Option, Some, None, [], ◌∷◌, ◌-◌}
 use Rattle.ucm_base.specs.Limits.{block_limit}
-use Rattle.ucm_base.specs.Names.{name_lt}
 use Rattle.ucm_base.specs.Parts.{Bytes}
 use Rattle.pm_types.specs.declared.clusters.Change.{Change}
 use Rattle.ucm_base.specs.declared.parts.Part.{Part}

@@ -1,5 +1,5 @@
 //! What the next unit of a package needs: its bytes behind the done ones, and the changes that the last one plans.
-ghost use Rattle.std.specs.Prelude.{◌≡◌, ◌≤◌, ◌+◌, IfOk, OnOk, IsErrOf, is_ok, length, option_map, slice_range};
+ghost use Rattle.std.specs.Prelude.{◌≡◌, ◌≤◌, ◌+◌, IfOk, OnOk, IsErrOf, length, option_map, slice_range};
 ghost use Rattle.fault_count.specs.Faults.{HasRisen};
 ghost use Rattle.ucm_base.specs.Limits.{package_limit};
 ghost use Rattle.pm_types.specs.declared.status.Status.TheVariants.{Processing};
@@ -9,6 +9,7 @@ ghost use Rattle.transfer_blocks.specs.Areas.{IsArea, LeavesOutside, content_of}
 ghost use Rattle.transfer_blocks.specs.Steps.{with_bytes};
 ghost use Rattle.transfer_blocks.specs.declared.area.Area.TheVariants.{Transfer};
 ghost use Rattle.node_core.specs.Core.{IsSound, holding, over};
+ghost use Rattle.node_core.specs.Errors.{end_by};
 ghost use Rattle.node_core.specs.Reserves.{Copies, Reads, Reserves, Writes};
 ghost use Rattle.node_core.specs.Units.{IsNextUnit, IsReservedWork, LieWithin, changes_due, changes_to, piece_of, side_of};
 
@@ -53,10 +54,10 @@ pub(crate) fn reserve_unit<S: Staging>(
     requires status { state.now.status ≡ Processing }
     requires fit { S.is_fit staging.old }
     requires sound { IsSound (holding (S.areas staging.old) state.now) }
-    ensures reserves { Reserves S.obeys S.areas state.now (Copies state.now)
+    ensures reserves { Reserves S.obeys S.areas state.now (Copies (S.areas staging.old) state.now)
         (λ held. IfOk result (λ p.
         IsReservedWork (over held (record { state = state.now; prepared = p }))))
-        (is_ok result) staging.old staging.new }
+        (end_by result) staging.old staging.new }
     ensures fit { S.is_fit staging.new }
     ensures cause { IsErrOf result ReserveError.StagingFailed
         → HasRisen (S.fault_count staging.old) (S.fault_count staging.new) }
@@ -122,7 +123,7 @@ fn find_piece<S: Staging>(
         ≡ piece_of (content_of (Transfer slot) (S.areas staging.old))
         (parts_place (length extents.now)) done extents.now) }
     ensures areas { S.areas staging.new ≡ S.areas staging.old }
-    ensures reads { Reads S.obeys (is_ok result) staging.old staging.new }
+    ensures reads { Reads S.obeys (end_by result) staging.old staging.new }
     ensures fit { S.is_fit staging.new }
     ensures cause { IsErrOf result ReserveError.StagingFailed
         → HasRisen (S.fault_count staging.old) (S.fault_count staging.new) }
@@ -157,7 +158,7 @@ fn number_at<S: Staging>(staging: &mut S, slot: u8, place: u64) -> Result<u64, R
     ensures number { IfOk result (λ n. n
         ≡ number_at (content_of (Transfer slot) (S.areas staging.old)) place) }
     ensures areas { S.areas staging.new ≡ S.areas staging.old }
-    ensures reads { Reads S.obeys (is_ok result) staging.old staging.new }
+    ensures reads { Reads S.obeys (end_by result) staging.old staging.new }
     ensures fit { S.is_fit staging.new }
     ensures cause { IsErrOf result ReserveError.StagingFailed
         → HasRisen (S.fault_count staging.old) (S.fault_count staging.new) }
@@ -186,7 +187,7 @@ fn copy<S: Staging>(staging: &mut S, slot: u8, piece: Piece) -> Result<(), Reser
         (S.areas staging.old)) }
     ensures writes { Writes S.obeys (side_of piece.to) piece.at
         (slice_range (content_of (Transfer slot) (S.areas staging.old)) piece.from (piece.from + piece.len))
-        (is_ok result) staging.old staging.new }
+        (end_by result) staging.old staging.new }
     ensures fit { S.is_fit staging.new }
     ensures cause { IsErrOf result ReserveError.StagingFailed
         → HasRisen (S.fault_count staging.old) (S.fault_count staging.new) }

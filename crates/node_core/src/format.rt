@@ -1,14 +1,15 @@
 //! A node that begins with installed clusters.
-ghost use Rattle.std.specs.Prelude.{◌≡◌, ◌≤◌, ◌++◌, ◌∷◌, [], length, map, IfOk, OnOk, IsErrOf, IsTrue, is_ok};
+ghost use Rattle.std.specs.Prelude.{◌≡◌, ◌≤◌, ◌++◌, ◌∷◌, [], length, map, IfOk, OnOk, IsErrOf, IsTrue};
 ghost use Rattle.std.specs.List.{AllByRecursion};
 ghost use Rattle.ucm_base.specs.Limits.{cluster_limit, package_limit};
 ghost use Rattle.ucm_base.specs.Names.{all_differ};
 ghost use Rattle.pm_types.specs.Histories.{formatted};
-ghost use Rattle.pm_types.specs.Stored.{Areas, meaning};
+ghost use Rattle.pm_types.specs.Stored.{Areas, fresh_state, meaning};
 ghost use Rattle.transfer_blocks.specs.Areas.{AreasFit};
 ghost use Rattle.fault_count.specs.Faults.{HasRisen};
 ghost use Rattle.node_core.specs.Packages.{package_reading};
 ghost use Rattle.node_core.specs.Core.{IsSound, holding};
+ghost use Rattle.node_core.specs.Errors.{end_by};
 ghost use Rattle.node_core.specs.Format.{Formats, IsFormatted, in_order, named_before, placed, placed_from, with_installed};
 
 use crate::node::ReserveError;
@@ -32,6 +33,8 @@ pub fn format_areas<S: Staging>(
     requires differ { IsTrue (all_differ (map (λ c. c.name) installed.items)) }
     requires few { length installed.items ≤ cluster_limit }
     requires short { AllByRecursion (λ c. length c.content ≤ package_limit) installed.items }
+    ensures places { IfOk result (λ s. s
+        ≡ fresh_state (placed_from 0 (in_order installed.items))) }
     ensures node { IfOk result (λ s. meaning package_reading (S.areas staging.new) s
         ≡ formatted (in_order installed.items)) }
     ensures sound { IfOk result (λ s.
@@ -39,7 +42,7 @@ pub fn format_areas<S: Staging>(
     ensures holds { IfOk result (λ s. (held : Areas) → AreasFit held
         → IsFormatted (in_order installed.items) held s) }
     // What was done to the staging: with the clause above it holds of each image of a device.
-    ensures formats { Formats S.obeys (in_order installed.items) (is_ok result)
+    ensures formats { Formats S.obeys (in_order installed.items) (end_by result)
         staging.old staging.new }
     ensures entries { IfOk result (λ s. s.entries ≡ 0) }
     ensures fit { S.is_fit staging.new }
@@ -89,7 +92,7 @@ fn install<S: Staging>(
     ensures placed { IfOk result (λ running. running ≡ placed_from 0 clusters.items) }
     ensures areas { IfOk result (λ _. S.areas staging.new
         ≡ with_installed clusters.items (S.areas staging.old)) }
-    ensures formats { Formats S.obeys clusters.items (is_ok result) staging.old staging.new }
+    ensures formats { Formats S.obeys clusters.items (end_by result) staging.old staging.new }
     ensures fit { S.is_fit staging.new }
     ensures cause { IsErrOf result ReserveError.StagingFailed
         → HasRisen (S.fault_count staging.old) (S.fault_count staging.new) }

@@ -1,11 +1,12 @@
 //! A node in memory.
-ghost use Rattle.std.specs.Prelude.{◌≡◌, ◌<◌, ◌≤◌, ◌+◌, ◌↔◌, false, OnOk, IsErrOf, is_ok};
+ghost use Rattle.std.specs.Prelude.{◌≡◌, ◌<◌, ◌≤◌, ◌+◌, ◌↔◌, false, OnOk, IsErrOf};
 ghost use Rattle.pm_types.specs.NodeState.{is_working};
 ghost use Rattle.ucm_base.specs.Limits.{entry_limit};
 ghost use Rattle.fault_count.specs.Faults.{HasRisen};
 ghost use Rattle.node_laws.specs.Fit.{IsFit};
 ghost use Rattle.node_core.specs.Packages.{package_reading};
 ghost use Rattle.node_core.specs.Core.{IsReserved, IsSound, holding, node_of, over, state_after, step_by, under};
+ghost use Rattle.node_core.specs.Errors.{end_by};
 ghost use Rattle.node_core.specs.Reserves.{Brings, Copies, Reserves};
 ghost use Rattle.node_core.specs.Units.{IsReservedWork, after_work, answer_to, state_worked};
 
@@ -96,6 +97,7 @@ impl<S: Staging> Core<S> {
     /// The staging and the state, as where nothing was reserved. It takes no memory.
     pub fn parts(self) -> (S, State)
         ensures parts { result ≡ (self.staging, self.held.state) }
+        ensures areas { self.held.areas ≡ S.areas self.staging }
         ensures sound { IsSound (holding (S.areas result.0) result.1) }
         ensures fit { S.is_fit result.0 }
     {
@@ -105,6 +107,7 @@ impl<S: Staging> Core<S> {
     /// The staging, and the state with what a reserve took. It takes no memory.
     pub fn ready(self) -> (S, Ready)
         ensures parts { result ≡ (self.staging, under self.held) }
+        ensures areas { self.held.areas ≡ S.areas self.staging }
         ensures sound { IsSound (over (S.areas result.0) result.1) }
         ensures fit { S.is_fit result.0 }
     {
@@ -125,9 +128,9 @@ impl<S: Staging> Core<S> {
         ensures reserved { OnOk result (IsReserved self.new.held client no call.now) }
         // What was done to the staging, so that it holds of each image of a device, too.
         ensures reserves { Reserves S.obeys S.areas self.old.held.state
-            (Brings self.old.held.state client call.now)
+            (Brings self.old.held.state client no call.now)
             (λ held. IsReserved (over held (under self.new.held)) client no call.now)
-            (is_ok result) self.old.staging self.new.staging }
+            (end_by result) self.old.staging self.new.staging }
         ensures cause { IsErrOf result ReserveError.StagingFailed
             → HasRisen (S.fault_count self.old.staging) (S.fault_count self.new.staging) }
         ensures faults { S.fault_count self.old.staging ≤ S.fault_count self.new.staging }
@@ -166,9 +169,10 @@ impl<S: Staging> Core<S> {
         ensures node { node_of self.new.held ≡ node_of self.old.held }
         ensures reserved { OnOk result (IsReservedWork self.new.held) }
         // What was done to the staging, so that it holds of each image of a device, too.
-        ensures reserves { Reserves S.obeys S.areas self.old.held.state (Copies self.old.held.state)
+        ensures reserves { Reserves S.obeys S.areas self.old.held.state
+            (Copies self.old.held.areas self.old.held.state)
             (λ held. IsReservedWork (over held (under self.new.held)))
-            (is_ok result) self.old.staging self.new.staging }
+            (end_by result) self.old.staging self.new.staging }
         ensures cause { IsErrOf result ReserveError.StagingFailed
             → HasRisen (S.fault_count self.old.staging) (S.fault_count self.new.staging) }
         ensures faults { S.fault_count self.old.staging ≤ S.fault_count self.new.staging }
@@ -215,9 +219,9 @@ impl<S: Staging> Held<S> {
         requires fit { S.is_fit self.old.staging }
         ensures state { self.new.ready.state ≡ self.old.ready.state }
         ensures reserves { Reserves S.obeys S.areas self.old.ready.state
-            (Brings self.old.ready.state client call.now)
+            (Brings self.old.ready.state client no call.now)
             (λ held. IsReserved (over held self.new.ready) client no call.now)
-            (is_ok result) self.old.staging self.new.staging }
+            (end_by result) self.old.staging self.new.staging }
         ensures fit { S.is_fit self.new.staging }
         ensures cause { IsErrOf result ReserveError.StagingFailed
             → HasRisen (S.fault_count self.old.staging) (S.fault_count self.new.staging) }
@@ -236,9 +240,9 @@ impl<S: Staging> Held<S> {
         requires fit { S.is_fit self.old.staging }
         ensures state { self.new.ready.state ≡ self.old.ready.state }
         ensures reserves { Reserves S.obeys S.areas self.old.ready.state
-            (Copies self.old.ready.state)
+            (Copies (S.areas self.old.staging) self.old.ready.state)
             (λ held. IsReservedWork (over held self.new.ready))
-            (is_ok result) self.old.staging self.new.staging }
+            (end_by result) self.old.staging self.new.staging }
         ensures fit { S.is_fit self.new.staging }
         ensures cause { IsErrOf result ReserveError.StagingFailed
             → HasRisen (S.fault_count self.old.staging) (S.fault_count self.new.staging) }

@@ -1,11 +1,12 @@
 //! What is made ready before a session begins, and before its changes are activated.
-ghost use Rattle.std.specs.Prelude.{◌≡◌, map, option_map, IfOk};
+ghost use Rattle.std.specs.Prelude.{◌≡◌, map, option_map, IfOk, IsTrue};
+ghost use Rattle.ucm_base.specs.Names.{names_rise};
 ghost use Rattle.pm_types.specs.declared.calls.Call.TheVariants.{Activate, ProcessSwPackage};
 ghost use Rattle.pm_types.specs.Clusters.{planned, unmet_among};
 ghost use Rattle.pm_types.specs.Sessions.{activate_refusal, new_session};
 ghost use Rattle.dependency_check.specs.Clusters.{needing};
 ghost use Rattle.pm_types.specs.Stored.{Areas};
-ghost use Rattle.node_core.specs.Core.{IsReady, IsSound, over};
+ghost use Rattle.node_core.specs.Core.{IsReady, IsSound, SomeSound, over};
 ghost use Rattle.node_core.specs.Units.{planned_of};
 ghost use Rattle.node_core.specs.Sessions.{missing_dependencies, needing_of};
 
@@ -40,6 +41,7 @@ impl Ready {
 
     /// What refuses an activation, where the session and the table let it pass.
     pub(crate) fn look(&self, alloc: Global, client: ClientId) -> Result<Prepared, AllocError>
+        requires sound { SomeSound self.now.state }
         ensures { IfOk result (λ p. (areas : Areas) → IsSound (over areas self.now)
             → IsReady (over areas (record self.now { prepared = p })) client Activate) }
     {
@@ -54,6 +56,7 @@ impl Ready {
 
 /// What refuses the planned clusters.
 fn find_unmet(alloc: Global, state: &State) -> Result<Option<Refusal>, AllocError>
+    requires sound { SomeSound state.now }
     ensures { IfOk result (λ why. why ≡ activate_refusal state.now) }
 {
     match &state.session {
@@ -84,6 +87,7 @@ fn unmet_refusal(
     saved: &Clusters,
     changes: &[Change<Extent>],
 ) -> Result<Option<Refusal>, AllocError>
+    requires rise { IsTrue (names_rise (map (λ c. c.name) saved.now)) }
     ensures { IfOk result (λ why. why
         ≡ option_map missing_dependencies (unmet_among (planned changes.now saved.now))) }
 {

@@ -1,11 +1,12 @@
 //! What is made ready before a call or a unit, so that making it takes no memory.
 ghost use Rattle.std.specs.Prelude.{◌≡◌, None, option_map, unwrap_or};
 ghost use Rattle.node_core.specs.Prepared.{session_kept, unmet_kept, verdict_in, verdict_kept};
-ghost use Rattle.transfer_blocks.specs.Table.{bad_refusal};
+ghost use Rattle.transfer_blocks.specs.Table.{bad_refusal, good_parts};
 ghost use Rattle.node_core.specs.Units.{clusters_kept, plan_kept};
 
 use pm_types::{Change, Clusters, ExitVerdict, Extent, Refusal, Session};
 use std::mem;
+use ucm_base::Part;
 
 /// What `reserve` or `reserve_work` made ready.
 #[derive(Drop)]
@@ -41,6 +42,16 @@ impl Prepared {
         match mem::replace(self, Prepared::Nothing) {
             Prepared::Verdict(verdict) => verdict,
             _ => ExitVerdict::Bad(Refusal::InvalidManifest),
+        }
+    }
+
+    /// The parts of the package by the verdict that is ready.
+    pub(crate) fn brought(&self) -> &[Part<u32>]
+        ensures { result.now ≡ good_parts (verdict_in (verdict_kept self.now)) }
+    {
+        match self {
+            Prepared::Verdict(ExitVerdict::Good(contents)) => contents.as_slice(),
+            _ => &[],
         }
     }
 

@@ -4,6 +4,8 @@ ghost use Rattle.std.specs.Prelude.{◌≡◌, ◌<◌, ◌≤◌, ◌+◌, None
 ghost use Rattle.ucm_base.specs.Limits.{client_limit, entry_limit};
 ghost use Rattle.pm_types.specs.Steps.{accept, answer_with, execute, repeat_of};
 ghost use Rattle.pm_types.specs.declared.calls.Call.TheVariants.{Cancel, DeleteTransfer, ProcessSwPackage, TransferData, TransferExit, TransferStart};
+ghost use Rattle.transfer_blocks.specs.Table.{good_parts};
+ghost use Rattle.node_core.specs.Prepared.{verdict_in, verdict_kept};
 ghost use Rattle.node_core.specs.Core.{AllReserved, IsExecuted, SomeAccepted, SomeReady, SomeReserved, kept_by, over, reply_by, state_after, step_by};
 
 use crate::prepared::Prepared;
@@ -12,7 +14,7 @@ use pm_types::{Call, Happened, Kept, Reached, Reply, State};
 use std::cmp::Ordering;
 use std::marker::Model;
 use transfer_blocks::table;
-use ucm_base::{CallNo, ClientId};
+use ucm_base::{CallNo, ClientId, Part};
 
 /// A node's state, and what a reserve took for the next call or unit.
 #[derive(Drop)]
@@ -52,6 +54,20 @@ impl Ready {
         ensures { result ≡ self.state }
     {
         self.state
+    }
+
+    /// What is ready.
+    pub fn prepared(&self) -> &Prepared
+        ensures { result.now ≡ self.now.prepared }
+    {
+        &self.prepared
+    }
+
+    /// The parts of the package that a TransferExit, for which all is ready, brings; none where the bytes are no package.
+    pub fn brought(&self) -> &[Part<u32>]
+        ensures { result.now ≡ good_parts (verdict_in (verdict_kept self.now.prepared)) }
+    {
+        self.prepared.brought()
     }
 
     /// Executes a numbered call for which all is ready. It takes no memory.

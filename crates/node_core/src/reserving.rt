@@ -1,8 +1,9 @@
 //! What a call needs, made ready.
-ghost use Rattle.std.specs.Prelude.{◌≡◌, ◌≤◌, IfOk, IsErrOf, is_ok};
+ghost use Rattle.std.specs.Prelude.{◌≡◌, ◌≤◌, IfOk, IsErrOf};
 ghost use Rattle.fault_count.specs.Faults.{HasRisen};
 ghost use Rattle.node_core.specs.Core.{IsReady, IsSound, over};
-ghost use Rattle.node_core.specs.Reserves.{Brings, Reserves};
+ghost use Rattle.node_core.specs.Errors.{end_by};
+ghost use Rattle.node_core.specs.Reserves.{BringsNew, Reserves};
 
 use crate::node::ReserveError;
 use crate::prepared::Prepared;
@@ -24,10 +25,10 @@ pub(crate) fn prepare<S: Staging>(
     requires fit { S.is_fit staging.old }
     requires sound { IsSound (over (S.areas staging.old) ready.now) }
     ensures reserves { Reserves S.obeys S.areas ready.now.state
-        (Brings ready.now.state client call.now)
+        (BringsNew ready.now.state client call.now)
         (λ held. IfOk result (λ p.
         IsReady (over held (record ready.now { prepared = p })) client call.now))
-        (is_ok result) staging.old staging.new }
+        (end_by result) staging.old staging.new }
     ensures fit { S.is_fit staging.new }
     ensures cause { IsErrOf result ReserveError.StagingFailed
         → HasRisen (S.fault_count staging.old) (S.fault_count staging.new) }

@@ -1,9 +1,10 @@
 //! What is made ready before a block is taken, and before a transfer is closed.
-ghost use Rattle.std.specs.Prelude.{◌≡◌, ◌≢◌, ◌≤◌, is_ok, length, map, IfOk, IsErrOf};
+ghost use Rattle.std.specs.Prelude.{◌≡◌, ◌≢◌, ◌≤◌, length, map, IfOk, IsErrOf};
 ghost use Rattle.pm_types.specs.declared.calls.Call.TheVariants.{TransferData, TransferExit};
 ghost use Rattle.fault_count.specs.Faults.{HasRisen};
 ghost use Rattle.node_core.specs.Core.{IsReady, IsSound, holding, over};
-ghost use Rattle.node_core.specs.Reserves.{Brings, Reserves};
+ghost use Rattle.node_core.specs.Errors.{end_by};
+ghost use Rattle.node_core.specs.Reserves.{BringsNew, Reserves};
 ghost use Rattle.node_core.specs.Packages.{package_reading, refusal_of};
 ghost use Rattle.node_core.specs.Prepared.{IsVerdict, stored_part};
 ghost use Rattle.ucm_base.specs.Limits.{part_limit};
@@ -28,9 +29,9 @@ pub(crate) fn stage<S: Staging>(
     requires fit { S.is_fit staging.old }
     requires sound { IsSound (holding (S.areas staging.old) state.now) }
     ensures reserves { Reserves S.obeys S.areas state.now
-        (Brings state.now client (TransferData id counter block.now))
+        (BringsNew state.now client (TransferData id counter block.now))
         (λ held. IsReady (holding held state.now) client (TransferData id counter block.now))
-        (is_ok result) staging.old staging.new }
+        (end_by result) staging.old staging.new }
     ensures fit { S.is_fit staging.new }
     ensures cause { IsErrOf result ReserveError.StagingFailed
         → HasRisen (S.fault_count staging.old) (S.fault_count staging.new) }
@@ -55,10 +56,10 @@ pub(crate) fn read<S: Staging>(
 ) -> Result<Prepared, ReserveError>
     requires fit { S.is_fit staging.old }
     requires sound { IsSound (holding (S.areas staging.old) state.now) }
-    ensures reserves { Reserves S.obeys S.areas state.now (Brings state.now client (TransferExit id))
+    ensures reserves { Reserves S.obeys S.areas state.now (BringsNew state.now client (TransferExit id))
         (λ held. IfOk result (λ p.
         IsReady (over held (record { state = state.now; prepared = p })) client (TransferExit id)))
-        (is_ok result) staging.old staging.new }
+        (end_by result) staging.old staging.new }
     ensures fit { S.is_fit staging.new }
     ensures cause { IsErrOf result ReserveError.StagingFailed
         → HasRisen (S.fault_count staging.old) (S.fault_count staging.new) }

@@ -1,4 +1,4 @@
-use Rattle.node_core.proofs.Names.{LieWithin, content_of, drop, length, parts_place, piece_of, true, ◌≡◌, ◌≤◌}
+use Rattle.node_core.proofs.Names.{LieWithin, content_of, drop, length, parts_place, piece_of, Ok, ◌≡◌, ◌≤◌}
 use Rattle.transfer_blocks.specs.declared.area.Area.TheVariants.{Transfer}
 use Rattle.node_core.specs.Reserves.{Reads}
 use Rattle.node_core.proofs.copying.find_piece.Given as goal
@@ -10,7 +10,7 @@ invariant-loop-extent g l =
           ≡ piece_of content (parts_place (length l.extents)) l.fn.done l.extents;
       lie : LieWithin content l.place (drop l.extent-index l.extents);
       areas : g.S.Staging.areas l.staging ≡ g.S.Staging.areas l.initial.staging;
-      reads : Reads g.S.Staging.obeys true l.initial.staging l.staging;
+      reads : Reads g.S.Staging.obeys (Ok tt) l.initial.staging l.staging;
       fit : g.S.Staging.is_fit l.staging;
       faults : g.S.Staging.fault_count l.initial.staging ≤ g.S.Staging.fault_count l.staging;
     }

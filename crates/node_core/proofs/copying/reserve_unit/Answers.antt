@@ -1,24 +1,26 @@
 use Rattle.node_core.proofs.Names.{Areas, Extent, Holding, IsNextUnit, IsUnitOf, LeavesOutside, LieWithin, List, Some, ap}
-use Rattle.node_core.proofs.Names.{content_of, false, holding, length, parts_place, piece_of, refl, side_of, slice_range, subst}
-use Rattle.node_core.proofs.Names.{sym, true, ◌+◌, ◌∙◌, ◌≡◌, ◌≤◌}
+use Rattle.node_core.proofs.Names.{content_of, holding, length, parts_place, piece_of, refl, side_of, slice_range, subst}
+use Rattle.node_core.proofs.Names.{sym, Err, Ok, ◌+◌, ◌∙◌, ◌≡◌, ◌≤◌}
 use Rattle.transfer_blocks.specs.declared.area.Area.TheVariants.{Transfer}
 use Rattle.transfer_blocks.specs.Steps.{with_bytes}
+use Rattle.node_core.specs.Errors.{fault_of}
 use Rattle.node_core.specs.Reserves.{Writes}
+use Rattle.node_core.specs.declared.node.ReserveError.TheVariants.{OutOfMemory}
 use Rattle.node_core.proofs.Copied.{needs}
-use Rattle.node_core.proofs.Reserved.{failed-reserves, no-unit, none-ready, nothing-reserves, piece-own, reads-failed}
+use Rattle.node_core.proofs.Reserved.{failed-reserves, no-unit, none-ready, nothing-reserves, piece-own, reads-handed}
 use Rattle.node_core.proofs.Reserved.{reads-reserve, sound-stands, unit-reserves}
 use Rattle.node_core.proofs.Runs.{reads-none, writes-then}
 use Rattle.node_core.proofs.copying.reserve_unit.Goals as goal
 
 pub returns-in_err-next-clause-reserves : goal.returns-in_err-next-clause-reserves
 returns-in_err-next-clause-reserves g c =
-    reads-failed g.S.Staging.obeys g.S.Staging.areas c.args.state.now c.args.staging.now c.args.staging.now _
-    c.from_residual.result c.from_residual.ensures.1 (λ done. tt) c.requires.sound (reads-none _ false _) refl
+    reads-handed g.S.Staging.obeys g.S.Staging.areas OutOfMemory _ c.from_residual.ensures.1
+    (λ end. tt) c.requires.sound (reads-none _ _ _) refl
 
 pub returns-in_default-clause-reserves : goal.returns-in_default-clause-reserves
 returns-in_default-clause-reserves g c =
     let s = c.args.state.now in
-    nothing-reserves g.S.Staging.obeys g.S.Staging.areas s _ _ true _ (λ done. tt)
+    nothing-reserves g.S.Staging.obeys g.S.Staging.areas s _ _ (Ok tt) _ (λ end. tt)
     (sound-stands (holding (g.S.Staging.areas c.args.staging.now) s) c.requires.sound)
     (λ ok held fit stand. no-unit (holding held s) c.requires.status
     (subst (IsNextUnit s) c.in_default.is c.in_ok-next.ensures))
@@ -51,9 +53,9 @@ find_piece-requires-clause-short g c =
 
 pub returns-in_err-piece-clause-reserves : goal.returns-in_err-piece-clause-reserves
 returns-in_err-piece-clause-reserves g c =
-    reads-failed g.S.Staging.obeys g.S.Staging.areas c.args.state.now c.args.staging.now c.find_piece.new.staging _
-    c.from_residual-in_err-piece.result c.from_residual-in_err-piece.ensures.1 (λ done. tt) c.requires.sound
-    c.in_err-piece.ensures.reads c.in_err-piece.ensures.areas
+    reads-handed g.S.Staging.obeys g.S.Staging.areas _ _ c.from_residual-in_err-piece.ensures.1
+    (λ end. tt) c.requires.sound c.in_err-piece.ensures.reads
+    c.in_err-piece.ensures.areas
 
 pub returns-in_default-2-clause-reserves : goal.returns-in_default-2-clause-reserves
 returns-in_default-2-clause-reserves g c =
@@ -76,7 +78,7 @@ returns-then-piece-eq0-clause-reserves g c =
     next.extents.items ≡ Some piece =
     ap (λ (es : List Extent). piece_of (content_of (Transfer next.slot) v.areas) (parts_place (length es)) next.done es)
     (sym c.as_slice.ensures.value) ∙ sym c.in_ok-piece.ensures.piece ∙ c.in-Some-2.is in
-    reads-reserve g.S.Staging.obeys g.S.Staging.areas s _ _ c.args.staging.now c.find_piece.new.staging true (λ done. tt)
+    reads-reserve g.S.Staging.obeys g.S.Staging.areas s _ _ c.args.staging.now c.find_piece.new.staging (Ok tt) (λ end. tt)
     c.in_ok-piece.ensures.reads c.in_ok-piece.ensures.areas (sound-stands v c.requires.sound)
     (λ ok. none-ready v c.requires.sound c.requires.status u piece found c.planning-planned.result
     c.planning-planned.ensures c.if-piece-eq0.true)
@@ -155,15 +157,15 @@ returns-in_err-copy-clause-reserves g c =
     ap (λ (es : List Extent). piece_of (content_of (Transfer next.slot) v.areas) (parts_place (length es)) next.done es)
     (sym c.as_slice.ensures.value) ∙ sym c.in_ok-piece.ensures.piece ∙ c.in-Some-2.is in
     let writes = subst (λ (a : Areas). Writes g.S.Staging.obeys (side_of piece.to) piece.at
-    (slice_range (content_of (Transfer next.slot) a) piece.from (piece.from + piece.len)) false c.find_piece.new.staging
+    (slice_range (content_of (Transfer next.slot) a) piece.from (piece.from + piece.len)) (Err (fault_of c.in_err-copy.field-0.0)) c.find_piece.new.staging
     c.copy.new.staging) c.in_ok-piece.ensures.areas c.in_err-copy.ensures.writes in
     let left = subst (λ (a : Areas). LeavesOutside (side_of piece.to) piece.at piece.len a
     (g.S.Staging.areas c.copy.new.staging)) c.in_ok-piece.ensures.areas c.in_err-copy.ensures.left in
-    failed-reserves _ c.from_residual-in_err-copy.result c.from_residual-in_err-copy.ensures.1
+    failed-reserves _ _ c.from_residual-in_err-copy.ensures.1
     (unit-reserves g.S.Staging.obeys g.S.Staging.areas s c.args.staging.now c.copy.new.staging c.requires.sound
     c.requires.status u piece found c.planning-planned.result c.planning-planned.ensures c.if-piece-eq0.false
-    (g.met.S.Staging.areas_fit c.args.staging.now) false
-    (writes-then _ _ _ _ false _ _ _ c.in_ok-piece.ensures.reads writes) (λ e. absurd (cc e)) left)
+    (g.met.S.Staging.areas_fit c.args.staging.now) (Err (fault_of c.in_err-copy.field-0.0))
+    (writes-then _ _ _ _ _ _ _ _ c.in_ok-piece.ensures.reads writes) (λ e. absurd (cc e)) left)
 
 pub returns-clause-reserves : goal.returns-clause-reserves
 returns-clause-reserves g c =
@@ -177,14 +179,14 @@ returns-clause-reserves g c =
     ap (λ (es : List Extent). piece_of (content_of (Transfer next.slot) v.areas) (parts_place (length es)) next.done es)
     (sym c.as_slice.ensures.value) ∙ sym c.in_ok-piece.ensures.piece ∙ c.in-Some-2.is in
     let writes = subst (λ (a : Areas). Writes g.S.Staging.obeys (side_of piece.to) piece.at
-    (slice_range (content_of (Transfer next.slot) a) piece.from (piece.from + piece.len)) true c.find_piece.new.staging
+    (slice_range (content_of (Transfer next.slot) a) piece.from (piece.from + piece.len)) (Ok tt) c.find_piece.new.staging
     c.copy.new.staging) c.in_ok-piece.ensures.areas c.in_ok-copy.ensures.writes in
     let left = subst (λ (a : Areas). LeavesOutside (side_of piece.to) piece.at piece.len a
     (g.S.Staging.areas c.copy.new.staging)) c.in_ok-piece.ensures.areas c.in_ok-copy.ensures.left in
     unit-reserves g.S.Staging.obeys g.S.Staging.areas s c.args.staging.now c.copy.new.staging c.requires.sound
     c.requires.status u piece found c.planning-planned.result c.planning-planned.ensures c.if-piece-eq0.false
-    (g.met.S.Staging.areas_fit c.args.staging.now) true
-    (writes-then _ _ _ _ true _ _ _ c.in_ok-piece.ensures.reads writes)
+    (g.met.S.Staging.areas_fit c.args.staging.now) (Ok tt)
+    (writes-then _ _ _ _ _ _ _ _ c.in_ok-piece.ensures.reads writes)
     (λ e. subst (λ (a : Areas). g.S.Staging.areas c.copy.new.staging ≡ with_bytes (side_of piece.to) piece.at
     (slice_range (content_of (Transfer next.slot) a) piece.from (piece.from + piece.len)) a)
     c.in_ok-piece.ensures.areas c.in_ok-copy.ensures.put) left

@@ -1,8 +1,11 @@
-use Rattle.node_core.proofs.Names.{AllByRecursion, IsSound, ap, formatted, fresh_state, holding, in_order, length, meaning}
+use Rattle.node_core.proofs.Names.{AllByRecursion, Err, IsSound, Ok, ap, formatted, fresh_state, holding, in_order, length, meaning}
 use Rattle.node_core.proofs.Names.{package_limit, package_reading, placed_from, refl, subst, sym, ◌∙◌, ◌≡◌, ◌≤◌}
-use Rattle.node_core.specs.Format.{IsFormatted, with_installed}
+use Rattle.node_core.specs.Format.{Formats, IsFormatted, with_installed}
+use Rattle.transfer_blocks.specs.declared.fault.StagingError.TheVariants.{OutOfMemory}
+use Rattle.node_core.specs.Errors.{fault_of}
+use Rattle.node_core.proofs.Lists.{at-err, at-fault}
 use Rattle.node_core.proofs.Ordered.{order-each}
-use Rattle.node_core.proofs.Formatted.{formatted-node}
+use Rattle.node_core.proofs.Formatted.{formatted-node, none-formats, then-failed}
 use Rattle.node_core.proofs.format.format_areas.Goals as goal
 
 pub install-requires-clause-short : goal.install-requires-clause-short
@@ -10,11 +13,15 @@ install-requires-clause-short g c =
     subst (AllByRecursion (λ x. length x.content ≤ package_limit)) (sym c.in_ok-ordered.ensures.sorted)
     (order-each (λ x. length x.content ≤ package_limit) c.args.installed.items c.requires.short)
 
+pub returns-clause-places : goal.returns-clause-places
+returns-clause-places g c =
+    c.in_ok-state.ensures
+    ∙ ap fresh_state (c.in_ok-running.ensures.placed ∙ ap (placed_from 0) c.in_ok-ordered.ensures.sorted)
+
 pub returns-clause-holds : goal.returns-clause-holds
 returns-clause-holds g c held fit =
     let sorted = c.in_ok-ordered.ensures.sorted in
-    subst (λ s. IsFormatted (in_order c.args.installed.items) held s)
-    (sym (c.in_ok-state.ensures ∙ ap fresh_state (c.in_ok-running.ensures.placed ∙ ap (placed_from 0) sorted)))
+    subst (λ s. IsFormatted (in_order c.args.installed.items) held s) (sym (returns-clause-places g c))
     (formatted-node held (in_order c.args.installed.items) c.args.installed.items refl
     (ap length (sym sorted) ∙ c.in_ok-ordered.ensures.length) c.requires.few c.requires.short fit)
 
@@ -30,3 +37,22 @@ returns-clause-sound g c =
     let is = (returns-clause-holds g c (g.S.Staging.areas c.args.staging.now) (g.met.S.Staging.areas_fit c.args.staging.now)).sound in
     subst (λ a. IsSound (holding a c.in_ok-state.state)) (sym areas)
     (record { fit = is.fit; order = is.order; copied = is.copied })
+
+pub returns-in_err-ordered-clause-formats : goal.returns-in_err-ordered-clause-formats
+returns-in_err-ordered-clause-formats g c =
+    at-fault (λ end. Formats g.S.Staging.obeys (in_order c.args.installed.items) end c.args.staging.now
+    c.args.staging.now) OutOfMemory _ c.from_residual.ensures.1 (none-formats _ _ _)
+
+pub returns-in_err-running-clause-formats : goal.returns-in_err-running-clause-formats
+returns-in_err-running-clause-formats g c =
+    at-err (λ end. Formats g.S.Staging.obeys (in_order c.args.installed.items) end c.args.staging.now
+    c.install.new.staging) _ _ c.from_residual-in_err-running.ensures.1
+    (subst (λ l. Formats g.S.Staging.obeys l (Err (fault_of c.in_err-running.field-0.0)) c.args.staging.now c.install.new.staging) c.in_ok-ordered.ensures.sorted
+    c.in_err-running.ensures.formats)
+
+pub returns-in_err-state-clause-formats : goal.returns-in_err-state-clause-formats
+returns-in_err-state-clause-formats g c =
+    at-fault (λ end. Formats g.S.Staging.obeys (in_order c.args.installed.items) end c.args.staging.now
+    c.install.new.staging) OutOfMemory _ c.from_residual-in_err-state.ensures.1
+    (then-failed (subst (λ l. Formats g.S.Staging.obeys l (Ok tt) c.args.staging.now c.install.new.staging)
+    c.in_ok-ordered.ensures.sorted c.in_ok-running.ensures.formats))

@@ -1,8 +1,10 @@
-use Rattle.node_core.proofs.Names.{ap, append-nil, append_assoc, arith, false, into_iter_items, length, sym, true, [], ◌++◌, ◌∙◌, ◌∷◌, ◌≡◌}
+use Rattle.node_core.proofs.Names.{Ok, ap, append-nil, append_assoc, arith, into_iter_items, length, sym, [], ◌++◌, ◌∙◌, ◌∷◌}
 use Rattle.std.proofs.lemmas.List.{nil_from_length}
 use Rattle.node_core.specs.Format.{Formats}
-use Rattle.node_core.proofs.Lists.{at-err}
-use Rattle.node_core.proofs.Formatted.{all-formats, next-areas, next-failed, next-place, next-placed, next-ran, next-short}
+use Rattle.node_core.proofs.Lists.{at-fault}
+use Rattle.node_core.proofs.Runs.{ok-faultless}
+use Rattle.transfer_blocks.specs.declared.fault.StagingError.TheVariants.{OutOfMemory}
+use Rattle.node_core.proofs.Formatted.{all-formats, none-formats, next-areas, next-failed, next-place, next-placed, next-ran, next-short}
 use Rattle.node_core.proofs.format.install.Goals as goal
 
 pub put-requires-clause-area : goal.put-requires-clause-area
@@ -45,12 +47,12 @@ returns-in_err-put-clause-formats g c =
     let rest = into_iter_items c.next.new.self in
     let whole = ap (λ l. at.yielded ++ l) (sym c.in-Some.ensures.steps.0) ∙ at.invariant.0
     ∙ c.into_iter-cluster-iterator.ensures.into_iter_gives.0 in
-    at-err (λ ok. Formats g.S.Staging.obeys c.args.clusters.items ok c.args.staging.now c.put.new.self) _
+    at-fault (λ end. Formats g.S.Staging.obeys c.args.clusters.items end c.args.staging.now c.put.new.self) _
     c.from_residual-in_err-put.result c.from_residual-in_err-put.ensures.1
     (next-failed g.S.Staging.obeys at.yielded rest c.args.clusters.items x whole c.requires.few c.requires.short
     c.args.staging.now at.staging c.put.new.self at.invariant.2 at.running.items at.invariant.1 c.len-place.result
     (c.len-place.ensures ∙ at.running.ok.0) c.as_slice-bytes.result.now c.as_slice-bytes.ensures.bytes
-    false c.in_err-put.ensures.obeys)
+    _ _ (λ e. e) c.in_err-put.ensures.obeys)
 
 pub returns-in_err-add-clause-formats : goal.returns-in_err-add-clause-formats
 returns-in_err-add-clause-formats g c =
@@ -59,12 +61,12 @@ returns-in_err-add-clause-formats g c =
     let rest = into_iter_items c.next.new.self in
     let whole = ap (λ l. at.yielded ++ l) (sym c.in-Some.ensures.steps.0) ∙ at.invariant.0
     ∙ c.into_iter-cluster-iterator.ensures.into_iter_gives.0 in
-    at-err (λ ok. Formats g.S.Staging.obeys c.args.clusters.items ok c.args.staging.now c.put.new.self) _
+    at-fault (λ end. Formats g.S.Staging.obeys c.args.clusters.items end c.args.staging.now c.put.new.self) OutOfMemory
     c.from_residual-in_err-add.result c.from_residual-in_err-add.ensures.1
     (next-failed g.S.Staging.obeys at.yielded rest c.args.clusters.items x whole c.requires.few c.requires.short
     c.args.staging.now at.staging c.put.new.self at.invariant.2 at.running.items at.invariant.1 c.len-place.result
     (c.len-place.ensures ∙ at.running.ok.0) c.as_slice-bytes.result.now c.as_slice-bytes.ensures.bytes
-    true c.in_ok-put.ensures.obeys)
+    (Ok tt) _ (λ e. ok-faultless) c.in_ok-put.ensures.obeys)
 
 pub loop-cluster-preserved : goal.loop-cluster-preserved
 loop-cluster-preserved g c =
@@ -104,3 +106,8 @@ returns-clause-formats g c =
     all-formats g.S.Staging.obeys at.yielded c.args.clusters.items c.args.staging.now at.staging
     (sym (append-nil at.yielded) ∙ ap (λ l. at.yielded ++ l) (sym none) ∙ at.invariant.0
     ∙ c.into_iter-cluster-iterator.ensures.into_iter_gives.0) c.requires.few c.requires.short at.invariant.2
+
+pub returns-in_err-running-clause-formats : goal.returns-in_err-running-clause-formats
+returns-in_err-running-clause-formats g c =
+    at-fault (λ end. Formats g.S.Staging.obeys c.args.clusters.items end c.args.staging.now c.args.staging.now)
+    OutOfMemory _ c.from_residual.ensures.1 (none-formats _ _ _)

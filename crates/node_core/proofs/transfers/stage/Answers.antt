@@ -1,18 +1,20 @@
-use Rattle.node_core.proofs.Names.{None, Some, State, ap, data_refusals, false, first_refusal, found_of, holding, length, refl}
-use Rattle.node_core.proofs.Names.{stored_header, subst, sym, true, ◌∙◌, ◌≡◌, ◌≢◌}
-use Rattle.node_core.proofs.Reserved.{block-fits, block-reserves, failed-reserves, nothing-reserves, put-reserves, sound-stands}
+use Rattle.node_core.specs.Reserves.{BringsNew, Reserves}
+use Rattle.node_core.proofs.Lists.{at-fault}
+use Rattle.node_core.proofs.Names.{IsReady, None, Ok, Some, State, TransferData, ap, data_refusals, first_refusal, found_of, holding, length, refl}
+use Rattle.node_core.proofs.Names.{stored_header, subst, sym, ◌∙◌, ◌≡◌, ◌≢◌}
+use Rattle.node_core.proofs.Reserved.{block-fits, block-reserves, none-unless, nothing-reserves, put-reserves, sound-stands}
 use Rattle.node_core.proofs.Runs.{writes-one}
 use Rattle.node_core.proofs.Staging.{found-lies, found-slot, refused-block}
 use Rattle.node_core.proofs.transfers.stage.Goals as goal
 
 pub returns-in_default-clause-reserves : goal.returns-in_default-clause-reserves
 returns-in_default-clause-reserves g c =
-    nothing-reserves g.S.Staging.obeys g.S.Staging.areas c.args.state.now _ _ true _ (λ done. tt)
+    nothing-reserves g.S.Staging.obeys g.S.Staging.areas c.args.state.now _ _ (Ok tt) _ (λ end. tt)
     (sound-stands (holding (g.S.Staging.areas c.args.staging.now) c.args.state.now) c.requires.sound)
     (λ ok held fit stand. refused-block (holding held c.args.state.now) c.args.client c.args.id c.args.counter
     c.args.block.now (subst (λ (s : State). first_refusal (data_refusals
     (stored_header s.transfers c.args.client c.args.id) c.args.counter (length c.args.block.now)) ≢ None)
-    c.state.view_is (c.in_default.ensures.refused refl)))
+    c.state.view_is (c.in_default.ensures.refused.0 refl)))
 
 pub put-requires-clause-area : goal.put-requires-clause-area
 put-requires-clause-area g c =
@@ -37,19 +39,30 @@ put-requires-clause-fits g c =
 
 pub returns-in_err-put-clause-reserves : goal.returns-in_err-put-clause-reserves
 returns-in_err-put-clause-reserves g c =
-    let is : found_of c.args.state.now.transfers c.args.client c.args.id ≡ Some c.in-Some.found =
-    ap (λ (s : State). found_of s.transfers c.args.client c.args.id) (sym c.state.view_is) ∙ c.in-Some.ensures.found in
-    failed-reserves _ c.from_residual.result c.from_residual.ensures.1
-    (block-reserves g.S.Staging.obeys g.S.Staging.areas c.args.state.now c.args.staging.now c.put.new.self
-    c.requires.sound c.args.client c.args.id c.args.counter c.args.block.now c.in-Some.found is c.in-Some.ensures.fits false
-    (g.met.S.Staging.areas_fit c.args.staging.now) (writes-one _ _ _ _ false _ _ c.in_err-put.ensures.obeys)
+    let s = c.args.state.now in
+    let same = ap (λ (s : State). found_of s.transfers c.args.client c.args.id) (sym c.state.view_is) in
+    let accepted = ap (λ (s : State). first_refusal (data_refusals (stored_header s.transfers c.args.client c.args.id)
+    c.args.counter (length c.args.block.now))) (sym c.state.view_is)
+    ∙ none-unless _ (λ some. absurd (cc (c.in-Some.ensures.refused.1 some))) in
+    let is : found_of s.transfers c.args.client c.args.id ≡ Some c.in-Some.found = same ∙ c.in-Some.ensures.found in
+    at-fault (λ end. Reserves g.S.Staging.obeys g.S.Staging.areas s
+    (BringsNew s c.args.client (TransferData c.args.id c.args.counter c.args.block.now))
+    (λ held. IsReady (holding held s) c.args.client (TransferData c.args.id c.args.counter c.args.block.now)) end
+    c.args.staging.now c.put.new.self) _ _ c.from_residual.ensures.1
+    (block-reserves g.S.Staging.obeys g.S.Staging.areas s c.args.staging.now c.put.new.self c.requires.sound c.args.client
+    c.args.id c.args.counter c.args.block.now c.in-Some.found is c.in-Some.ensures.fits accepted _
+    (g.met.S.Staging.areas_fit c.args.staging.now) (writes-one _ _ _ _ _ _ _ c.in_err-put.ensures.obeys)
     (λ e. absurd (cc e)) c.in_err-put.ensures.outside)
 
 pub returns-clause-reserves : goal.returns-clause-reserves
 returns-clause-reserves g c =
-    let is : found_of c.args.state.now.transfers c.args.client c.args.id ≡ Some c.in-Some.found =
-    ap (λ (s : State). found_of s.transfers c.args.client c.args.id) (sym c.state.view_is) ∙ c.in-Some.ensures.found in
-    put-reserves g.S.Staging.obeys g.S.Staging.areas c.args.state.now c.args.staging.now c.put.new.self
-    c.requires.sound c.args.client c.args.id c.args.counter c.args.block.now c.in-Some.found is c.in-Some.ensures.fits
-    (g.met.S.Staging.areas_fit c.args.staging.now) (writes-one _ _ _ _ true _ _ c.in_ok-put.ensures.obeys)
+    let s = c.args.state.now in
+    let same = ap (λ (s : State). found_of s.transfers c.args.client c.args.id) (sym c.state.view_is) in
+    let accepted = ap (λ (s : State). first_refusal (data_refusals (stored_header s.transfers c.args.client c.args.id)
+    c.args.counter (length c.args.block.now))) (sym c.state.view_is)
+    ∙ none-unless _ (λ some. absurd (cc (c.in-Some.ensures.refused.1 some))) in
+    let is : found_of s.transfers c.args.client c.args.id ≡ Some c.in-Some.found = same ∙ c.in-Some.ensures.found in
+    put-reserves g.S.Staging.obeys g.S.Staging.areas s c.args.staging.now c.put.new.self c.requires.sound c.args.client
+    c.args.id c.args.counter c.args.block.now c.in-Some.found is c.in-Some.ensures.fits accepted
+    (g.met.S.Staging.areas_fit c.args.staging.now) (writes-one _ _ _ _ _ _ _ c.in_ok-put.ensures.obeys)
     c.in_ok-put.ensures.put

@@ -1,6 +1,6 @@
 use Rattle.node_core.proofs.Names.{IsReserved, Owning, ap, node_of, over, subst, ◌∙◌}
 use Rattle.node_core.specs.Reserves.{Brings, Reserves}
-use Rattle.std.specs.Prelude.{is_ok}
+use Rattle.node_core.specs.Errors.{end_by}
 use Rattle.node_core.proofs.Owned.{ready-ok, stays-node, stays-sound}
 use Rattle.node_core.proofs.Reserved.{sound-stands}
 use Rattle.node_core.proofs.node.Core.reserve.Goals as goal
@@ -27,5 +27,5 @@ returns-clause-reserved g c =
 pub returns-clause-reserves : goal.returns-clause-reserves
 returns-clause-reserves g c =
     subst (λ (v : Owning _). Reserves g.S.Staging.obeys g.S.Staging.areas v.held.state
-    (Brings v.held.state c.args.client c.args.call.now) (λ held. IsReserved (over held c.reserve.new.self.ready) c.args.client c.args.no c.args.call.now)
-    (is_ok c.reserve.result) v.staging c.reserve.new.self.staging) c.self.view_is c.reserve.ensures.reserves
+    (Brings v.held.state c.args.client c.args.no c.args.call.now) (λ held. IsReserved (over held c.reserve.new.self.ready) c.args.client c.args.no c.args.call.now)
+    (end_by c.reserve.result) v.staging c.reserve.new.self.staging) c.self.view_is c.reserve.ensures.reserves

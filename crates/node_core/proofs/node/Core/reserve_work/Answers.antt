@@ -1,6 +1,6 @@
 use Rattle.node_core.proofs.Names.{IsReservedWork, Owning, ap, node_of, over, subst, ◌∙◌}
 use Rattle.node_core.specs.Reserves.{Copies, Reserves}
-use Rattle.std.specs.Prelude.{is_ok}
+use Rattle.node_core.specs.Errors.{end_by}
 use Rattle.node_core.proofs.Owned.{ready-ok, stays-node, stays-sound}
 use Rattle.node_core.proofs.Reserved.{sound-stands}
 use Rattle.node_core.proofs.node.Core.reserve_work.Goals as goal
@@ -27,5 +27,5 @@ returns-clause-reserved g c =
 pub returns-clause-reserves : goal.returns-clause-reserves
 returns-clause-reserves g c =
     subst (λ (v : Owning _). Reserves g.S.Staging.obeys g.S.Staging.areas v.held.state
-    (Copies v.held.state) (λ held. IsReservedWork (over held c.reserve_work.new.self.ready))
-    (is_ok c.reserve_work.result) v.staging c.reserve_work.new.self.staging) c.self.view_is c.reserve_work.ensures.reserves
+    (Copies v.held.areas v.held.state) (λ held. IsReservedWork (over held c.reserve_work.new.self.ready))
+    (end_by c.reserve_work.result) v.staging c.reserve_work.new.self.staging) c.self.view_is c.reserve_work.ensures.reserves

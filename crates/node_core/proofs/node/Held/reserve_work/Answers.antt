@@ -1,24 +1,30 @@
-use Rattle.node_core.proofs.Names.{IsSound, arith, false, holding, over, refl, true, ◌∙◌}
+use Rattle.node_core.proofs.Names.{IsSound, Ok, arith, holding, over, refl, ◌∙◌}
 use Rattle.std.proofs.lemmas.Result.{err_from_is_err_and}
 use Rattle.node_core.specs.Reserves.{Copies}
-use Rattle.node_core.proofs.Reserved.{nothing-reserves, reads-failed, reserves-same, sound-stands}
+use Rattle.node_core.specs.declared.node.ReserveError.TheVariants.{OutOfMemory}
+use Rattle.node_core.proofs.Reserved.{failed-reserves, nothing-reserves, reads-handed, reserves-same, sound-stands}
 use Rattle.node_core.proofs.Runs.{reads-none}
 use Rattle.node_core.proofs.node.Held.reserve_work.Goals as goal
 
 pub returns-in_ok-prepared-in-Processing-clause-reserves : goal.returns-in_ok-prepared-in-Processing-clause-reserves
 returns-in_ok-prepared-in-Processing-clause-reserves g c =
-    reserves-same Copies (λ i. ((c.self.view_is i).staging, (c.self.view_is i).ready.state))
-    (λ held ready. ready) c.in_ok-prepared-in-Processing.ensures.reserves
+    reserves-same (λ a s. Copies (g.S.Staging.areas a) s) (λ a s. Copies (g.S.Staging.areas a) s) (λ i. ((c.self.view_is i).staging, (c.self.view_is i).ready.state))
+    (λ step brought. brought) (λ held ready. ready) c.in_ok-prepared-in-Processing.ensures.reserves
+
+pub returns-in_err-prepared-in-Processing-clause-reserves : goal.returns-in_err-prepared-in-Processing-clause-reserves
+returns-in_err-prepared-in-Processing-clause-reserves g c =
+    failed-reserves _ _ c.from_residual.ensures.1
+    (reserves-same (λ a s. Copies (g.S.Staging.areas a) s) (λ a s. Copies (g.S.Staging.areas a) s)
+    (λ i. ((c.self.view_is i).staging, (c.self.view_is i).ready.state)) (λ step brought. brought) (λ held ready. ready)
+    c.in_err-prepared-in-Processing.ensures.reserves)
 
 pub returns-in_ok-reserve_clusters-in_default : goal.returns-in_ok-reserve_clusters-in_default
 returns-in_ok-reserve_clusters-in_default g c =
     let self = c.args.self.now in
     let own = c.requires.sound in
-    let plain : IsSound (holding (g.S.Staging.areas self.staging) self.ready.state) =
-    record { fit = own.fit; order = own.order; copied = own.copied } in
     record {
       state = c.in_ok-reserve_clusters-in_default.ensures.state;
-      reserves = nothing-reserves g.S.Staging.obeys g.S.Staging.areas self.ready.state _ _ true self.staging (λ done. tt)
+      reserves = nothing-reserves g.S.Staging.obeys g.S.Staging.areas self.ready.state _ _ (Ok tt) self.staging (λ end. tt)
           (sound-stands (over (g.S.Staging.areas self.staging) self.ready) own)
           (λ ok held fit stand. c.in_ok-reserve_clusters-in_default.ensures.ready (λ busy. c.in_default.not-Processing
           ((λ i. (c.self-inside.view_is i).0.1.0.state.status) ∙ (λ i. (c.self.view_is i).ready.state.status) ∙ busy))
@@ -36,9 +42,8 @@ returns-in_err-reserve_clusters-in_default g c =
     record { fit = own.fit; order = own.order; copied = own.copied } in
     record {
       state = c.in_err-reserve_clusters-in_default.ensures.state;
-      reserves = reads-failed g.S.Staging.obeys g.S.Staging.areas self.ready.state self.staging self.staging _
-          c.from_residual-in_err-reserve_clusters-in_default.result
-          c.from_residual-in_err-reserve_clusters-in_default.ensures.1 (λ done. tt) plain (reads-none _ false _) refl;
+      reserves = reads-handed g.S.Staging.obeys g.S.Staging.areas OutOfMemory _ c.from_residual-in_err-reserve_clusters-in_default.ensures.1
+          (λ end. tt) plain (reads-none _ _ _) refl;
       fit = c.requires.fit;
       cause = λ is.
           let own = err_from_is_err_and c.from_residual-in_err-reserve_clusters-in_default.result

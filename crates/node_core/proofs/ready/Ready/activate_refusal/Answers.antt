@@ -1,5 +1,4 @@
 use Rattle.node_core.proofs.Names.{None, Some, sym, refl, ◌∙◌}
-use Rattle.node_core.proofs.Opened.{within}
 use Rattle.node_core.proofs.Refused.{activate-by}
 use Rattle.node_core.proofs.ready.Ready.activate_refusal.Goals as goal
 

@@ -1,4 +1,4 @@
-use Rattle.node_core.proofs.Names.{over, table_of}
+use Rattle.node_core.proofs.Names.{over}
 use Rattle.node_core.proofs.Sound.{table-is}
 use Rattle.node_core.proofs.ready.Ready.process.Goals as goal
 

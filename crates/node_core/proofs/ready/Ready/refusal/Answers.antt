@@ -1,4 +1,4 @@
-use Rattle.node_core.proofs.Names.{Activate, IsReady, TransferData, TransferExit, ap, over, refusal_by, subst, sym, ◌∙◌}
+use Rattle.node_core.proofs.Names.{IsReady, TransferData, ap, over, refusal_by, subst, sym, ◌∙◌}
 use Rattle.node_core.proofs.Opened.{within}
 use Rattle.node_core.proofs.Refused.{block-by, delete-by}
 use Rattle.node_core.proofs.ready.Ready.refusal.Goals as goal
