@@ -1,0 +1,6 @@
+pub mod Plans
+pub mod Settles
+pub mod Becomes
+pub mod Stands
+pub mod Seats
+pub mod Rises

@@ -1,0 +1,53 @@
+-- The numbers of a plan of faults tell the plan.
+use Rattle.std.proofs.Common.{◌≡◌, ℕ, List, [], ◌∷◌, refl, sym, ◌∙◌, ap}
+use Rattle.std.specs.Prelude.{slice_index_or}
+use Rattle.disk_core.specs.declared.plan.FailKind.{FailKind}
+use Rattle.disk_core.specs.declared.plan.FaultPlan.{FaultPlan}
+use Rattle.turn_gate.proofs.InOne.{in_one-injective}
+use Rattle.master_gate.specs.Plans.{fail_numbers, kind_number, plan_numbers, stop_numbers}
+
+abbrev kind_at : ℕ → FailKind
+kind_at n = slice_index_or (FailKind.Read ∷ FailKind.Write ∷ FailKind.Sync ∷ []) n FailKind.Read
+
+kind_of_its_number : (k : FailKind) → kind_at (kind_number k) ≡ k
+kind_of_its_number FailKind.Read = refl
+kind_of_its_number FailKind.Write = refl
+kind_of_its_number FailKind.Sync = refl
+
+kinds : (a b : FailKind) → kind_number a ≡ kind_number b → a ≡ b
+kinds a b same = sym (kind_of_its_number a) ∙ ap kind_at same ∙ kind_of_its_number b
+
+stops : (xs ys : List (ℕ × ℕ)) → stop_numbers xs ≡ stop_numbers ys → xs ≡ ys
+stops [] [] same = refl
+stops [] (y ∷ ys) same = absurd (cc same)
+stops (x ∷ xs) (y ∷ ys) same =
+    let write : x.0 ≡ y.0 = cc same in
+    let kept : x.1 ≡ y.1 = cc same in
+    let tail : stop_numbers xs ≡ stop_numbers ys = cc same in
+    let head : x ≡ y = (λ i. (write i, kept i)) in
+    let rest = stops xs ys tail in
+    cc (head, rest)
+stops (x ∷ xs) [] same = absurd (cc same)
+
+fails : (xs ys : List (FailKind × ℕ)) → fail_numbers xs ≡ fail_numbers ys → xs ≡ ys
+fails [] [] same = refl
+fails [] (y ∷ ys) same = absurd (cc same)
+fails (x ∷ xs) (y ∷ ys) same =
+    let number : kind_number x.0 ≡ kind_number y.0 = cc same in
+    let call : x.1 ≡ y.1 = cc same in
+    let tail : fail_numbers xs ≡ fail_numbers ys = cc same in
+    let kind = kinds x.0 y.0 number in
+    let head : x ≡ y = (λ i. (kind i, call i)) in
+    let rest = fails xs ys tail in
+    cc (head, rest)
+fails (x ∷ xs) [] same = absurd (cc same)
+
+pub plans : (p q : FaultPlan) → plan_numbers p ≡ plan_numbers q → p ≡ q
+plans p q same =
+    let lists = in_one-injective (stop_numbers p.stops ∷ fail_numbers p.fails ∷ [])
+    (stop_numbers q.stops ∷ fail_numbers q.fails ∷ []) same in
+    let first : stop_numbers p.stops ≡ stop_numbers q.stops = cc lists in
+    let second : fail_numbers p.fails ≡ fail_numbers q.fails = cc lists in
+    let s = stops p.stops q.stops first in
+    let f = fails p.fails q.fails second in
+    λ i. record { stops = s i; fails = f i }
