@@ -2,7 +2,7 @@
 ghost use Rattle.std.specs.Prelude.{◌≡◌, IfSome};
 ghost use Rattle.sub_core.specs.Calls.{bytes_of, AreThere};
 
-use crate::packing::{driver_for, one_removal};
+use crate::packing::{driver_for, packages, removal};
 use package_reader::Packages;
 use pm_types::{IdList, Reply, Status, Synced, Worked};
 use std::alloc::Global;
@@ -121,7 +121,7 @@ fn meet_at<R: Threads + Wait + Sync>(
 
 /// Whether each of two workers met the other in its first call.
 pub fn meet<R: Threads + Wait + Sync>(rt: &R, alloc: Global) -> Option<[bool; 2]> {
-    let packages = one_removal(alloc, "core")?;
+    let packages = packages(alloc, &[&[removal("core")]])?;
     let first = AtomicU64::new(0);
     let second = AtomicU64::new(0);
     meet_at(rt, alloc, &packages, &first, &second)

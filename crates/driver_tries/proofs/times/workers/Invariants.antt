@@ -1,7 +1,7 @@
 use Rattle.std.specs.Prelude.{All}
 use Rattle.sub_core.specs.declared.answers.Round.{Round}
 use Rattle.sub_workers.specs.Runs.{MayBegin}
-use Rattle.sub_bench.proofs.times.workers.Given as goal
+use Rattle.driver_tries.proofs.times.workers.Given as goal
 
 -- each worker so far may begin its first round
 abbrev pub invariant-loop-place : goal.invariant-loop-place

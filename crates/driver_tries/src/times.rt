@@ -4,7 +4,7 @@ ghost use Rattle.sub_workers.specs.Runs.{MayBegin};
 ghost use Rattle.sub_core.specs.declared.answers.Round.{Round as AnyRound};
 
 use crate::meeting::at_rest;
-use crate::packing::{driver_for, one_removal};
+use crate::packing::{driver_for, packages, removal};
 use package_reader::Packages;
 use pm_types::{Reply, Status, Worked};
 use std::alloc::Global;
@@ -88,7 +88,7 @@ fn workers<'a, C: Clock>(
 
 /// The microseconds of a round over so many workers, each of whose nodes takes the same time for its one call.
 pub fn round<R: Threads + Wait + Clock + Sync>(rt: &R, alloc: Global, count: u32) -> Option<u128> {
-    let packages = one_removal(alloc, "core")?;
+    let packages = packages(alloc, &[&[removal("core")]])?;
     let mut workers = workers(alloc, rt, &packages, count)?;
     let start = Instant::now(rt).ok()?;
     prepare_all(rt, alloc, workers.as_mut_slice(), Round::Sync);
