@@ -3,36 +3,32 @@ use Rattle.std.specs.Prelude.{ℕ, List, [], ◌∷◌, ◌++◌, length, map, t
 use Rattle.std.specs.Fmt.{decimal}
 use Rattle.std.specs.List.{flat_map}
 use Rattle.std.specs.Str.{bytes_eq}
-use Rattle.ucm_base.specs.declared.parts.Action.{Action}
-use Rattle.ucm_base.specs.declared.parts.Action.TheVariants.{Install, Update, Remove}
 use Rattle.ucm_base.specs.declared.parts.Manifest.{Manifest}
 use Rattle.ucm_base.specs.declared.parts.Need.{Need}
 use Rattle.ucm_base.specs.declared.parts.Part.{Part}
+use Rattle.ucm_base.specs.Printed.{action_text, need_text}
 use Rattle.package_reader.specs.declared.fault.PackageError.{PackageError}
 use Rattle.package_reader.specs.declared.span.Span.{Span}
 use Rattle.package_reader.specs.Packed.{PackedOf}
+use Rattle.package_reader.specs.Printed.{fault_text}
 use Rattle.package_reader.specs.Reading.{contents_of}
 use Rattle.vehicle_package.specs.declared.fault.VehicleError.{VehicleError}
 use Rattle.vehicle_package.specs.declared.vehicle.Step.{Step}
 use Rattle.vehicle_package.specs.declared.vehicle.Vehicle.{Vehicle}
 use Rattle.vehicle_package.specs.Changes.{parts_of}
 use Rattle.vehicle_package.specs.Fields.{mark}
+use Rattle.vehicle_package.specs.Printed.{fault_text as vehicle_fault_text}
 use Rattle.vehicle_package.specs.Reading.{vehicle_of}
 use Rattle.ucm_prog.specs.declared.status.ExitStatus.TheVariants.{Successful}
-use Rattle.ucm_prog.specs.Refusals.{Output, package_refusal, refused_output, vehicle_refusal}
-
-abbrev pub action_word : Action → List ℕ
-action_word Install = codes "install"
-action_word Update = codes "update"
-action_word Remove = codes "remove"
+use Rattle.ucm_prog.specs.Refusals.{Output, refused_output}
 
 abbrev pub need_line : Need → List ℕ
-need_line need = codes "need " ++ need.name ++ codes "@" ++ need.req ++ 10 ∷ []
+need_line need = codes "need " ++ need_text need ++ 10 ∷ []
 
 -- a part's cluster, version, action and payload's length
 abbrev pub package_line : Manifest → ℕ → List ℕ
 package_line m size =
-    codes "package " ++ m.name ++ codes " " ++ m.version ++ codes " " ++ action_word m.action ++ codes " payload "
+    codes "package " ++ m.name ++ codes " " ++ m.version ++ codes " " ++ action_text m.action ++ codes " payload "
     ++ decimal size ++ 10 ∷ []
 
 -- and a line for each of its needs
@@ -41,12 +37,12 @@ shown part = package_line part.manifest part.payload.len ++ flat_map need_line p
 
 abbrev pub inspected : Result (List (Part Span)) PackageError → Output
 inspected (Ok parts) = record { status = Successful; text = flat_map shown parts }
-inspected (Err fault) = refused_output (package_refusal fault)
+inspected (Err fault) = refused_output (fault_text fault)
 
 -- a step's node, and a part's cluster, version and action
 abbrev pub step_line : ℕ → Manifest → List ℕ
 step_line node m =
-    codes "step " ++ decimal node ++ codes " " ++ m.name ++ codes " " ++ m.version ++ codes " " ++ action_word m.action
+    codes "step " ++ decimal node ++ codes " " ++ m.name ++ codes " " ++ m.version ++ codes " " ++ action_text m.action
     ++ 10 ∷ []
 
 -- a line for each part of a step's package
@@ -63,7 +59,7 @@ vehicle_shown v = vehicle_line v ++ flat_map (step_shown v.packages) v.steps
 
 abbrev pub inspected_vehicle : Result Vehicle VehicleError → Output
 inspected_vehicle (Ok v) = record { status = Successful; text = vehicle_shown v }
-inspected_vehicle (Err fault) = refused_output (vehicle_refusal fault)
+inspected_vehicle (Err fault) = refused_output (vehicle_fault_text fault)
 
 -- bytes that begin as a vehicle package are read as one, and all others as a software package
 abbrev pub inspected_input : List ℕ → Output

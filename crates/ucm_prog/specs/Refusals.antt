@@ -1,10 +1,6 @@
 -- What is written where an input is refused.
 use Rattle.std.specs.Prelude.{ℕ, List, [], ◌∷◌, ◌++◌, codes}
 use Rattle.std.specs.Fmt.{decimal}
-use Rattle.package_reader.specs.declared.fault.PackageError.{PackageError}
-use Rattle.package_reader.specs.declared.fault.PackageError.TheVariants.{PackageInconsistent, InvalidManifest, OutOfMemory}
-use Rattle.vehicle_package.specs.declared.fault.VehicleError.{VehicleError}
-use Rattle.vehicle_package.specs.declared.fault.VehicleError.TheVariants.{VehicleInconsistent, InvalidPlan, PackageRefused, ClusterTwice, OutOfMemory as NoMemory}
 use Rattle.scenario.specs.declared.why.Why.{Why}
 use Rattle.scenario.specs.Reasons.{why_text}
 use Rattle.ucm_prog.specs.declared.status.ExitStatus.{ExitStatus}
@@ -21,20 +17,6 @@ refused_output why = record { status = InputRefused; text = codes "refused " ++ 
 -- a line that is refused, or 0 for what is judged behind all lines
 abbrev pub line_refusal : ℕ → Why → List ℕ
 line_refusal line why = codes "line " ++ decimal line ++ codes " " ++ why_text why
-
--- the fault of bytes that are no package
-abbrev pub package_refusal : PackageError → List ℕ
-package_refusal (PackageInconsistent place) = codes "PackageInconsistent " ++ decimal place
-package_refusal InvalidManifest = codes "InvalidManifest"
-package_refusal OutOfMemory = []
-
--- the fault of bytes that are no vehicle package
-abbrev pub vehicle_refusal : VehicleError → List ℕ
-vehicle_refusal (VehicleInconsistent place) = codes "VehicleInconsistent " ++ decimal place
-vehicle_refusal InvalidPlan = codes "InvalidPlan"
-vehicle_refusal (PackageRefused index fault) = codes "package " ++ decimal index ++ 32 ∷ package_refusal fault
-vehicle_refusal (ClusterTwice node name) = codes "ClusterTwice " ++ decimal node ++ 32 ∷ name
-vehicle_refusal NoMemory = []
 
 -- of an input that is longer than its limit
 abbrev pub too_long_output : Output

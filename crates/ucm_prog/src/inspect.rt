@@ -1,17 +1,18 @@
 //! The command `inspect`: what a software package has, part by part, or a vehicle package, step by step.
 ghost use Rattle.std.specs.Prelude.{◌≡◌, ◌++◌, IfOk, OnOk, string_bytes};
 ghost use Rattle.std.specs.List.{flat_map};
+ghost use Rattle.package_reader.specs.Printed.{fault_text};
 ghost use Rattle.package_reader.specs.Reading.{contents_of};
-ghost use Rattle.ucm_prog.specs.Inspect.{action_word, inspected, inspected_input, need_line, package_line, shown};
+ghost use Rattle.ucm_prog.specs.Inspect.{inspected, inspected_input, need_line, package_line, shown};
 ghost use Rattle.ucm_prog.specs.Outputs.{IsOutput};
-ghost use Rattle.ucm_prog.specs.Refusals.{package_refusal, refused_output};
+ghost use Rattle.ucm_prog.specs.Refusals.{refused_output};
 
 use crate::inspect_vehicle::inspect_vehicle;
 use crate::output::{Output, refused};
 use crate::status::ExitStatus;
 use package_reader::{PackageError, Span, read_package};
 use std::alloc::{AllocError, Global};
-use ucm_base::{Action, Manifest, Need, Part};
+use ucm_base::{Manifest, Need, Part};
 use vehicle_package::MARK;
 
 /// What `inspect` of a whole input writes.
@@ -44,25 +45,12 @@ fn inspect_package(alloc: Global, input: &[u8]) -> Result<Output, AllocError>
     }
 }
 
-/// Adds the fault of bytes that are no package.
-pub fn add_fault(text: &mut String, fault: PackageError) -> Result<(), AllocError>
-    ensures { OnOk result (string_bytes text.new
-        ≡ string_bytes text.old ++ package_refusal fault) }
-{
-    match fault {
-        PackageError::PackageInconsistent { place } => write!(text, "PackageInconsistent {place}"),
-        PackageError::InvalidManifest => write!(text, "InvalidManifest"),
-        PackageError::OutOfMemory => Err(AllocError),
-    }
-}
-
 fn refused_package(alloc: Global, fault: PackageError) -> Result<Output, AllocError>
-    ensures { IfOk result (λ o. IsOutput (refused_output (package_refusal fault))
+    ensures { IfOk result (λ o. IsOutput (refused_output (fault_text fault))
         o.status o.bytes.items) }
 {
-    let mut text = String::from_str(alloc, "refused ")?;
-    add_fault(&mut text, fault)?;
-    write!(text, "\n")?;
+    let mut text = String::new(alloc);
+    write!(text, "refused {fault}\n")?;
     Ok(refused(text))
 }
 
@@ -89,7 +77,7 @@ fn add_package(text: &mut String, manifest: &Manifest, size: u32) -> Result<(), 
 {
     let name = manifest.name;
     let version = manifest.version.text();
-    let action = word_of(manifest.action);
+    let action = manifest.action;
     write!(text, "package {name} {version} {action} payload {size}\n")
 }
 
@@ -98,19 +86,7 @@ fn add_needs(text: &mut String, needs: &[Need]) -> Result<(), AllocError>
         ≡ string_bytes text.old ++ flat_map need_line needs.now) }
 {
     for need in needs {
-        let name = need.name;
-        let req = need.req.text();
-        write!(text, "need {name}@{req}\n")?;
+        write!(text, "need {need}\n")?;
     }
     Ok(())
-}
-
-pub fn word_of(action: Action) -> &'static str
-    ensures { result.now ≡ action_word action }
-{
-    match action {
-        Action::Install => "install",
-        Action::Update => "update",
-        Action::Remove => "remove",
-    }
 }

@@ -1,17 +1,17 @@
 //! What `inspect` writes of a vehicle package.
 ghost use Rattle.std.specs.Prelude.{◌≡◌, ◌++◌, IfOk, OnOk, map, string_bytes};
 ghost use Rattle.std.specs.List.{flat_map};
+ghost use Rattle.vehicle_package.specs.Printed.{fault_text};
 ghost use Rattle.vehicle_package.specs.Reading.{vehicle_of};
 ghost use Rattle.ucm_prog.specs.Inspect.{inspected_vehicle, step_line, step_shown, vehicle_line, vehicle_shown};
 ghost use Rattle.ucm_prog.specs.Outputs.{IsOutput};
-ghost use Rattle.ucm_prog.specs.Refusals.{refused_output, vehicle_refusal};
+ghost use Rattle.ucm_prog.specs.Refusals.{refused_output};
 
-use crate::inspect::{add_fault, word_of};
 use crate::output::{Output, refused};
 use crate::status::ExitStatus;
 use package_reader::Span;
 use std::alloc::{AllocError, Global};
-use ucm_base::{ClusterName, Manifest, NodeId, Part};
+use ucm_base::{Manifest, NodeId, Part};
 use vehicle_package::{Vehicle, VehicleError, read_vehicle};
 
 /// What `inspect` of a vehicle package writes. Each package's bytes are copied once.
@@ -32,38 +32,12 @@ pub fn inspect_vehicle(alloc: Global, input: &[u8]) -> Result<Output, AllocError
     }
 }
 
-fn add_twice(text: &mut String, node: NodeId, name: ClusterName) -> Result<(), AllocError>
-    ensures { OnOk result (string_bytes text.new
-        ≡ string_bytes text.old ++ vehicle_refusal (VehicleError.ClusterTwice node name)) }
-{
-    let node = node.number();
-    write!(text, "ClusterTwice {node} {name}")
-}
-
-/// Adds the fault of bytes that are no vehicle package.
-fn add_vehicle_fault(text: &mut String, fault: VehicleError) -> Result<(), AllocError>
-    ensures { OnOk result (string_bytes text.new
-        ≡ string_bytes text.old ++ vehicle_refusal fault) }
-{
-    match fault {
-        VehicleError::VehicleInconsistent { place } => write!(text, "VehicleInconsistent {place}"),
-        VehicleError::InvalidPlan => write!(text, "InvalidPlan"),
-        VehicleError::PackageRefused { index, fault } => {
-            write!(text, "package {index} ")?;
-            add_fault(text, fault)
-        }
-        VehicleError::ClusterTwice { node, name } => add_twice(text, node, name),
-        VehicleError::OutOfMemory => Err(AllocError),
-    }
-}
-
 fn refused_vehicle(alloc: Global, fault: VehicleError) -> Result<Output, AllocError>
-    ensures { IfOk result (λ o. IsOutput (refused_output (vehicle_refusal fault))
+    ensures { IfOk result (λ o. IsOutput (refused_output (fault_text fault))
         o.status o.bytes.items) }
 {
-    let mut text = String::from_str(alloc, "refused ")?;
-    add_vehicle_fault(&mut text, fault)?;
-    write!(text, "\n")?;
+    let mut text = String::new(alloc);
+    write!(text, "refused {fault}\n")?;
     Ok(refused(text))
 }
 
@@ -109,9 +83,8 @@ fn add_step(text: &mut String, node: NodeId, manifest: &Manifest) -> Result<(), 
     ensures { OnOk result
         (string_bytes text.new ≡ string_bytes text.old ++ step_line node manifest.now) }
 {
-    let node = node.number();
     let name = manifest.name;
     let version = manifest.version.text();
-    let action = word_of(manifest.action);
+    let action = manifest.action;
     write!(text, "step {node} {name} {version} {action}\n")
 }
