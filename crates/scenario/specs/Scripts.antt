@@ -84,9 +84,9 @@ attach_added above name len =
 -- what is known below a line, unless it stands twice or passes a limit
 abbrev pub added : ℕ → Above → ScriptLine → Result Above Why
 added n above (Time t) = time_added above t
-added n above (Installed c) = installed_added above c
-added n above (Happens e) = Ok (record above { events = above.events ++ record { line = n; event = e } ∷ [] })
-added n above (Fails name) = Ok (record above { fails = above.fails ++ name ∷ [] })
+added n above (Installed node c) = installed_added above c
+added n above (Happens e) = Ok (record above { events = above.events ++ record { line = n; event = e.event } ∷ [] })
+added n above (Fails node name) = Ok (record above { fails = above.fails ++ name ∷ [] })
 added n above (Attach name len) = attach_added above name len
 
 -- what is known below a line that isn't `end`

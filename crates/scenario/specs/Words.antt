@@ -5,12 +5,14 @@ use Rattle.ucm_base.specs.declared.ids.CallNo.{CallNo}
 use Rattle.ucm_base.specs.declared.parts.Action.{Action}
 use Rattle.ucm_base.specs.declared.parts.Action.TheVariants.{Install, Update, Remove}
 use Rattle.ucm_base.specs.declared.parts.Need.{Need}
-use Rattle.ucm_base.specs.Limits.{client_limit}
+use Rattle.ucm_base.specs.Limits.{client_limit, node_limit}
 use Rattle.ucm_base.specs.Name.{is_cluster_name}
 use Rattle.ucm_base.specs.Versions.{is_version_text, is_req_text}
 use Rattle.ucm_text.specs.Decimal.{number_of_word}
 use Rattle.scenario.specs.declared.why.Why.{Why}
 use Rattle.scenario.specs.declared.why.Why.TheVariants.{Value}
+use Rattle.scenario.specs.declared.words.Reach.{Reach}
+use Rattle.scenario.specs.declared.words.Reach.TheVariants.{OneNode, Vehicle}
 use Rattle.scenario.specs.Readings.{◌>>=◌, given}
 
 -- what stands before the first such byte, and what stands behind it
@@ -32,12 +34,27 @@ small_in word = number_in word >>= λ n. given (nat_lt n (2 ^ 32)) n Value
 abbrev pub from_one_in : List ℕ → Result ℕ Why
 from_one_in word = number_in word >>= λ n. given (nat_le 1 n) n Value
 
--- the node is 1
-abbrev pub node_in : List ℕ → Result ℕ Why
-node_in word = given (bytes_eq word (codes "1")) 1 Value
+-- the last node that a script may name
+abbrev pub last_node : Reach → ℕ
+last_node OneNode = 1
+last_node Vehicle = node_limit
 
-abbrev pub client_in : List ℕ → Result ℕ Why
-client_in word = number_in word >>= λ n. given (nat_lt n client_limit) n Value
+-- the first client that it may name
+abbrev pub first_client : Reach → ℕ
+first_client OneNode = 0
+first_client Vehicle = 1
+
+abbrev pub node_in : Reach → List ℕ → Result ℕ Why
+node_in reach word = do
+  n ← number_in word
+  near ← given (nat_le n (last_node reach)) n Value
+  given (nat_le 1 near && nat_le near node_limit) near Value
+
+abbrev pub client_in : Reach → List ℕ → Result ℕ Why
+client_in reach word = do
+  n ← number_in word
+  near ← given (nat_le (first_client reach) n) n Value
+  given (nat_lt near client_limit) near Value
 
 abbrev pub name_in : List ℕ → Result (List ℕ) Why
 name_in word = given (is_cluster_name word) word Value

@@ -9,7 +9,7 @@ use crate::why::{Why, WordError};
 use crate::words::{number, small};
 use pm_types::{Call, Query};
 use std::alloc::{AllocError, Global};
-use ucm_base::{CallNo, ClientId};
+use ucm_base::{CallNo, ClientId, NodeId};
 
 /// A call as its words give it, with its block's bytes not spelled out yet.
 #[derive(Drop)]
@@ -57,6 +57,13 @@ pub enum Event {
         client: ClientId,
         query: Query,
     },
+}
+
+/// What a client does on a node.
+#[derive(Drop)]
+pub struct NodeEvent {
+    pub node: NodeId,
+    pub event: Event,
 }
 
 /// What a client does at a line.

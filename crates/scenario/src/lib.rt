@@ -14,9 +14,12 @@ mod script;
 mod why;
 mod words;
 
+pub use attachments::{Attached, Attachments};
 pub use blocks::{BlockSource, plain_block};
-pub use events::{Event, EventLine, ScriptCall, call_of};
-pub use lines::Installed;
-pub use script::{Command, Script, read_script};
+pub use events::{Event, EventLine, NodeEvent, ScriptCall, call_of};
+pub use lines::{Installed, ScriptLine, is_event_word, read_event, read_shared};
+pub use script::{Command, Script, WORD_LIMIT, first_words, is_last, is_passed, read_script};
 pub use why::{ScriptError, Why, WordError};
-pub use words::{action, first_piece, name, need, needs, number, small, version};
+pub use words::{
+    Reach, action, cut, first_piece, from_one, name, need, needs, node, number, small, version,
+};

@@ -15,7 +15,7 @@ use ucm_base::limits::{CLUSTER_LIMIT, INPUT_LIMIT, NEED_LIMIT, PACKAGE_LIMIT};
 use ucm_base::{ClusterName, Rows};
 
 /// One more than the words of the longest line, which installs a cluster with all its needs.
-const WORD_LIMIT: usize = NEED_LIMIT as usize + 6;
+pub const WORD_LIMIT: usize = NEED_LIMIT as usize + 6;
 
 /// The command that a script is for.
 #[derive(Clone, Copy, Debug, PartialEq, Eq)]
@@ -150,15 +150,15 @@ impl Above {
     {
         match line {
             ScriptLine::Time(n) => self.add_time(n),
-            ScriptLine::Installed(cluster) => self.add_installed(cluster),
-            ScriptLine::Happens(event) => {
+            ScriptLine::Installed { cluster, .. } => self.add_installed(cluster),
+            ScriptLine::Happens(done) => {
                 self.events.push(EventLine {
                     line: number,
-                    event,
+                    event: done.event,
                 })?;
                 Ok(())
             }
-            ScriptLine::Fails(name) => {
+            ScriptLine::Fails { name, .. } => {
                 self.fails.push(name)?;
                 Ok(())
             }
@@ -207,7 +207,7 @@ fn fault_at(number: u64, fault: WordError) -> ScriptError
 }
 
 /// Whether a line is empty or begins with `#`.
-fn is_passed(line: &[u8]) -> bool
+pub fn is_passed(line: &[u8]) -> bool
     ensures { result ≡ is_passed_over line.now }
 {
     match line {
@@ -217,7 +217,11 @@ fn is_passed(line: &[u8]) -> bool
 }
 
 /// The first words of a line, at most this many.
-fn first_words<'a>(words: &mut Vec<&'a [u8]>, line: &'a [u8], most: usize) -> Result<(), AllocError>
+pub fn first_words<'a>(
+    words: &mut Vec<&'a [u8]>,
+    line: &'a [u8],
+    most: usize,
+) -> Result<(), AllocError>
     ensures { OnOk result (map (λ w. w.now) words.new.items ≡ take most (words_of line.now)) }
 {
     words.clear();
@@ -263,7 +267,7 @@ fn take_in<'a>(
 }
 
 /// Whether a line is `end`.
-fn is_last(line: &[u8]) -> bool
+pub fn is_last(line: &[u8]) -> bool
     ensures { result ≡ is_end line.now }
 {
     matches!(line, [b'e', b'n', b'd'])

@@ -1,16 +1,48 @@
 //! What single words say. Whatever reads scripts or recipes shares these readers.
-ghost use Rattle.std.specs.Prelude.{◌≡◌, ◌==◌, ◌<◌, ◌≤◌, ◌+◌, ◌∷◌, [], length, map, option_map, position, IfSome, Ok, Err};
+ghost use Rattle.std.specs.Prelude.{◌≡◌, ◌==◌, ◌<◌, ◌≤◌, ◌+◌, ◌∷◌, [], length, map, option_map, position, IfOk, IfSome, Ok, Err};
 ghost use Rattle.ucm_base.specs.Limits.{need_limit};
 ghost use Rattle.scenario.specs.Readings.{IsRead};
-ghost use Rattle.scenario.specs.Words.{action_in, byte_in, call_no_in, client_in, cut, digit_value, from_one_in, name_in, need_in, needs_in, node_in, number_in, req_in, small_in, version_in};
+ghost use Rattle.scenario.specs.Words.{action_in, byte_in, call_no_in, client_in, cut, digit_value, first_client, from_one_in, last_node, name_in, need_in, needs_in, node_in, number_in, req_in, small_in, version_in};
 ghost use Rattle.scenario.specs.Scripts.{pieces, pieces_left, size_left, text_left};
 
 use crate::why::{Why, WordError};
 use std::alloc::Global;
+use ucm_base::limits::NODE_LIMIT;
 use ucm_base::{
-    Action, CallNo, ClientId, ClusterName, Need, Needs, ReqText, TextError, VersionText,
+    Action, CallNo, ClientId, ClusterName, Need, Needs, NodeId, ReqText, TextError, VersionText,
 };
 use ucm_text::number_of;
+
+/// The nodes and clients that the lines of a script may name.
+#[derive(Clone, Copy, Debug, PartialEq, Eq)]
+pub enum Reach {
+    /// Node 1, and clients 0 to 31.
+    OneNode,
+    /// Nodes 1 to 8, and clients 1 to 31, beside whom client 0 is the master.
+    Vehicle,
+}
+
+impl Reach {
+    /// The last node.
+    fn last_node(self) -> u64
+        ensures { result ≡ last_node self }
+    {
+        match self {
+            Reach::OneNode => 1,
+            Reach::Vehicle => NODE_LIMIT,
+        }
+    }
+
+    /// The first client.
+    fn first_client(self) -> u64
+        ensures { result ≡ first_client self }
+    {
+        match self {
+            Reach::OneNode => 0,
+            Reach::Vehicle => 1,
+        }
+    }
+}
 
 /// The place of the first such byte.
 fn place_of(text: &[u8], at: u8) -> Option<usize>
@@ -22,7 +54,7 @@ fn place_of(text: &[u8], at: u8) -> Option<usize>
 
 /// What stands before the first such byte, and what stands behind it, if it is there.
 #[tactic(auto, unfolding(crate::specs::Words::cut))]
-pub(crate) fn cut(text: &[u8], at: u8) -> Option<(&[u8], &[u8])>
+pub fn cut(text: &[u8], at: u8) -> Option<(&[u8], &[u8])>
     ensures { option_map (λ parts. (parts.0.now, parts.1.now)) result ≡ cut at text.now }
 {
     let place = place_of(text, at)?;
@@ -59,29 +91,33 @@ pub fn small(word: &[u8]) -> Result<u32, Why>
 }
 
 /// A number from 1 on.
-pub(crate) fn from_one(word: &[u8]) -> Result<u64, Why>
-    ensures { result ≡ from_one_in word.now }
+pub fn from_one(word: &[u8]) -> Result<u64, Why>
+    ensures read { result ≡ from_one_in word.now }
+    ensures least { IfOk result (λ n. 1 ≤ n) }
 {
     let n = number(word)?;
     if n >= 1 { Ok(n) } else { Err(Why::Value) }
 }
 
-/// The node, which is 1.
-pub(crate) fn node(word: &[u8]) -> Result<u8, Why>
-    ensures { result ≡ node_in word.now }
-{
-    if word == b"1".as_slice() {
-        Ok(1)
-    } else {
-        Err(Why::Value)
-    }
-}
-
-/// A client, from 0 to 31.
-pub(crate) fn client(word: &[u8]) -> Result<ClientId, Why>
-    ensures { result ≡ client_in word.now }
+/// A node that the script may name.
+pub fn node(reach: Reach, word: &[u8]) -> Result<NodeId, Why>
+    ensures { result ≡ node_in reach word.now }
 {
     let n = number(word)?;
+    if n > reach.last_node() {
+        return Err(Why::Value);
+    }
+    NodeId::of(n).ok_or(Why::Value)
+}
+
+/// A client that the script may name.
+pub(crate) fn client(reach: Reach, word: &[u8]) -> Result<ClientId, Why>
+    ensures { result ≡ client_in reach word.now }
+{
+    let n = number(word)?;
+    if n < reach.first_client() {
+        return Err(Why::Value);
+    }
     ClientId::of(n).ok_or(Why::Value)
 }
 

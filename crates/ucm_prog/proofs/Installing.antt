@@ -100,9 +100,9 @@ attached-allowed above name len None h = tt
 added-allowed : (n : ℕ) (above : Above) (line : ScriptLine) → IsAllowed above.installed → Allows (added n above line)
 added-allowed n above (Time t) h = either-line (is_none above.time) (Ok (record above { time = Some t }))
     (Err Twice) h tt
-added-allowed n above (Installs c) h = installed-allowed above c _ _ refl refl h
+added-allowed n above (Installs node c) h = installed-allowed above c _ _ refl refl h
 added-allowed n above (Happens e) h = h
-added-allowed n above (Fails name) h = h
+added-allowed n above (Fails node name) h = h
 added-allowed n above (Attach name len) h = either-line (is_some (attached_by above.attachments name)) (Err Twice)
     (attached_to above name len (attached_with above.attached len)) tt
     (attached-allowed above name len (attached_with above.attached len) h)
