@@ -1,0 +1,6 @@
+pub mod Words
+pub mod RunLines
+pub mod InForm
+pub mod Taken
+pub mod Above
+pub mod Scripts

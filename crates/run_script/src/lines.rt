@@ -1,0 +1,97 @@
+//! What the lines of a script say, each with its number, from 1.
+
+use campaign_core::Phase;
+use disk_core::FailKind;
+use scenario::{Event, Installed};
+use ucm_base::{ClusterName, NodeId, Rows};
+
+/// After which record the campaign is cancelled.
+#[derive(Clone, Copy)]
+pub enum Point {
+    /// The campaign's begin.
+    Syncing,
+    InPhase(Phase),
+    /// The last vote of the activate round.
+    Voted,
+    Decided,
+}
+
+/// A cluster that a node is formatted with.
+#[derive(Drop)]
+pub struct InstalledLine {
+    pub line: u64,
+    pub node: NodeId,
+    pub cluster: Installed,
+}
+
+/// A cluster whose verdict fails on a node.
+#[derive(Clone, Copy)]
+pub struct FailsLine {
+    pub line: u64,
+    pub node: NodeId,
+    pub name: ClusterName,
+}
+
+/// What a client does, in the setup or beside the campaign.
+#[derive(Drop)]
+pub struct ClientLine {
+    pub line: u64,
+    pub is_setup: bool,
+    pub node: NodeId,
+    pub event: Event,
+}
+
+/// Power stops at a write of a disk, of which so many bytes stay. Writes count from 1 since the disk was formatted.
+#[derive(Clone, Copy)]
+pub struct StopLine {
+    pub line: u64,
+    /// 0 is the master's disk, n that of node n.
+    pub disk: u8,
+    pub write: u64,
+    pub keep: u64,
+}
+
+/// Calls of a disk that fail: those of a kind from the first to the last of these numbers, which count from 1 since the
+/// disk was formatted.
+#[derive(Clone, Copy)]
+pub struct FaultLine {
+    pub line: u64,
+    pub disk: u8,
+    pub kind: FailKind,
+    pub first: u64,
+    pub last: u64,
+}
+
+/// What becomes of the attempts at a node from the first to the last of these numbers, which count from 1.
+#[derive(Clone, Copy)]
+pub struct FateLine {
+    pub line: u64,
+    pub node: NodeId,
+    pub first: u64,
+    pub last: u64,
+    pub fate: Fate,
+}
+
+/// The lines of each kind, in order.
+#[derive(Drop)]
+pub struct Lines {
+    pub time: Option<u64>,
+    pub cancel: Option<Point>,
+    pub installed: Rows<InstalledLine>,
+    pub fails: Rows<FailsLine>,
+    pub clients: Rows<ClientLine>,
+    pub stops: Rows<StopLine>,
+    pub faults: Rows<FaultLine>,
+    pub fates: Rows<FateLine>,
+}
+
+/// What a link makes of one attempt. Where nothing is said of when a message comes again, that is at the end.
+#[derive(Clone, Copy, Debug, PartialEq, Eq)]
+pub enum Fate {
+    Deliver,
+    Lost,
+    Unanswered,
+    Twice,
+    Late { after: Option<u64> },
+    Delayed { after: Option<u64> },
+}
