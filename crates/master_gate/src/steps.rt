@@ -100,9 +100,10 @@ impl<D: Disk> SharedLog<D> {
                 AddAnswer::Added
             }
             AddAnswer::Refused(refusal) => AddAnswer::Refused(refusal),
-            AddAnswer::NoReply { .. } => AddAnswer::NoReply {
-                faults: self.log.rise(before),
-            },
+            AddAnswer::NoReply { .. } => {
+                let faults = self.log.rise(before);
+                AddAnswer::NoReply { faults }
+            }
             AddAnswer::OutOfMemory => AddAnswer::OutOfMemory,
         }
     }
