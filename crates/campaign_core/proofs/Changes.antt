@@ -131,7 +131,8 @@ changes f CancelAsked placed may same =
 changes f (Decide d) placed may same =
     in_it f.current (Decide d) placed may (λ c has. decision c has d) (current_same (after_event f (Decide d)) f same)
 changes f (EndedAt n o) placed may same =
-    in_it f.current (EndedAt n o) placed may (λ c has. end c has n o) (current_same (after_event f (EndedAt n o)) f same)
+    in_it f.current (EndedAt n o) placed may (λ c has. end c has n o) (current_same (after_event f (EndedAt n o)) f
+    same)
 changes f (Enter r) placed may same = ended_now f.current r may (current_same (after_event f (Enter r)) f same)
 
 -- and each node keeps its place

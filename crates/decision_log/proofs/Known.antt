@@ -70,7 +70,8 @@ doubt_is log fold e seen images image known now =
     (either fold_of after_record log (of_event after_record fold (event_spelled e)) image (known.stand.2 image now))
 
 -- an event whose record is in doubt is pending
-pub doubt_known : (log : Log) (old new present : Fold) (e : MasterEvent) (bytes seen : List ℕ) (images : List ℕ → Type 0)
+pub doubt_known : (log : Log) (old new present : Fold) (e : MasterEvent) (bytes seen : List ℕ)
+    (images : List ℕ → Type 0)
     → layout_of log.half ≡ layout_of 0 → IsWithin old → refusal_of old e ≡ None → EventFits e → bytes ≡ event_spelled e
     → new ≡ old → present ≡ old
     → EachImage images (InDoubt fold_of after_record log (of_event after_record present bytes))
@@ -88,7 +89,8 @@ doubt_known log old new present e bytes seen images pair within may fits spelled
     })
 
 -- and one whose record stands has made the fold after it
-pub added_known : (log : Log) (old new present : Fold) (e : MasterEvent) (bytes seen : List ℕ) (images : List ℕ → Type 0)
+pub added_known : (log : Log) (old new present : Fold) (e : MasterEvent) (bytes seen : List ℕ)
+    (images : List ℕ → Type 0)
     → layout_of log.half ≡ layout_of 0 → IsWithin old → refusal_of old e ≡ None → EventFits e → bytes ≡ event_spelled e
     → new ≡ after_event old e → present ≡ old
     → EachImage images (Holds fold_of after_record log (after_record present bytes)) → Only seen images

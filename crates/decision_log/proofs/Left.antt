@@ -25,7 +25,8 @@ use Rattle.decision_log.specs.Left.{IsLeft, MayOpen, is_event, records_of}
 use Rattle.decision_log.proofs.Records.{all_events}
 
 -- cut by the grammar the records are all that the half has
-pub cut_is_whole : (half : ℕ) (text image : List ℕ) → IsLeft half text image → records_of half image ≡ events_of half image
+pub cut_is_whole : (half : ℕ) (text image : List ℕ) → IsLeft half text image → records_of half image ≡ events_of half
+    image
 cut_is_whole half text image left = whole is_event (window (journal_area half) image) left.shut
 
 goes_on_left : (half : ℕ) (text image : List ℕ) → IsLeft half text image
@@ -56,7 +57,8 @@ left_by image half body may is =
 pub left_means : (half : ℕ) (text image : List ℕ) (left : IsLeft half text image)
     → state_of fold_of after_record text (events_of half image) ≡ Some left.now
 left_means half text image left =
-    ap (λ (rs : List (List ℕ)). state_of fold_of after_record text rs) (sym (cut_is_whole half text image left)) ∙ left.legal
+    ap (λ (rs : List (List ℕ)). state_of fold_of after_record text rs) (sym (cut_is_whole half text image left))
+    ∙ left.legal
 
 -- and an image that stands for a fold may be opened
 opens_by : (o : Option (ℕ × Body)) (image : List ℕ) (f : Fold) → IsWithin f
@@ -110,7 +112,8 @@ module _ (log : Log) (text read_text : List ℕ) (records read_records : List (L
     (may : MayOpen image) (is : IsFound fold_of (layout_of 0) log text records image)
     (same_text : read_text ≡ text) (same_records : read_records ≡ records) where
   means : state_of fold_of after_record read_text read_records ≡ Some (found_left image log text records may is).now
-  means = (λ i. state_of fold_of after_record (same_text i) (same_records i)) ∙ found_means image log text records may is
+  means =
+      (λ i. state_of fold_of after_record (same_text i) (same_records i)) ∙ found_means image log text records may is
 
   pub open_known : (fold : Fold) (images : List ℕ → Type 0)
       → EachImage images (Holds fold_of after_record log (state_of fold_of after_record text records))

@@ -138,8 +138,8 @@ impl<D: Disk> MasterLog<D> {
             (self.new.log ≡ behind (switched self.old.log) (length (event_spelled event.now))) }
         ensures here_failed { Fits self.old.log (length (event_spelled event.now))
             → OnErr result (self.new.log ≡ self.old.log) }
-        ensures beyond_failed { HasNoRoom self.old.log (length (event_spelled event.now)) → OnErr result
-            ((self.new.log ≡ self.old.log) ⊎ (self.new.log ≡ switched self.old.log)) }
+        ensures beyond_failed { HasNoRoom self.old.log (length (event_spelled event.now))
+            → OnErr result ((self.new.log ≡ self.old.log) ⊎ (self.new.log ≡ switched self.old.log)) }
         ensures switching { IsErrOf result StoreError.Failed
             → HasNoRoom self.old.log (length (event_spelled event.now))
             → self.new.log ≡ self.old.log → EachImage (D.images self.new.disk)
@@ -223,7 +223,8 @@ impl<D: Disk> MasterLog<D> {
         ensures known { OnOk result (IsKnown self.new.log self.new.campaign.fold None
             (D.seen self.new.disk) (D.images self.new.disk)) }
         ensures same { OnErr result (self.new.campaign.fold ≡ self.old.campaign.fold) }
-        ensures in_doubt { OnErr result (IsKnown self.new.log self.new.campaign.fold (Some event.now)
+        ensures in_doubt { OnErr result
+            (IsKnown self.new.log self.new.campaign.fold (Some event.now)
             (D.seen self.new.disk) (D.images self.new.disk)) }
         ensures any_moment { LeavesOnly D.moment D.left_since self.old.disk self.new.disk
             (IsBeforeOrAfter self.old.campaign.fold event.now) }

@@ -42,13 +42,25 @@ flat_short : {T : Type 0} (s : T → List ℕ) (n : ℕ) (xs : List T) → ((x :
     → length (flat_map s xs) ≤ n * length xs
 flat_short s n [] short = omega arith
 flat_short s n (x ∷ xs) short =
-    omega (arith, ap length (flat_map-cons s x xs), length-append (s x) (flat_map s xs), short x, flat_short s n xs short)
+    omega (
+      arith,
+      ap length (flat_map-cons s x xs),
+      length-append (s x) (flat_map s xs),
+      short x,
+      flat_short s n xs short,
+    )
 
 all_short : {T : Type 0} (s : T → List ℕ) (P : T → Type 0) (n : ℕ) (xs : List T) → AllByRecursion P xs
     → ((x : T) → P x → length (s x) ≤ n) → length (flat_map s xs) ≤ n * length xs
 all_short s P n [] all short = omega arith
 all_short s P n (x ∷ xs) all short =
-    omega (arith, ap length (flat_map-cons s x xs), length-append (s x) (flat_map s xs), short x all.0, all_short s P n xs all.1 short)
+    omega (
+      arith,
+      ap length (flat_map-cons s x xs),
+      length-append (s x) (flat_map s xs),
+      short x all.0,
+      all_short s P n xs all.1 short,
+    )
 
 refusal_short : (r : Refusal) → RefusalFits r → length (refusal_spelled r) ≤ 132
 refusal_short (MissingDependencies a b c) f = omega (

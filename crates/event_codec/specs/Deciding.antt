@@ -51,7 +51,11 @@ pub test_same : (a b : ℕ) → Tested (a ≡ b)
 test_same a b = elim (eqb_tells a b) [ inl same ↦ inl same.1 | inr other ↦ inr other.1 ]
 
 pub test_below : (a b : ℕ) → Tested (a < b)
-test_below a b = elim (leb_tells (suc a) b) [ inl below ↦ inl (omega (arith, below.1)) | inr above ↦ inr (λ lt. omega (arith, lt, above.1)) ]
+test_below a b = elim (leb_tells (suc a) b) [
+  | inl below ↦ inl (omega (arith, below.1))
+  | inr above ↦ inr
+      (λ lt. omega (arith, lt, above.1))
+]
 
 pub test_at_most : (a b : ℕ) → Tested (a ≤ b)
 test_at_most a b = elim (leb_tells a b) [ inl below ↦ inl below.1 | inr above ↦ inr (λ le. omega (arith, le, above.1)) ]
@@ -320,7 +324,8 @@ tells-tagged {s = s} tag tail is k below each (b ∷ bytes) = elim (test_below b
 ]
 
 -- one of these kinds: what stands behind its number makes the value
-pub by_kind : {A T : Type 0} {a : A → List ℕ} {Q : A → Type 0} {s : T → List ℕ} {P : T → Type 0} (n : ℕ) (bytes : List ℕ)
+pub by_kind : {A T : Type 0} {a : A → List ℕ} {Q : A → Type 0} {s : T → List ℕ} {P : T → Type 0} (n : ℕ)
+    (bytes : List ℕ)
     (make : A → T) → Told a Q bytes → ((x : A) → Q x → P (make x)) → ((x : A) → s (make x) ≡ n ∷ a x)
     → (IsOutside a Q bytes → IsOutside s P (n ∷ bytes)) → Told s P (n ∷ bytes)
 by_kind n bytes make (inl x) fits is outside = inl (record {

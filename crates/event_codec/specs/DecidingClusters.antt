@@ -91,7 +91,8 @@ test_several v fit = elim (test_at_most 2 (length v)) [ inl two ↦ inl (two, fi
 
 pub tells-several : Tells (list_spelled part_spelled) SeveralFit
 tells-several =
-    tells-narrow (unique-list part_limit unique-part) (λ v f. f.1) test_several (tells-list unique-part tells-part part_limit)
+    tells-narrow (unique-list part_limit unique-part) (λ v f. f.1) test_several
+    (tells-list unique-part tells-part part_limit)
 
 abbrev contents_number : List (Part ℕ) → ℕ
 contents_number [] = 0
@@ -119,7 +120,8 @@ module _ (bytes : List ℕ) where
   no_one out (p ∷ []) rest f e = out p rest f.1.0 (parted e).1
   no_one out (p ∷ q ∷ parts) rest f e = absurd (apart e refl)
 
-  no_several : IsOutside (list_spelled part_spelled) SeveralFit bytes → IsOutside contents_spelled ContentsFit (2 ∷ bytes)
+  no_several : IsOutside (list_spelled part_spelled) SeveralFit bytes → IsOutside contents_spelled ContentsFit
+      (2 ∷ bytes)
   no_several out [] rest f e = absurd (apart e refl)
   no_several out (p ∷ []) rest f e = absurd (apart e refl)
   no_several out (p ∷ q ∷ parts) rest f e = out (p ∷ q ∷ parts) rest (omega arith, f) (parted e).1

@@ -85,9 +85,12 @@ tells-refusal = tells-tagged refusal_code details_spelled (λ v. refl) 15 refusa
     each (suc (suc (suc (suc (suc (suc (suc (suc (suc (suc (suc zero))))))))))) lt bytes =
         by_kind {P = RefusalFits} 11 bytes (λ t. MissingDependencies t.0 t.1.0 t.1.1) (tells-three bytes) (λ x f. f)
         (λ x. refl) (missing_outside bytes)
-    each (suc (suc (suc (suc (suc (suc (suc (suc (suc (suc (suc (suc zero)))))))))))) lt bytes = tells-bare ActionNotApplicable bytes tt refl
-    each (suc (suc (suc (suc (suc (suc (suc (suc (suc (suc (suc (suc (suc zero))))))))))))) lt bytes = tells-bare TooManyClusters bytes tt refl
-    each (suc (suc (suc (suc (suc (suc (suc (suc (suc (suc (suc (suc (suc (suc zero)))))))))))))) lt bytes = tells-bare ClusterAlreadyChanged bytes tt refl
+    each (suc (suc (suc (suc (suc (suc (suc (suc (suc (suc (suc (suc zero)))))))))))) lt bytes =
+        tells-bare ActionNotApplicable bytes tt refl
+    each (suc (suc (suc (suc (suc (suc (suc (suc (suc (suc (suc (suc (suc zero))))))))))))) lt bytes =
+        tells-bare TooManyClusters bytes tt refl
+    each (suc (suc (suc (suc (suc (suc (suc (suc (suc (suc (suc (suc (suc (suc zero)))))))))))))) lt bytes =
+        tells-bare ClusterAlreadyChanged bytes tt refl
     each (suc (suc (suc (suc (suc (suc (suc (suc (suc (suc (suc (suc (suc (suc (suc n)))))))))))))))
         lt bytes = absurd (omega (arith, lt))
 

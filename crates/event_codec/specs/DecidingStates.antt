@@ -113,7 +113,8 @@ happened_below (Numbered c n call r) = omega arith
 happened_below (UnitAfter s) = omega arith
 
 module _ (bytes : List ℕ) where
-  no_numbered : IsOutside (pair_spelled u8_field (pair_spelled call_no_spelled (pair_spelled call_name_spelled u8_field)))
+  no_numbered : IsOutside (pair_spelled u8_field (pair_spelled call_no_spelled
+      (pair_spelled call_name_spelled u8_field)))
       (PairFits IsClient (PairFits CallNoFits (PairFits Any (HasBits 8)))) bytes
       → IsOutside happened_spelled HappenedFits (0 ∷ bytes)
   no_numbered out (Numbered c n call r) rest f e = out (c, (n, (call, r))) rest f (parted e).1

@@ -2,8 +2,8 @@
 //!
 //! Layer: stands on `pm_types`, `campaign_core`, `manifest` and `wire`; the stores of a node and of the master stand on
 //! it, and its rows are in `log_tries`.
-//! Its one contract: a put appends the spelling of a value, or a list of its own has it, a take gives the value that bytes
-//! are the spelling of and none exactly where they are no value's, and no two values have one spelling.
+//! Its one contract: a put appends the spelling of a value, or a list of its own has it, a take gives the value that
+//! bytes are the spelling of and none exactly where they are no value's, and no two values have one spelling.
 #![tactic(auto)]
 
 mod calls;

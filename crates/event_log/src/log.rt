@@ -67,7 +67,8 @@ impl Log {
             → OnOk result (self.new ≡ behind self.old (length event.now)) }
         ensures beyond { HasNoRoom self.old (length event.now)
             → OnOk result (self.new ≡ behind (switched self.old) (length event.now)) }
-        ensures here_failed { Fits self.old (length event.now) → OnErr result (self.new ≡ self.old) }
+        ensures here_failed { Fits self.old (length event.now)
+            → OnErr result (self.new ≡ self.old) }
         ensures beyond_failed { HasNoRoom self.old (length event.now)
             → OnErr result ((self.new ≡ self.old) ⊎ (self.new ≡ switched self.old)) }
         ensures memory { IsErrOf result StoreError.OutOfMemory

@@ -1,7 +1,7 @@
 //! The script of a number: a campaign that brings sixteen packages to eight nodes.
 //!
-//! Layer: stands on `vehicle_package`, `package_reader`, `manifest` and `ucm_base`, and on the kit's `sha2`; the program
-//! stands on it.
+//! Layer: stands on `vehicle_package`, `package_reader`, `manifest` and `ucm_base`, and on the kit's `sha2`; the
+//! program stands on it.
 //! Its one contract: `demo_script` gives exactly the campaign and the vehicle of its number.
 #![tactic(auto)]
 

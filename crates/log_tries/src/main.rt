@@ -1,6 +1,6 @@
-//! Rows over bytes of records, states, events and folds, and over a master's list on a disk in memory: what it answers, and
-//! what it is revived to where an add is stopped, or fails, at one of its calls. It prints what each gave, and `stdout` is
-//! the table of what must be given. Standard input has the rows of bytes.
+//! Rows over bytes of records, states, events and folds, and over a master's list on a disk in memory: what it answers,
+//! and what it is revived to where an add is stopped, or fails, at one of its calls. It prints what each gave, and
+//! `stdout` is the table of what must be given. Standard input has the rows of bytes.
 //!
 //! Layer: at the top of the disks and codecs; nothing stands on it.
 #![tactic(auto)]

@@ -13,8 +13,8 @@ use ucm_base::NodeId;
 /// More bytes than a write of an event has.
 const ALL: u64 = 1_000;
 
-/// An event makes two writes and two syncs: its body, which never decides, and its gate, a byte, which does. So an event
-/// whose gate is kept stood, and is refused where it is added again.
+/// An event makes two writes and two syncs: its body, which never decides, and its gate, a byte, which does. So an
+/// event whose gate is kept stood, and is refused where it is added again.
 pub fn print<R: Print + AllocGlobal + Threads + Wait + Sync>(rt: &R) -> io::Result<()> {
     let Some(node) = NodeId::of(1) else {
         return println!(rt; "no node");

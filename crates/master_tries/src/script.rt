@@ -11,8 +11,8 @@ const FIRST: NodeSet = NodeSet {
     flags: [true, false, false, false, false, false, false, false],
 };
 
-/// A campaign of one node that is successful, a restart, and the next one, which is to be cancelled. Each is allowed behind
-/// those before it, and not again behind itself.
+/// A campaign of one node that is successful, a restart, and the next one, which is to be cancelled. Each is allowed
+/// behind those before it, and not again behind itself.
 pub fn of_one(node: NodeId) -> [MasterEvent; 12] {
     let named = FIRST;
     let vote = Vote::Yes;

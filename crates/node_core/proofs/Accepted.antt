@@ -268,7 +268,8 @@ module _ {v w : Readied} (e : v ≡ w) (client : ℕ) (reply : Reply) (table : T
       → with_table table v.state ≡ accept (kept_by w) w.state client (TransferStart size)
   start-made size accepted replies tables =
       ap (λ t. with_table t v.state) (settled (Started v.state.next_id) reply _ old (with_fresh client size old) table
-      refl replies (ap (λ (r : Readied). first_refusal (start_refusals r.state.next_id (length r.state.transfers) size)) e
+      refl replies (ap (λ (r : Readied). first_refusal (start_refusals r.state.next_id (length r.state.transfers) size))
+      e
       ∙ sym (start-refused (over accepted.0 w) client size) ∙ accepted.3) tables)
       ∙ ap (λ r. accept (kept_by r) r.state client (TransferStart size)) e
 

@@ -111,7 +111,8 @@ module _ (v : Holding) (sound : IsSound v) (client id tag : ℕ) (u : StoredTran
       (phased-means v sound client id u e BeingProcessed was-whole refl)
       ∙ ap (λ o. record (begin_processing (node_of v) client id tag) { session = Some o }) (go v.state.session)
     where
-      go : (o : Option (SessionOf Extent)) → session_meaning v.areas (record (takes_up o) { processing = Some id; units_done = 0 })
+      go : (o : Option (SessionOf Extent)) → session_meaning v.areas (record (takes_up o)
+          { processing = Some id; units_done = 0 })
           ≡ record (unwrap_or (option_map (session_meaning v.areas) o)
           (new_session (node_of v) client tag)) { processing = Some id; units_done = 0 }
       go o = grind arith
@@ -128,7 +129,8 @@ module _ (v : Holding) (sound : IsSound v) (client id tag : ℕ) (u : StoredTran
         transfers = phased-placed v sound client id u e BeingProcessed was-whole refl;
         slots = phased-slots v sound client id u e BeingProcessed was-whole refl;
         places = fit-twice (map cluster_place v.state.running) i.places;
-        running = subst (λ st. v.state.running ≡ should_run (record (new_session v.state client tag) { processing = Some id; units_done = 0 }) st None)
+        running = subst (λ st. v.state.running ≡ should_run (record (new_session v.state client tag)
+            { processing = Some id; units_done = 0 }) st None)
             (sym idle) refl;
       }
         where
@@ -146,7 +148,8 @@ module _ (v : Holding) (sound : IsSound v) (client id tag : ℕ) (u : StoredTran
   begun-stands = record { node = begun-means; order = begun-order; copied = begun-copied }
 
 -- ProcessSwPackage
-pub process-stands : (v : Holding) (client id tag : ℕ) → IsSound v → refusal_by v client (ProcessSwPackage id tag) ≡ None
+pub process-stands : (v : Holding) (client id tag : ℕ) → IsSound v → refusal_by v client (ProcessSwPackage id tag)
+    ≡ None
     → StandsFor v.areas (led_by (ProcessSwPackage id tag) (take_up (with_slots [] []) v.state client id tag))
     (led_by (ProcessSwPackage id tag) (begin_processing (node_of v) client id tag))
 process-stands v client id tag sound none =

@@ -18,23 +18,24 @@ use Rattle.node_core.proofs.Placing.{match-length}
 use Rattle.node_core.proofs.Sides.{AreApart, goes-apart, places-apart, same-extent, side-means, side-order}
 
 -- what copying a piece needs, leaves and makes ready
-pub record PieceNeeds (v : Holding) (slot came : ℕ) (changes : Option (List (Change Extent))) (piece : Piece) : Type 0 where
-  pub area : IsArea (side_of piece.to)
-  pub inside : piece.from + piece.len ≤ came
-  pub range : piece.from + piece.len ≤ length (content_of (Transfer slot) v.areas)
-  pub begin : piece.at ≤ length (content_of (side_of piece.to) v.areas)
-  pub fits : piece.at + piece.len ≤ package_limit
-  pub stands : AreasFit v.areas → piece.len ≢ 0 → (areas : Areas)
-      → LeavesOutside (side_of piece.to) piece.at piece.len v.areas areas → StandsFor areas v.state (node_of v)
-  pub ready : AreasFit v.areas → piece.len ≢ 0 → (new : Holding) → new.state ≡ v.state
-      → plan_kept new.prepared ≡ changes
-      → LeavesOutside (side_of piece.to) piece.at piece.len v.areas new.areas
-      → new.areas ≡ with_content (side_of piece.to) (overwritten piece.at
-      (slice_range (content_of (Transfer slot) v.areas) piece.from (piece.from + piece.len))
-      (content_of (side_of piece.to) v.areas)) v.areas
-      → IsReservedWork new
-  pub none : piece.len ≡ 0 → (new : Holding) → new.areas ≡ v.areas → new.state ≡ v.state
-      → plan_kept new.prepared ≡ changes → IsReservedWork new
+pub record PieceNeeds (v : Holding) (slot came : ℕ) (changes : Option (List (Change Extent))) (piece : Piece) : Type 0
+  where
+    pub area : IsArea (side_of piece.to)
+    pub inside : piece.from + piece.len ≤ came
+    pub range : piece.from + piece.len ≤ length (content_of (Transfer slot) v.areas)
+    pub begin : piece.at ≤ length (content_of (side_of piece.to) v.areas)
+    pub fits : piece.at + piece.len ≤ package_limit
+    pub stands : AreasFit v.areas → piece.len ≢ 0 → (areas : Areas)
+        → LeavesOutside (side_of piece.to) piece.at piece.len v.areas areas → StandsFor areas v.state (node_of v)
+    pub ready : AreasFit v.areas → piece.len ≢ 0 → (new : Holding) → new.state ≡ v.state
+        → plan_kept new.prepared ≡ changes
+        → LeavesOutside (side_of piece.to) piece.at piece.len v.areas new.areas
+        → new.areas ≡ with_content (side_of piece.to) (overwritten piece.at
+        (slice_range (content_of (Transfer slot) v.areas) piece.from (piece.from + piece.len))
+        (content_of (side_of piece.to) v.areas)) v.areas
+        → IsReservedWork new
+    pub none : piece.len ≡ 0 → (new : Holding) → new.areas ≡ v.areas → new.state ≡ v.state
+        → plan_kept new.prepared ≡ changes → IsReservedWork new
 
 -- what a next unit needs: its package lies in the slot, and there is a piece
 pub record Needs (v : Holding) (slot came done : ℕ) (extents : List Extent)
@@ -98,7 +99,8 @@ module _ (v : Holding) (x : SessionOf Extent) (id : ℕ) (sound : IsSound (at_pr
   -- its bytes are among those that came
   inside : piece.from + piece.len ≤ came
   inside =
-      let first = next-piece (take came slot) v.areas (parts_place (length goes)) x.units_done h.parts goes parts-in-front
+      let first = next-piece (take came slot) v.areas (parts_place (length goes)) x.units_done h.parts goes
+      parts-in-front
       (matches v x id sound h) (places-apart v x id sound h) copied-so-far h.unfinished in
       let same : first.piece ≡ piece = let z = sym first.is ∙ front-is ∙ next.is in cc in
       let range = first.range in

@@ -84,7 +84,8 @@ accept-entries k s client (Cancel id) = led-entries (put_back k s id) (Cancel id
 -- a number, a reply and a line change nothing that order looks at
 entered-stands : (areas : Areas) (s : State) (n : NodeState) (happened : Happened) (client : ℕ) (at : CallNo)
     (reply : Reply) → StandsFor areas s n
-    → StandsFor areas (with_entry happened (with_kept client at reply s)) (with_entry happened (with_kept client at reply n))
+    → StandsFor areas (with_entry happened (with_kept client at reply s))
+    (with_entry happened (with_kept client at reply n))
 entered-stands areas s n happened client at reply stands = record {
   node = ap (λ m. with_entry happened (with_kept client at reply m)) stands.node;
   order = record {
@@ -95,7 +96,8 @@ entered-stands areas s n happened client at reply stands = record {
     places = stands.order.places;
     running = stands.order.running;
   };
-  copied = copied-by areas s (with_entry happened (with_kept client at reply s)) refl refl refl s.transfers stands.copied;
+  copied =
+      copied-by areas s (with_entry happened (with_kept client at reply s)) refl refl refl s.transfers stands.copied;
 }
 
 pub line-stands : (areas : Areas) (s : State) (n : NodeState) (happened : Happened) → StandsFor areas s n

@@ -205,7 +205,8 @@ module _ {S : Type 0} (obeys : S → Step → S → Type 0) (cs rest all : List 
       subst (λ (k : ℕ × Bytes). obeys at (puts (Side k.0 0) 0 k.1 end) new) (λ i. (place-is i, same i)) obeyed
 
   -- it, or what follows, fails, with a fault where it met one
-  pub next-failed : (end : End) (fault : StagingError) → (let failed : End = Err fault in failed ≢ Err Failed → end ≢ Err Failed)
+  pub next-failed : (end : End) (fault : StagingError) → (let failed : End = Err fault in failed ≢ Err Failed → end ≢
+      Err Failed)
       → obeys at (puts (Side place 0) 0 bytes end) new → Formats obeys all (Err fault) old new
   next-failed end fault tells obeyed = record {
     steps = installs 0 cs ++ puts (Side (length cs) 0) 0 c.content end ∷ [];
@@ -226,7 +227,8 @@ module _ {S : Type 0} (obeys : S → Step → S → Type 0) (cs rest all : List 
   pub next-placed : (more : List (Cluster Extent)) → more ≡ stored ++ placed place c ∷ []
       → more ≡ placed_from 0 (cs ++ c ∷ [])
   next-placed more added =
-      added ∙ (λ i. is i ++ placed (place-is i) c ∷ []) ∙ ap (λ n. placed_from 0 cs ++ placed n c ∷ []) (sym (zero-add (length cs)))
+      added ∙ (λ i. is i ++ placed (place-is i) c ∷ []) ∙ ap (λ n. placed_from 0 cs ++ placed n c ∷ [])
+      (sym (zero-add (length cs)))
       ∙ sym (placed-append 0 cs c)
 
   -- and the areas hold one more

@@ -83,7 +83,8 @@ module _ (v : Holding) (sound : IsSound v) (client id : ℕ) (u : StoredTransfer
 pub session-refused : (v : Holding) (client : ℕ) (call : Call)
     → first_refusal (session_refusals (node_of v) client call) ≡ first_refusal (session_refusals v.state client call)
 session-refused v client call =
-    ap (λ b. first_refusal ((b, ServiceBusy) ∷ (is_none (status_table v.state.status call), OperationNotPermitted) ∷ []))
+    ap (λ b. first_refusal ((b, ServiceBusy) ∷ (is_none (status_table v.state.status call), OperationNotPermitted)
+    ∷ []))
     (go v.state.session)
   where
     go : (o : Option (SessionOf Extent)) → some_passes (λ (x : Session). not (x.owner == client))
@@ -117,7 +118,8 @@ module _ (v : Holding) (sound : IsSound v) (client id : ℕ) (u : StoredTransfer
       (phased-means v sound client id u e Transferred was-whole refl)
       ∙ ap (λ o. record (stop_processing (node_of v) id) { session = o }) (go v.state.session)
     where
-      go : (o : Option (SessionOf Extent)) → option_map (session_meaning v.areas) (option_map (λ (x : SessionOf Extent). record x { processing = None }) o)
+      go : (o : Option (SessionOf Extent)) → option_map (session_meaning v.areas)
+          (option_map (λ (x : SessionOf Extent). record x { processing = None }) o)
           ≡ option_map (λ (x : Session). record x { processing = None }) (option_map (session_meaning v.areas) o)
       go o = grind arith
 

@@ -285,7 +285,8 @@ piece-here content place left i xs d lt = ap (piece_of content place left) (drop
 
 -- a part whose units are all done is passed over
 pub piece-next : (content : Bytes) (place left i : ℕ) (xs : List Extent) (d : Extent) → i < length xs
-    → units_of (get_or xs i d).length ≤ left → (next rest : ℕ) → next ≡ payload_at content place + (get_or xs i d).length
+    → units_of (get_or xs i d).length ≤ left → (next rest : ℕ) → next ≡ payload_at content place
+    + (get_or xs i d).length
     → rest ≡ left - units_of (get_or xs i d).length
     → piece_of content next rest (drop (i + 1) xs) ≡ piece_of content place left (drop i xs)
 piece-next content place left i xs d lt done next rest is less =

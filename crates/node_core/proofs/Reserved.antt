@@ -271,7 +271,8 @@ module _ {S : Type 0} (obeys : S → Step → S → Type 0) (areas : S → Areas
     block-fits,
     λ held torn fit stand left.
         stand-on v held torn stand
-        (failed-stands (holding held s) (stand-sound v held Nothing sound stand) client id f e fit (length block) torn left),
+        (failed-stands (holding held s) (stand-sound v held Nothing sound stand) client id f e fit (length block) torn
+        left),
   )
 
   block-holds : (held : Areas) → AreasFit held → StandsFor held s (node_of v)
@@ -299,7 +300,8 @@ module _ {S : Type 0} (obeys : S → Step → S → Type 0) (areas : S → Areas
       (λ held. IsReady (holding held s) client (TransferData id counter block)) old new end area at block
       (λ end. tt)
       (λ end. (accepted, some-and _ _ f e (refl, refl, refl)))
-      block-spares writes put (failed-stands v sound client id f e fit (length block) (areas new) left) (λ ok. block-holds)
+      block-spares writes put (failed-stands v sound client id f e fit (length block) (areas new) left)
+      (λ ok. block-holds)
 
   -- and so does one that was put whole
   pub put-reserves : IsAccepted → AreasFit (areas old) → Writes obeys area at block (Ok tt) old new
@@ -307,7 +309,8 @@ module _ {S : Type 0} (obeys : S → Step → S → Type 0) (areas : S → Areas
       → Reserves obeys areas s (BringsNew s client (TransferData id counter block))
       (λ held. IsReady (holding held s) client (TransferData id counter block)) (Ok tt) old new
   put-reserves accepted fit writes put =
-      block-reserves accepted (Ok tt) fit writes (λ ok. put) (subst (LeavesOutside area at (length block) (areas old)) (sym put)
+      block-reserves accepted (Ok tt) fit writes (λ ok. put) (subst (LeavesOutside area at (length block) (areas old))
+      (sym put)
       (put-left v sound client id f e fit block))
 
 -- the bytes that came for a transfer are the same in areas that stand for the node
@@ -322,7 +325,8 @@ same-came v held client id t stand is = sym (came held) ∙ ap bytes-in stand.no
 
     came : (areas : Areas) → bytes-in (meaning package_reading areas v.state)
         ≡ take t.header.received (content_of (Transfer t.slot) areas)
-    came areas = ap (λ o. option_map_or (λ u. u.bytes) o []) (found-means package_reading areas client id v.state.transfers
+    came areas =
+        ap (λ o. option_map_or (λ u. u.bytes) o []) (found-means package_reading areas client id v.state.transfers
         ∙ ap (option_map (transfer_meaning package_reading areas)) is)
 
 -- bytes within those that came are the same
@@ -467,9 +471,11 @@ pub other-ready : (v : Holding) (client : ℕ) (call : Call)
     → ((id counter : ℕ) (block : Bytes) → call ≡ TransferData id counter block → ⊥)
     → ((id : ℕ) → call ≡ TransferExit id → ⊥) → ((id tag : ℕ) → call ≡ ProcessSwPackage id tag → ⊥)
     → (call ≡ Activate → ⊥) → IsReady v client call
-other-ready v client (TransferData id counter block) no_data no_exit no_package no_activation = absurd (no_data id counter block refl)
+other-ready v client (TransferData id counter block) no_data no_exit no_package no_activation =
+    absurd (no_data id counter block refl)
 other-ready v client (TransferExit id) no_data no_exit no_package no_activation = absurd (no_exit id refl)
-other-ready v client (ProcessSwPackage id tag) no_data no_exit no_package no_activation = absurd (no_package id tag refl)
+other-ready v client (ProcessSwPackage id tag) no_data no_exit no_package no_activation =
+    absurd (no_package id tag refl)
 other-ready v client Activate no_data no_exit no_package no_activation = absurd (no_activation refl)
 other-ready v client Sync no_data no_exit no_package no_activation = tt
 other-ready v client (TransferStart size) no_data no_exit no_package no_activation = tt

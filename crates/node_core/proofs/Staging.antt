@@ -162,7 +162,8 @@ module _ (v : Holding) (own : IsSound v) (client id : ℕ) (f : Found)
       ∙ slice-overwritten at block (content_of area v.areas) found-lies)))
 
   -- a verdict on the bytes that were got is ready
-  pub got-ready : (bytes : Bytes) (verdict : ExitVerdict) → bytes ≡ slice_range (content_of (Transfer f.slot) v.areas) 0 (0 + f.header.received)
+  pub got-ready : (bytes : Bytes) (verdict : ExitVerdict) → bytes ≡ slice_range (content_of (Transfer f.slot) v.areas) 0
+      (0 + f.header.received)
       → IsVerdict verdict (package_reading bytes)
       → IsReady (record v { prepared = Judged verdict }) client (TransferExit id)
   got-ready bytes verdict got judged none =

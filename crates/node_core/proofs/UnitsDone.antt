@@ -30,7 +30,8 @@ package-unit : (v : Holding) (x : SessionOf Extent) (id : ℕ) (passed : Bool) �
     → IsUnitReady Processing (at_process v x id) (busy x id)
     → IsUnit (at_process v x id) passed (process_stored (under (at_process v x id)) (busy x id) id)
 package-unit v x id passed sound ready =
-    subst (λ n. IsUnit (at_process v x id) passed (process (with_slots [] []) n plan (at_process v x id).state (busy x id) id))
+    subst (λ n. IsUnit (at_process v x id) passed (process (with_slots [] []) n plan (at_process v x id).state
+    (busy x id) id))
     (sym units) (go (nat_lt (x.units_done + 1) (all_units h.parts)) refl)
   where
     h : InHand v x id
@@ -44,7 +45,10 @@ package-unit v x id passed sound ready =
 
     go : (more : Bool) → nat_lt (x.units_done + 1) (all_units h.parts) ≡ more
         → IsUnit (at_process v x id) passed
-        (if more then record (at_process v x id).state { session = Some (record (busy x id) { units_done = x.units_done + 1 }) }
+        (if more then record (at_process v x id).state {
+          session = Some
+              (record (busy x id) { units_done = x.units_done + 1 });
+        }
         else processed_with v x id sound h plan)
     go true more = more-unit v x id v.prepared sound h passed ready more
     go false last =
@@ -113,7 +117,8 @@ pub done-is : (o : Option State) (after : Status) (n : State)
     → Some after ≡ option_map (λ (s : State). s.status) o → IfSome o (λ s. n ≡ s)
     → (o ≡ Some n) × (n.status ≡ after)
 done-is None after n e is = absurd (cc)
-done-is (Some s) after n e is = (ap Some (sym is), ap (λ (k : State). k.status) is ∙ (let same : s.status ≡ after = cc in same))
+done-is (Some s) after n e is =
+    (ap Some (sym is), ap (λ (k : State). k.status) is ∙ (let same : s.status ≡ after = cc in same))
 
 none-is : (o : Option State) → None ≡ option_map (λ (s : State). s.status) o → o ≡ None
 none-is None e = refl
@@ -124,7 +129,8 @@ pub unit-entries : (r : Readied) (passed : Bool) (n : State) → unit_stored r p
     → n.entries ≡ r.state.entries
 unit-entries r passed n e = go r.state.session e
   where
-    by : (x : SessionOf Extent) (status : Status) → work_on (kept_by r) (process_stored r x) r.state x passed status ≡ Some n
+    by : (x : SessionOf Extent) (status : Status) → work_on (kept_by r) (process_stored r x) r.state x passed status
+        ≡ Some n
         → n.entries ≡ r.state.entries
     by x status e = grind (arith, e)
 
@@ -147,14 +153,16 @@ module _ (v : Holding) (fails : List (List ℕ)) (sound : IsSound v) (ready : Is
   }
     where
       nothing : None ≡ unit (node_of v) passed
-      nothing = sym (subst (UnitIs v passed) (none-is (unit_stored (under v) passed) none) (unit-of v passed sound ready))
+      nothing =
+          sym (subst (UnitIs v passed) (none-is (unit_stored (under v) passed) none) (unit-of v passed sound ready))
 
   pub worked-unit : (n : State) → unit_stored (under v) passed ≡ Some n → (after : Status) → n.status ≡ after
       → (s : State) → s ≡ with_entry (UnitAfter n.status) n → (p : Prepared)
       → IsWorked v fails (Worked_Unit passed after) (record { areas = v.areas; state = s; prepared = p })
   worked-unit n is after leads s entered p =
       let done = subst (UnitIs v passed) is (unit-of v passed sound ready) in
-      let stands = subst (λ z. StandsFor v.areas z (with_entry (UnitAfter n.status) (meaning package_reading v.areas n)))
+      let stands = subst (λ z. StandsFor v.areas z (with_entry (UnitAfter n.status)
+      (meaning package_reading v.areas n)))
       (sym entered) (line-stands v.areas n (meaning package_reading v.areas n) (UnitAfter n.status)
       (record { node = refl; order = done.order; copied = done.copied })) in
       let made : node_of (record { areas = v.areas; state = s; prepared = p }) ≡ after_work fails (node_of v) =

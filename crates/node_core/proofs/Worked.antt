@@ -64,7 +64,8 @@ module _ (v : Holding) (x : SessionOf Extent) where
   places = map cluster_place x.saved ++ map change_place x.changes
 
   -- one change more is verified
-  pub verified-unit : IsSound (at_work v Verifying x) → (more : Bool) → nat_lt (x.verified + 1) (length x.changes) ≡ more
+  pub verified-unit : IsSound (at_work v Verifying x) → (more : Bool) → nat_lt (x.verified + 1) (length x.changes)
+      ≡ more
       → IsUnit (at_work v Verifying x) true (moved (if more then Verifying
       else Activated) (record x { verified = x.verified + 1 }) v.state.running)
   verified-unit sound more e = record {
@@ -149,7 +150,8 @@ module _ (v : Holding) (x : SessionOf Extent) where
       clusters = sound.order.clusters;
       session = tt;
       transfers = each-filter (IsPlaced package_reading v.areas) _ v.state.transfers sound.order.transfers;
-      slots = (table-filter (λ t. outlasts t.header) (table_of v.state) (table-is (at_work v CleaningUp x) sound)).slots;
+      slots =
+          (table-filter (λ t. outlasts t.header) (table_of v.state) (table-is (at_work v CleaningUp x) sound)).slots;
       places = among-fit (map cluster_place v.state.running ++ []) (map cluster_place v.state.running ++ places)
           (λ P each. each-append P (map cluster_place v.state.running) []
           (each-first P (map cluster_place v.state.running) places each) tt)

@@ -59,8 +59,8 @@ Installs (puts (Side place side) at bytes end) =
 Installs (puts (Transfer slot) at bytes end) = ⊥
 Installs (gets end) = ⊤
 
--- calls of the staging were made that touch first sides alone, none of which met a fault where this ended with none; at Ok
--- they put these clusters, each once
+-- calls of the staging were made that touch first sides alone, none of which met a fault where this ended with none; at
+-- Ok they put these clusters, each once
 pub record Formats {S : Type 0} (obeys : S → Step → S → Type 0) (clusters : List (Cluster Bytes)) (end : End)
     (old new : S) : Type 0 where
   pub steps : List Step

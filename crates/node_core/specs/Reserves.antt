@@ -34,8 +34,8 @@ Spares s node (puts area at bytes end) =
     → StandsFor torn s node)
 Spares s node (gets end) = ⊤
 
--- what a newer call brings: a block that the table accepts goes behind the bytes that came for its transfer, and nothing
--- else goes anywhere
+-- what a newer call brings: a block that the table accepts goes behind the bytes that came for its transfer, and
+-- nothing else goes anywhere
 abbrev pub BringsNew : State → ℕ → Call → Step → Type 0
 BringsNew s client call (gets end) = ⊤
 BringsNew s client (TransferData id counter block) (puts area at bytes end) =
@@ -71,10 +71,10 @@ puts_of [] = []
 puts_of (puts area at bytes end ∷ steps) = puts area at bytes end ∷ puts_of steps
 puts_of (gets end ∷ steps) = puts_of steps
 
--- Calls of the staging were made, each as the staging says of it, at most one of which puts. They bring what they should
--- and spare what the state names, so that the areas stand for the node as before. Where this ended with no fault no call met
--- one. At Ok each call succeeded, and areas that went through them have all that the event needs, whatever they held beside
--- what the state names: so this holds of each image of a device.
+-- Calls of the staging were made, each as the staging says of it, at most one of which puts. They bring what they
+-- should and spare what the state names, so that the areas stand for the node as before. Where this ended with no fault
+-- no call met one. At Ok each call succeeded, and areas that went through them have all that the event needs, whatever
+-- they held beside what the state names: so this holds of each image of a device.
 pub record Reserves {S : Type 0} (obeys : S → Step → S → Type 0) (areas : S → Areas) (s : State)
     (Bring : Step → Type 0) (IsReadied : Areas → Type 0) (end : End) (old new : S) : Type 0 where
   pub steps : List Step

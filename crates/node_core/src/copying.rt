@@ -154,7 +154,8 @@ fn find_piece<S: Staging>(
 fn number_at<S: Staging>(staging: &mut S, slot: u8, place: u64) -> Result<u64, ReserveError>
     requires fit { S.is_fit staging.old }
     requires slot { IsArea (Transfer slot) }
-    requires lies { place + length_size ≤ length (content_of (Transfer slot) (S.areas staging.old)) }
+    requires lies { place + length_size
+        ≤ length (content_of (Transfer slot) (S.areas staging.old)) }
     ensures number { IfOk result (λ n. n
         ≡ number_at (content_of (Transfer slot) (S.areas staging.old)) place) }
     ensures areas { S.areas staging.new ≡ S.areas staging.old }

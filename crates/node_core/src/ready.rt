@@ -63,7 +63,8 @@ impl Ready {
         &self.prepared
     }
 
-    /// The parts of the package that a TransferExit, for which all is ready, brings; none where the bytes are no package.
+    /// The parts of the package that a TransferExit, for which all is ready, brings; none where the bytes are no
+    /// package.
     pub fn brought(&self) -> &[Part<u32>]
         ensures { result.now ≡ good_parts (verdict_in (verdict_kept self.now.prepared)) }
     {

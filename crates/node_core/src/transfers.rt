@@ -56,7 +56,8 @@ pub(crate) fn read<S: Staging>(
 ) -> Result<Prepared, ReserveError>
     requires fit { S.is_fit staging.old }
     requires sound { IsSound (holding (S.areas staging.old) state.now) }
-    ensures reserves { Reserves S.obeys S.areas state.now (BringsNew state.now client (TransferExit id))
+    ensures reserves { Reserves S.obeys S.areas state.now
+        (BringsNew state.now client (TransferExit id))
         (λ held. IfOk result (λ p.
         IsReady (over held (record { state = state.now; prepared = p })) client (TransferExit id)))
         (end_by result) staging.old staging.new }

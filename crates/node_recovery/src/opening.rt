@@ -71,7 +71,8 @@ pub fn recover<D: Disk>(alloc: Global, disk: &mut D) -> Result<Found, OpenError>
     ensures pair { IfOk result (λ found. layout_of found.log.half ≡ layout_of 2) }
     ensures unformatted { IsErrOf result OpenError.Unformatted
         → current state_told (layout_of 2) (D.seen disk.old) ≡ None }
-    ensures formatted { OnOk result (current state_told (layout_of 2) (D.seen disk.old) ≡ None → ⊥) }
+    ensures formatted { OnOk result
+        (current state_told (layout_of 2) (D.seen disk.old) ≡ None → ⊥) }
     ensures reads { D.seen disk.new ≡ D.seen disk.old }
     ensures durable { OnOk result (Only (D.seen disk.new) (D.images disk.new)) }
 

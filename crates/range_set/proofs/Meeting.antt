@@ -40,7 +40,8 @@ is_from q a e = range_contains key_cmp (Included (q, a)) Unbounded e.0
 
 found-at : (q a b track low : ℕ) (e : (ℕ × ℕ) × ℕ) (es : List ((ℕ × ℕ) × ℕ)) (from : Bool) → is_from q a e ≡ from
     → is_apart track low (e ∷ es) ≡ true → is_met es q a b ≡ first_met q b (filter (is_from q a) es)
-    → (meets q a b e || is_met es q a b) ≡ first_met q b (cond from (e ∷ filter (is_from q a) es) (filter (is_from q a) es))
+    → (meets q a b e || is_met es q a b) ≡ first_met q b (cond from (e ∷ filter (is_from q a) es)
+    (filter (is_from q a) es))
 found-at q a b track low e es false at apart rest =
     let here : meets q a b e ≡ false = grind (arith, nat_tests) in rw here rest
 found-at q a b track low e es true at apart rest =
@@ -102,7 +103,8 @@ place-of t low e es track first last Equal at apart from order free rest = absur
 place-of t low e es track first last Greater at apart from order free rest =
     let here : meets track first last e ≡ false = grind (arith, nat_tests) in
     let ends : nat_le e.1 e.0.1 ≡ true = grind (arith, nat_tests) in
-    let head : ((nat_lt t e.0.0 || ((t == e.0.0) && nat_le low e.1)) && nat_le e.1 e.0.1) ≡ true = grind (arith, nat_tests) in
+    let head : ((nat_lt t e.0.0 || ((t == e.0.0) && nat_le low e.1)) && nat_le e.1 e.0.1) ≡ true = grind
+    (arith, nat_tests) in
     let r : IsAdded e.0.0 (e.0.1 + 1) es track first last = rest (behind e track first last at ends here) in
     (rw head r.apart, λ q a b. ap (λ m. meets q a b e || m) (r.met q a b) ∙ swapped (meets q a b e) _ _)
 

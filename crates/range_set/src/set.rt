@@ -6,8 +6,8 @@ use std::alloc::{AllocError, Global};
 use std::collections::BTreeMap;
 use std::marker::Model;
 
-/// Ranges of numbers, each with its first and last number, on tracks. No two on one track have a number in common. It is
-/// seen as its entries: a range's first number, under its track and its last number, in order of these.
+/// Ranges of numbers, each with its first and last number, on tracks. No two on one track have a number in common. It
+/// is seen as its entries: a range's first number, under its track and its last number, in order of these.
 #[derive(Drop)]
 pub struct RangeSet {
     firsts: BTreeMap<(u8, u64), u64>,

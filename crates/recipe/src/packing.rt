@@ -250,8 +250,8 @@ fn script(alloc: Global, input: &[u8], made: &[Attachment]) -> Result<Vec<u8>, A
 }
 
 /// Packs a recipe. Its lines `package <name> <action> <cluster> <version> <block> <need>*` make software packages, its
-/// lines `with`, of the same words, add parts to packages above, its lines `step <node> <name>` bring a package above to
-/// a node, and each other line passes as it is.
+/// lines `with`, of the same words, add parts to packages above, its lines `step <node> <name>` bring a package above
+/// to a node, and each other line passes as it is.
 ///
 /// A payload is hashed once (SHA-256, FIPS 180-4), all bytes of a package before its digest once, and all bytes of the
 /// vehicle before its digest once. The time is linear in the recipe and what it makes.

@@ -19,7 +19,8 @@ appended [] e = refl-or (result_in e.1)
     refl-or None = refl
     refl-or (Some r) = refl
 appended (x ∷ list) e =
-    ap (λ o. option_or o (result_in x.1)) (appended list e) ∙ or-assoc (result_in e.1) (last_result list) (result_in x.1)
+    ap (λ o. option_or o (result_in x.1)) (appended list e) ∙ or-assoc (result_in e.1) (last_result list)
+    (result_in x.1)
 
 entered_more : (list : List (ℕ × MasterEvent)) (i : ℕ) (d : ℕ × MasterEvent) → i < length list
     → last_result (take (i + 1) list) ≡ option_or (result_in (get_or list i d).1) (last_result (take i list))

@@ -2,7 +2,6 @@
 ghost use Rattle.std.specs.Prelude.{◌≡◌, ◌++◌, IfOk, OnOk, string_bytes};
 ghost use Rattle.report.specs.Lines.{campaign_line, cancel_line, last_result, result_in};
 ghost use Rattle.report.specs.Report.{beginning, happenings, heading, report_text};
-ghost use Rattle.report.specs.Shown.{IsShown};
 
 use crate::Shown;
 use crate::lines::{add_events, add_histories, add_named, add_opening, add_replies, add_unreached};
@@ -11,7 +10,6 @@ use std::alloc::{AllocError, Global};
 
 /// The report of a run. A full one has what the run began with, too, and the bytes of blocks in place of their digests.
 pub fn print_report(alloc: Global, shown: &Shown<'_>, full: bool) -> Result<Vec<u8>, AllocError>
-    requires { IsShown shown.now }
     ensures { IfOk result (λ report. report.items ≡ report_text full shown.now) }
 {
     let mut text = String::new(alloc);

@@ -163,8 +163,8 @@ fn ids(number: u64) -> IdList {
     ids
 }
 
-/// A reply: 0 Done; 1 and an id; 2, tag and status of the session, tag and outcome of the end, and a number of transfers;
-/// 3, a refusal and a place.
+/// A reply: 0 Done; 1 and an id; 2, tag and status of the session, tag and outcome of the end, and a number of
+/// transfers; 3, a refusal and a place.
 pub fn reply(numbers: &[u64], place: usize) -> Option<Reply> {
     let numbers = numbers.get(place..)?;
     match at(numbers, 0) {

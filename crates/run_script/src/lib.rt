@@ -2,8 +2,8 @@
 //!
 //! Layer: stands on `scenario` (the words and shared lines of scripts), `vehicle_package`, `range_set`, and on
 //! `campaign_core` and `disk_core` for phases and kinds of calls; the run of a campaign stands on it.
-//! Its one contract: a text is read exactly as the grammar in `specs/` says, or refused at the first line that is out of
-//! it, with the first reason, and then as the vehicle package's reader refuses.
+//! Its one contract: a text is read exactly as the grammar in `specs/` says, or refused at the first line that is out
+//! of it, with the first reason, and then as the vehicle package's reader refuses.
 #![tactic(auto)]
 
 mod above;

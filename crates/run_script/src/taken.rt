@@ -1,4 +1,5 @@
-//! What the lines above take for themselves: attempts at nodes, writes at which a disk stops, calls of a disk that fail.
+//! What the lines above take for themselves: attempts at nodes, writes at which a disk stops, calls of a disk that
+//! fail.
 ghost use Rattle.std.specs.Prelude.{◌≡◌, ◌≤◌, ◌||◌, ◌&&◌, [], ℕ, false, true, IfErr, OnOk};
 ghost use Rattle.disk_core.specs.declared.plan.FailKind.{FailKind as AnyKind};
 ghost use Rattle.disk_mem.specs.Strikes.{same_kind};
@@ -54,8 +55,8 @@ pub fn take(set: &mut RangeSet, track: u8, first: u64, last: u64) -> Result<(), 
 /// Takes the calls of a line.
 pub fn take_calls(taken: &mut Taken, line: &FaultLine) -> Result<(), WordError>
     requires { line.now.first ≤ line.now.last }
-    ensures free { OnOk result (is_met (calls_of taken.old line.now.kind) line.now.disk line.now.first
-        line.now.last ≡ false) }
+    ensures free { OnOk result (is_met (calls_of taken.old line.now.kind) line.now.disk
+        line.now.first line.now.last ≡ false) }
     ensures added { OnOk result (HasMore (calls_of taken.old line.now.kind)
         (calls_of taken.new line.now.kind) line.now.disk line.now.first line.now.last) }
     ensures others { OnOk result ((kind : AnyKind) → same_kind line.now.kind kind ≡ false

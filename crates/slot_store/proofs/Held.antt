@@ -76,7 +76,8 @@ module _ (places : Places) (sound : IsSound places) where
         → held_in places y ≡ with_content area (window (extent_in places area) y) (held_in places x)
     unfolding held_in
     held_changed (Transfer slot) is torn =
-        let slots = one_changed (slot_in places x) (slot_in places y) transfer_limit slot [] (slot_in places y slot) is refl
+        let slots = one_changed (slot_in places x) (slot_in places y) transfer_limit slot [] (slot_in places y slot) is
+        refl
         (λ i lt differ. other_same (Transfer slot) (Transfer i) is torn lt (λ e. differ cc)) in
         let sides = same_all (sides_in places x) (sides_in places y) cluster_limit ([], [])
         (λ i lt j. (
@@ -94,7 +95,8 @@ module _ (places : Places) (sound : IsSound places) where
         ∙ other_same (Side place side) (Side place s) is torn (is.0, lt) (λ e. differ cc)
         ∙ sym (one_of places place s x lt))
         ∙ (λ i. with_side side (one_of places place side y is.1 i)
-        (sym (get_or-map-range_with_len (sides_in places x) 0 cluster_limit place place ([], []) is.0 (omega arith)) i)) in
+        (sym (get_or-map-range_with_len (sides_in places x) 0 cluster_limit place place ([], []) is.0 (omega arith)) i))
+        in
         let sides = one_changed (sides_in places x) (sides_in places y) cluster_limit place ([], [])
         (with_side side (window (extent_in places (Side place side)) y)
         (get_or (map (sides_in places x) (range_with_len 0 cluster_limit)) place ([], []))) is.0 here
@@ -119,7 +121,8 @@ module _ (places : Places) (sound : IsSound places) where
             behind = torn.inside.after;
           });
       elsewhere = held_changed area is torn.outside
-          ∙ ap (λ (content : List ℕ). with_content area content (held_in places x)) (sym (content_held places area y is));
+          ∙ ap (λ (content : List ℕ). with_content area content (held_in places x))
+          (sym (content_held places area y is));
     }
 
     -- bytes that are put

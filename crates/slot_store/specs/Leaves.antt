@@ -11,7 +11,8 @@ use Rattle.transfer_blocks.specs.declared.fault.StagingError.TheVariants.{Failed
 use Rattle.slot_store.specs.Extents.{extent_in, held_in}
 use Rattle.slot_store.specs.declared.places.Places.{Places}
 
--- what a crash during the call may have changed: any bytes in the range that is put, and nothing where memory is wanting
+-- what a crash during the call may have changed: any bytes in the range that is put, and nothing where memory is
+-- wanting
 abbrev pub Tears : Places → Step → List ℕ → List ℕ → Type 0
 Tears places (puts area at bytes (Err OutOfMemory)) old new = new ≡ old
 Tears places (puts area at bytes end) old new = InArea (extent_in places area) (Torn at (length bytes)) old new

@@ -17,8 +17,8 @@ use crate::extents::Extents;
 use disk_core::Disk;
 use transfer_blocks::Staging;
 
-/// A law: extents lie apart, behind a node's halves and within its disk, and an area holds the whole of its own; what is
-/// torn in one leaves all that lies outside of its range, of this area and of the others.
+/// A law: extents lie apart, behind a node's halves and within its disk, and an area holds the whole of its own; what
+/// is torn in one leaves all that lies outside of its range, of this area and of the others.
 pub fn extents_lie_apart()
     ensures apart { (area other : an_area) → IsArea area → IsArea other → other ≢ area
         → let a = extent_in node_places area in let b = extent_in node_places other in

@@ -6,8 +6,8 @@ ghost use Rattle.slot_store.specs.Extents.{node_places, extent_in};
 use disk_area::Area as Window;
 use transfer_blocks::Area;
 
-/// Where the extents of a disk begin, and how long each is, in bytes: those of the transfers' slots behind one another, and
-/// those of the clusters' sides, the two of a place together.
+/// Where the extents of a disk begin, and how long each is, in bytes: those of the transfers' slots behind one another,
+/// and those of the clusters' sides, the two of a place together.
 #[derive(Clone, Copy, Debug, PartialEq, Eq, Drop)]
 pub struct Places {
     pub slots: u64,

@@ -366,7 +366,8 @@ module _ (packages : List (List ℕ)) (k epoch : ℕ) (d : DriverState) (m : Mes
       let place = (size_at d.steps (length d.ids)).index in
       let settled = settled_bare m Done told (ap is_process call ∙ data_bare packages (left == 0) id place counter)
       ∙ t.1 in
-      let none = activate_bare m Done told (ap is_activate call ∙ data_no_activate packages (left == 0) id place counter)
+      let none = activate_bare m Done told (ap is_activate call ∙ data_no_activate packages (left == 0) id place
+      counter)
       ∙ t.2 in
       told_if k epoch (left == 0) (next_transfer d) (Progress.Data id (counter + 1) (left - block_limit))
       (Answered m Done ∷ told)
@@ -503,7 +504,8 @@ told_begun d told Round.Process t = t
 told_begun d told Round.Activate t = t
 told_begun d told (Round.End commit) t = tt
 
-pub early_at : (k epoch : ℕ) (d : DriverState) (p : Progress) (told : List Told) (asked : SendStep) → ToldAt k epoch p told
+pub early_at : (k epoch : ℕ) (d : DriverState) (p : Progress) (told : List Told) (asked : SendStep) → ToldAt k epoch p
+    told
     → (IsEnding p → ⊥) → wish_at d p ≡ Wish.Send asked → (has_refusal told ≡ false) × (is_settled told ≡ true)
 early_at k epoch d Progress.Sync told asked t early is = (t.0, t.1)
 early_at k epoch d Progress.Transfer told asked t early is = (t.0, t.1)

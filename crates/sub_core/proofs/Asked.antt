@@ -27,7 +27,8 @@ closed_of true (m ∷ sent) = sent
 pub calls_answered : (told : List Told) → calls_in (answered_in told) ≡ map (λ m. m.call) (made_in told)
 calls_answered [] = refl
 calls_answered (Answered m reply ∷ told) =
-    ap (λ l. l ++ m.call ∷ []) (calls_answered told) ∙ sym (map-append (λ x. x.call) (made_in told) (made_of m reply ∷ []))
+    ap (λ l. l ++ m.call ∷ []) (calls_answered told) ∙ sym (map-append (λ x. x.call) (made_in told)
+    (made_of m reply ∷ []))
 calls_answered (Showed status ∷ told) = calls_answered told
 
 pub count_answered : (told : List Told) → length (answered_in told) ≡ length (made_in told)

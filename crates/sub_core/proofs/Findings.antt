@@ -474,7 +474,8 @@ module _ (by_size : GoesBySize) (ends : RoundsEnd) (lent : List (List ℕ)) (tas
         → todo d ≡ Todo.Rest Finding.RoundDone
     found_round done =
         let early = not_ending d.progress
-        (early_at_round d.round d.progress (subst IsBeforeEnd (sym here) (rounds_of round done.prepares)) kept.within) in
+        (early_at_round d.round d.progress (subst IsBeforeEnd (sym here) (rounds_of round done.prepares)) kept.within)
+        in
         let answered = done.answered in
         let past : is_past (phase_of round) (stage_by_size (sizes_of d.steps) AtSync (replies_by tries)) ≡ true =
         past_is done.prepares done.accepted ∙ grind (arith, nat_tests, answered) in

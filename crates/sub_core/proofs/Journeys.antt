@@ -28,7 +28,8 @@ wishes_if : (d : DriverState) (w : Wish) (b : Bool) → wish d ≡ w → is_miss
     → Wishes d (todo_for d w)
 wishes_if d (Wish.Rest finding) b here is asks = absurd (cc asks)
 wishes_if d (Wish.Send asked) true here is asks =
-    absurd (cc (sym (ap (λ b. is_asked (if b then Todo.Rest (unreached d.misses) else Todo.Send (next_no d) asked)) is) ∙ asks))
+    absurd (cc (sym (ap (λ b. is_asked (if b then Todo.Rest (unreached d.misses) else Todo.Send (next_no d) asked)) is)
+    ∙ asks))
 wishes_if d (Wish.Send asked) false here is asks =
     subst (λ b. Wishes d (if b then Todo.Rest (unreached d.misses) else Todo.Send (next_no d) asked)) (sym is)
     (ToSend asked here is)
@@ -87,7 +88,8 @@ module _ (by_size : GoesBySize) (lent : List (List ℕ)) (task : Task) (is : IsT
 
   -- no answer, and no miss
   row_same : (g : Given) (e : DriverState) → plain e (wish e) ≡ plain d (wish d) → todo d ≡ plain d (wish d)
-      → IsVain (plain d (wish d)) g → ((ms : List Given) → misses_in (g ∷ ms) ≡ misses_in ms) → e.misses ≡ d.misses → HasRow task e (g ∷ gs)
+      → IsVain (plain d (wish d)) g → ((ms : List Given) → misses_in (g ∷ ms) ≡ misses_in ms) → e.misses ≡ d.misses
+      → HasRow task e (g ∷ gs)
   row_same g e same asks vain none misses = record {
     row = g ∷ so_far.row.row;
     older = so_far.row.older;
@@ -180,7 +182,8 @@ module _ (by_size : GoesBySize) (lent : List (List ℕ)) (task : Task) (is : IsT
           (vain_unit (Gave (Got.Miss losses faults)) refl) refl;
     }
 
-  moved : (g : Given) (e f : DriverState) (now after_ : List Attempt) → e ≡ f → now ≡ after_ → IsNext g e now → IsNext g f after_
+  moved : (g : Given) (e f : DriverState) (now after_ : List Attempt) → e ≡ f → now ≡ after_ → IsNext g e now → IsNext g
+      f after_
   moved g e f now after_ same attempts_same next =
       subst (λ x. IsNext g x after_) same (subst (IsNext g e) attempts_same next)
 
@@ -208,7 +211,8 @@ module _ (by_size : GoesBySize) (lent : List (List ℕ)) (task : Task) (is : IsT
       let here : unanswered d ≡ opened d =
       ap (λ b. if b then unanswered_at (todo d) d else d) has ∙ ap (λ x. unanswered_at x d) same in
       moved GaveNothing (opened d) (unanswered d) _ _ (sym here) (ap (λ x. with_none lent d x tries) (sym same))
-      (next_opened asked wishes few same (grind (arith, nat_tests, number_left t has same)) has_begun GaveNothing tt (λ ms. refl))
+      (next_opened asked wishes few same (grind (arith, nat_tests, number_left t has same)) has_begun GaveNothing tt
+      (λ ms. refl))
   gave_nothing t (ToWork wishes few) same has has_begun =
       let here : unanswered d ≡ d =
       ap (λ b. if b then unanswered_at (todo d) d else d) has ∙ ap (λ x. unanswered_at x d) same in

@@ -191,7 +191,8 @@ not_ending (Progress.Voted finding) is ending = ending
 
 -- Activate is asked for in its round alone
 activates_in : (r : Option Round) (ids : List ℕ) (taken : ℕ) (settled : Bool) → IsBeforeEnd r
-    → nat_lt taken (length ids) ≡ false → is_over r ids (Progress.Process taken settled) ≡ false → r ≡ Some Round.Activate
+    → nat_lt taken (length ids) ≡ false → is_over r ids (Progress.Process taken settled) ≡ false → r ≡ Some
+    Round.Activate
 activates_in None ids taken settled rounds end pending = absurd (cc pending)
 activates_in (Some Round.Sync) ids taken settled rounds end pending = absurd (cc pending)
 activates_in (Some Round.Transfer) ids taken settled rounds end pending = absurd (cc pending)
@@ -301,7 +302,8 @@ within_begun Round.Transfer d can within =
     let b = rounds_before Round.Transfer d can tt in
     within_next d.round (Some Round.Transfer) d.progress b.0 tt b.1 within
 within_begun Round.Process d can within =
-    let b = rounds_before Round.Process d can tt in within_next d.round (Some Round.Process) d.progress b.0 tt b.1 within
+    let b = rounds_before Round.Process d can tt in within_next d.round (Some Round.Process) d.progress b.0 tt b.1
+    within
 within_begun Round.Activate d can within =
     let b = rounds_before Round.Activate d can tt in
     within_next d.round (Some Round.Activate) d.progress b.0 tt b.1 within
@@ -464,7 +466,8 @@ record IsNow (task : Task) (m : Message) (is_open : Bool) (attempts : List Attem
 
 same_no : (a : CallNo) (epoch number : ℕ) → a.epoch ≡ epoch → a.number ≡ number
     → a ≡ record { epoch = epoch; number = number }
-same_no a epoch number e n = ap (λ x. record { epoch = x; number = a.number }) e ∙ ap (λ x. record { epoch = epoch; number = x }) n
+same_no a epoch number e n =
+    ap (λ x. record { epoch = x; number = a.number }) e ∙ ap (λ x. record { epoch = epoch; number = x }) n
 
 same_send : (a b : SendStep) → Wish.Send a ≡ Wish.Send b → a ≡ b
 same_send a b is = cc is
@@ -610,7 +613,8 @@ module _ (lent : List (List ℕ)) (task : Task) (d : DriverState) (tries : List 
   now_if true count pending =
       open_now pending.older
       (pending.newest
-      ∙ ap (λ a. message_of lent d (next_no d) a ∷ pending.older) (same_send pending.asked asked (sym pending.wish ∙ wishes)))
+      ∙ ap (λ a. message_of lent d (next_no d) a ∷ pending.older) (same_send pending.asked asked
+      (sym pending.wish ∙ wishes)))
   now_if false count pending = new_now (sent_by tries) refl count
 
   now : IsNow task m d.is_open tries
@@ -666,7 +670,8 @@ module _ (lent : List (List ℕ)) (task : Task) (d : DriverState) (tries : List 
     turned = turned_opened;
     heard = λ rounds. ap (closed_of true) now.sent ∙ (now.closed ∙ kept.heard rounds);
     messages = λ end.
-        sent_late task.campaign (step_bytes lent task.steps) (told_by tries) m (is_late end) (end_call end) (sent_by tries)
+        sent_late task.campaign (step_bytes lent task.steps) (told_by tries) m (is_late end) (end_call end)
+        (sent_by tries)
         (kept.messages end);
   }
 
@@ -693,7 +698,8 @@ module _ (lent : List (List ℕ)) (task : Task) (d : DriverState) (tries : List 
     made_now rounds =
         let early = early_at_round d.round d.progress rounds kept.within in
         let accepted =
-        (early_at d.campaign d.epoch d d.progress (told_by tries) asked kept.told (not_ending d.progress early) wishes).0 in
+        (early_at d.campaign d.epoch d d.progress (told_by tries) asked kept.told (not_ending d.progress early)
+        wishes).0 in
         let some = some_bytes lent task.steps (subst (λ steps. 0 < length steps) kept.steps kept.sound.some) in
         one_more task.campaign task.epoch task.first ps d.number (made_in (told_by tries)) (replies_by tries)
         (kept.made rounds) some (kept.fit rounds accepted) (are_accepted (told_by tries) accepted) m at_now
@@ -716,13 +722,20 @@ module _ (lent : List (List ℕ)) (task : Task) (d : DriverState) (tries : List 
       epoch = kept.epoch;
       campaign = kept.campaign;
       steps = kept.steps;
-      told = told_replied lent d (told_by tries) kept.sound d.progress reply asked kept.sound.placed wishes fits kept.told;
-      stands = stands_replied d (replies_by tries) kept.sound d.progress reply asked kept.sound.placed kept.stands wishes fits;
+      told =
+          told_replied lent d (told_by tries) kept.sound d.progress reply asked kept.sound.placed wishes fits kept.told;
+      stands = stands_replied d (replies_by tries) kept.sound d.progress reply asked kept.sound.placed kept.stands
+          wishes fits;
       within = within_replied d d.progress reply asked wishes kept.within;
       count = omega (arith, now.count, ap length now.sent);
       numbered = subst (AreNumbered task.epoch task.first) (sym now.sent)
           (same_no m.at task.epoch (task.first + length now.rest) now.epoch now.count, now.numbered);
-      below = (kept.epoch, omega arith, below_more task.epoch d.number (d.number + 1) (told_by tries) (omega arith) kept.below);
+      below = (
+        kept.epoch,
+        omega arith,
+        below_more task.epoch d.number (d.number + 1) (told_by tries) (omega arith)
+            kept.below,
+      );
       pending = tt;
       follows = subst (FollowsAt false d.round (Answered m reply ∷ told_by tries)) (sym now.sent) (inl
           (ap (λ b. is_some (if b then Some reply else told_reply (told_by tries) m.at)) (is_same m.at)));
@@ -822,7 +835,8 @@ module _ (by_size : GoesBySize) (lent : List (List ℕ)) (task : Task) (d : Driv
       let call = call_of lent asked in
       let early = early_at_round d.round d.progress rounds kept.within in
       let accepted =
-      (early_at d.campaign d.epoch d d.progress (told_by tries) asked kept.told (not_ending d.progress early) wishes).0 in
+      (early_at d.campaign d.epoch d d.progress (told_by tries) asked kept.told (not_ending d.progress early) wishes).0
+      in
       let some = some_bytes lent task.steps (subst (λ steps. 0 < length steps) kept.steps kept.sound.some) in
       let next = next_taken task.campaign task.epoch task.first bytes d.number before (replies_by tries)
       (kept.made rounds) some (kept.fit rounds accepted) (are_accepted (told_by tries) accepted) call
@@ -838,7 +852,8 @@ module _ (by_size : GoesBySize) (lent : List (List ℕ)) (task : Task) (d : Driv
       → calls_in (sent_by tries) ≡ take (length (sent_by tries)) all_calls
   calls_if false heard pending = calls_closed heard
   calls_if true heard pending =
-      calls_open pending.asked pending.older pending.wish pending.newest (ap (closed_of true) (sym pending.newest) ∙ heard)
+      calls_open pending.asked pending.older pending.wish pending.newest
+      (ap (closed_of true) (sym pending.newest) ∙ heard)
 
   pub sent_in_rounds : AreSentInTurn task.campaign bytes (told_by tries) (sent_by tries)
   sent_in_rounds =
@@ -854,181 +869,194 @@ module _ (by_size : GoesBySize) (lent : List (List ℕ)) (task : Task) (d : Driv
         of_end = tt;
       }
 
-module _ (lent : List (List ℕ)) (task : Task) (d : DriverState) (tries : List Attempt) (kept : IsKept lent task d tries) where
-  -- the misses are no part of the rest
-  pub kept_missed : (losses faults : ℕ) → is_missed d ≡ false → IsKept lent task (missed losses faults d) tries
-  kept_missed losses faults few = record {
-    sound = sound_missed d kept.sound losses faults few;
-    epoch = kept.epoch;
-    campaign = kept.campaign;
-    steps = kept.steps;
-    told = kept.told;
-    stands = kept.stands;
-    within = kept.within;
-    count = kept.count;
-    numbered = kept.numbered;
-    below = kept.below;
-    pending = open_missed d.is_open kept.pending;
-    follows = kept.follows;
-    order = kept.order;
-    fit = kept.fit;
-    last = kept.last;
-    end = kept.end;
-    calls = kept.calls;
-    made = kept.made;
-    turned = kept.turned;
-    heard = kept.heard;
-    messages = kept.messages;
-  }
-    where
-      open_missed : (b : Bool) → OpenAt lent b d (sent_by tries) → OpenAt lent b (missed losses faults d) (sent_by tries)
-      open_missed true pending =
-          record { asked = pending.asked; older = pending.older; begun = pending.begun; wish = pending.wish; newest = pending.newest }
-      open_missed false pending = tt
+module _ (lent : List (List ℕ)) (task : Task) (d : DriverState) (tries : List Attempt) (kept : IsKept lent task d tries)
+  where
+    -- the misses are no part of the rest
+    pub kept_missed : (losses faults : ℕ) → is_missed d ≡ false → IsKept lent task (missed losses faults d) tries
+    kept_missed losses faults few = record {
+      sound = sound_missed d kept.sound losses faults few;
+      epoch = kept.epoch;
+      campaign = kept.campaign;
+      steps = kept.steps;
+      told = kept.told;
+      stands = kept.stands;
+      within = kept.within;
+      count = kept.count;
+      numbered = kept.numbered;
+      below = kept.below;
+      pending = open_missed d.is_open kept.pending;
+      follows = kept.follows;
+      order = kept.order;
+      fit = kept.fit;
+      last = kept.last;
+      end = kept.end;
+      calls = kept.calls;
+      made = kept.made;
+      turned = kept.turned;
+      heard = kept.heard;
+      messages = kept.messages;
+    }
+      where
+        open_missed : (b : Bool) → OpenAt lent b d (sent_by tries) → OpenAt lent b (missed losses faults d)
+            (sent_by tries)
+        open_missed true pending =
+            record {
+              asked = pending.asked;
+              older = pending.older;
+              begun = pending.begun;
+              wish = pending.wish;
+              newest = pending.newest;
+            }
+        open_missed false pending = tt
 
-  -- a unit without an answer
-  pub kept_idle : wish d ≡ Wish.Unit → IsKept lent task d (Worked None ∷ tries)
-  kept_idle wishes = record {
-    sound = kept.sound;
-    epoch = kept.epoch;
-    campaign = kept.campaign;
-    steps = kept.steps;
-    told = kept.told;
-    stands = kept.stands;
-    within = kept.within;
-    count = kept.count;
-    numbered = kept.numbered;
-    below = kept.below;
-    pending = kept.pending;
-    follows = kept.follows;
-    order = kept.order;
-    fit = kept.fit;
-    last = last_asked d d.progress (Worked None ∷ tries) (λ call_no is. cc (sym wishes ∙ is));
-    end = kept.end;
-    calls = kept.calls;
-    made = kept.made;
-    turned = kept.turned;
-    heard = kept.heard;
-    messages = kept.messages;
-  }
+    -- a unit without an answer
+    pub kept_idle : wish d ≡ Wish.Unit → IsKept lent task d (Worked None ∷ tries)
+    kept_idle wishes = record {
+      sound = kept.sound;
+      epoch = kept.epoch;
+      campaign = kept.campaign;
+      steps = kept.steps;
+      told = kept.told;
+      stands = kept.stands;
+      within = kept.within;
+      count = kept.count;
+      numbered = kept.numbered;
+      below = kept.below;
+      pending = kept.pending;
+      follows = kept.follows;
+      order = kept.order;
+      fit = kept.fit;
+      last = last_asked d d.progress (Worked None ∷ tries) (λ call_no is. cc (sym wishes ∙ is));
+      end = kept.end;
+      calls = kept.calls;
+      made = kept.made;
+      turned = kept.turned;
+      heard = kept.heard;
+      messages = kept.messages;
+    }
 
-  -- a unit with its status
-  pub kept_worked : (status : Status) → wish d ≡ Wish.Unit → IsKept lent task (worked status d) (Worked (Some status) ∷ tries)
-  kept_worked status wishes = record {
-    sound = sound_worked d kept.sound status;
-    epoch = kept.epoch;
-    campaign = kept.campaign;
-    steps = kept.steps;
-    told = told_worked d.campaign d.epoch d d.progress status (told_by tries) wishes kept.told;
-    stands = stands_worked d.steps d.ids d.progress status (replies_by tries) kept.stands;
-    within = within_worked d.round d.progress status kept.within;
-    count = kept.count;
-    numbered = kept.numbered;
-    below = kept.below;
-    pending = open_worked d.is_open kept.pending;
-    follows = follows_worked d.is_open (sent_by tries) kept.follows;
-    order = kept.order;
-    fit = kept.fit;
-    last = last_worked d d.progress status (Worked (Some status) ∷ tries) wishes;
-    end = end_worked d status (told_by tries) wishes kept.told kept.end;
-    calls = kept.calls;
-    made = kept.made;
-    turned = kept.turned;
-    heard = kept.heard;
-    messages = λ end.
-        shown_late task.campaign (step_bytes lent task.steps) (told_by tries) (sent_by tries) status (kept.messages end);
-  }
-    where
-      open_worked : (b : Bool) → OpenAt lent b d (sent_by tries) → OpenAt lent b (worked status d) (sent_by tries)
-      open_worked true pending = absurd (cc (sym pending.wish ∙ wishes))
-      open_worked false pending = tt
+    -- a unit with its status
+    pub kept_worked : (status : Status) → wish d ≡ Wish.Unit → IsKept lent task (worked status d)
+        (Worked (Some status) ∷ tries)
+    kept_worked status wishes = record {
+      sound = sound_worked d kept.sound status;
+      epoch = kept.epoch;
+      campaign = kept.campaign;
+      steps = kept.steps;
+      told = told_worked d.campaign d.epoch d d.progress status (told_by tries) wishes kept.told;
+      stands = stands_worked d.steps d.ids d.progress status (replies_by tries) kept.stands;
+      within = within_worked d.round d.progress status kept.within;
+      count = kept.count;
+      numbered = kept.numbered;
+      below = kept.below;
+      pending = open_worked d.is_open kept.pending;
+      follows = follows_worked d.is_open (sent_by tries) kept.follows;
+      order = kept.order;
+      fit = kept.fit;
+      last = last_worked d d.progress status (Worked (Some status) ∷ tries) wishes;
+      end = end_worked d status (told_by tries) wishes kept.told kept.end;
+      calls = kept.calls;
+      made = kept.made;
+      turned = kept.turned;
+      heard = kept.heard;
+      messages = λ end.
+          shown_late task.campaign (step_bytes lent task.steps) (told_by tries) (sent_by tries) status
+          (kept.messages end);
+    }
+      where
+        open_worked : (b : Bool) → OpenAt lent b d (sent_by tries) → OpenAt lent b (worked status d) (sent_by tries)
+        open_worked true pending = absurd (cc (sym pending.wish ∙ wishes))
+        open_worked false pending = tt
 
-      follows_worked : (b : Bool) (sent : List Message) → FollowsAt b d.round (told_by tries) sent
-          → FollowsAt b d.round (Showed status ∷ told_by tries) sent
-      follows_worked true sent follows = tt
-      follows_worked false [] follows = tt
-      follows_worked false (m ∷ sent) follows = follows
+        follows_worked : (b : Bool) (sent : List Message) → FollowsAt b d.round (told_by tries) sent
+            → FollowsAt b d.round (Showed status ∷ told_by tries) sent
+        follows_worked true sent follows = tt
+        follows_worked false [] follows = tt
+        follows_worked false (m ∷ sent) follows = follows
 
-  -- a round that begins
-  pub kept_begun : GoesBySize → AreThere lent task.steps → (round : Round) → CanBegin round d
-      → IsKept lent task (begun round d) tries
-  kept_begun by_size there round can = record {
-    sound = sound_begun d kept.sound round;
-    epoch = kept.epoch;
-    campaign = kept.campaign;
-    steps = kept.steps;
-    told = told_begun d (told_by tries) round kept.told;
-    stands = stands_begun d (replies_by tries) round kept.stands;
-    within = within_begun round d can kept.within;
-    count = count_begun d.is_open kept.count;
-    numbered = kept.numbered;
-    below = below_more task.epoch d.number (begun round d).number (told_by tries) (more d.is_open) kept.below;
-    pending = tt;
-    follows = follows_begun lent d (told_by tries) kept.within round can (sent_by tries) d.is_open kept.pending kept.follows;
-    order = λ rounds. kept.order (rounds_before round d can rounds).0;
-    fit = λ rounds. kept.fit (rounds_before round d can rounds).0;
-    last = last_begun round d tries kept.last;
-    end = end_begins task.campaign round d tries can kept.order;
-    calls = kept.calls;
-    made = made_begun d.is_open kept.pending;
-    turned = turned_begun round can;
-    heard = heard_begun d.is_open kept.pending kept.heard;
-    messages = messages_begun round can;
-  }
-    where
-      heard_begun : (b : Bool) → OpenAt lent b d (sent_by tries)
-          → (IsBeforeEnd d.round → closed_of b (sent_by tries) ≡ answered_in (told_by tries))
-          → IsBeforeEnd (Some round) → sent_by tries ≡ answered_in (told_by tries)
-      heard_begun true pending heard rounds =
-          absurd (not_open round d can rounds pending.asked pending.begun pending.wish)
-      heard_begun false pending heard rounds = heard (rounds_before round d can rounds).0
+    -- a round that begins
+    pub kept_begun : GoesBySize → AreThere lent task.steps → (round : Round) → CanBegin round d
+        → IsKept lent task (begun round d) tries
+    kept_begun by_size there round can = record {
+      sound = sound_begun d kept.sound round;
+      epoch = kept.epoch;
+      campaign = kept.campaign;
+      steps = kept.steps;
+      told = told_begun d (told_by tries) round kept.told;
+      stands = stands_begun d (replies_by tries) round kept.stands;
+      within = within_begun round d can kept.within;
+      count = count_begun d.is_open kept.count;
+      numbered = kept.numbered;
+      below = below_more task.epoch d.number (begun round d).number (told_by tries) (more d.is_open) kept.below;
+      pending = tt;
+      follows =
+          follows_begun lent d (told_by tries) kept.within round can (sent_by tries) d.is_open kept.pending kept.follows;
+      order = λ rounds. kept.order (rounds_before round d can rounds).0;
+      fit = λ rounds. kept.fit (rounds_before round d can rounds).0;
+      last = last_begun round d tries kept.last;
+      end = end_begins task.campaign round d tries can kept.order;
+      calls = kept.calls;
+      made = made_begun d.is_open kept.pending;
+      turned = turned_begun round can;
+      heard = heard_begun d.is_open kept.pending kept.heard;
+      messages = messages_begun round can;
+    }
+      where
+        heard_begun : (b : Bool) → OpenAt lent b d (sent_by tries)
+            → (IsBeforeEnd d.round → closed_of b (sent_by tries) ≡ answered_in (told_by tries))
+            → IsBeforeEnd (Some round) → sent_by tries ≡ answered_in (told_by tries)
+        heard_begun true pending heard rounds =
+            absurd (not_open round d can rounds pending.asked pending.begun pending.wish)
+        heard_begun false pending heard rounds = heard (rounds_before round d can rounds).0
 
-      messages_begun : (r : Round) → CanBegin r d → IsEndRound (Some r)
-          → AreSentInTurn task.campaign (step_bytes lent task.steps) (told_by tries) (sent_by tries)
-      messages_begun (Round.End commit) begins end = sent_in_rounds by_size lent task d tries kept there begins
-      messages_begun Round.Sync begins end = absurd end
-      messages_begun Round.Transfer begins end = absurd end
-      messages_begun Round.Process begins end = absurd end
-      messages_begun Round.Activate begins end = absurd end
+        messages_begun : (r : Round) → CanBegin r d → IsEndRound (Some r)
+            → AreSentInTurn task.campaign (step_bytes lent task.steps) (told_by tries) (sent_by tries)
+        messages_begun (Round.End commit) begins end = sent_in_rounds by_size lent task d tries kept there begins
+        messages_begun Round.Sync begins end = absurd end
+        messages_begun Round.Transfer begins end = absurd end
+        messages_begun Round.Process begins end = absurd end
+        messages_begun Round.Activate begins end = absurd end
 
-      count_begun : (b : Bool) → d.number + (if b then 1 else 0) ≡ task.first + length (sent_by tries)
-          → (if b then d.number + 1 else d.number) + 0 ≡ task.first + length (sent_by tries)
-      count_begun true count = omega (arith, count)
-      count_begun false count = count
+        count_begun : (b : Bool) → d.number + (if b then 1 else 0) ≡ task.first + length (sent_by tries)
+            → (if b then d.number + 1 else d.number) + 0 ≡ task.first + length (sent_by tries)
+        count_begun true count = omega (arith, count)
+        count_begun false count = count
 
-      more : (b : Bool) → d.number ≤ (if b then d.number + 1 else d.number)
-      more true = omega arith
-      more false = omega arith
+        more : (b : Bool) → d.number ≤ (if b then d.number + 1 else d.number)
+        more true = omega arith
+        more false = omega arith
 
-      made_begun : (b : Bool) → OpenAt lent b d (sent_by tries) → IsBeforeEnd (Some round)
-          → AreRounds task.campaign task.epoch task.first (step_bytes lent task.steps) (if b then d.number + 1 else d.number)
-          (made_in (told_by tries)) (replies_by tries)
-      made_begun true pending rounds =
-          absurd (not_open round d can rounds pending.asked pending.begun pending.wish)
-      made_begun false pending rounds = kept.made (rounds_before round d can rounds).0
+        made_begun : (b : Bool) → OpenAt lent b d (sent_by tries) → IsBeforeEnd (Some round)
+            → AreRounds task.campaign task.epoch task.first (step_bytes lent task.steps)
+            (if b then d.number + 1 else d.number)
+            (made_in (told_by tries)) (replies_by tries)
+        made_begun true pending rounds =
+            absurd (not_open round d can rounds pending.asked pending.begun pending.wish)
+        made_begun false pending rounds = kept.made (rounds_before round d can rounds).0
 
-      turned_begun : (r : Round) → CanBegin r d → IsEndRound (Some r)
-          → AreTurned task.campaign task.epoch task.first (step_bytes lent task.steps) (if d.is_open then d.number + 1 else d.number)
-          (made_in (told_by tries)) (made_early (told_by tries)) (made_late (told_by tries))
-          (sent_early (sent_by tries))
-      turned_begun (Round.End commit) begins end =
-          let made = kept.made begins in
-          let now : (if d.is_open then d.number + 1 else d.number) + 0 ≡ task.first + length (sent_by tries) =
-          count_begun d.is_open kept.count in
-          let later = more d.is_open in
-          let order = kept.order begins in
-          subst
-          (AreTurned task.campaign task.epoch task.first (step_bytes lent task.steps)
-          (if d.is_open then d.number + 1 else d.number) (made_in (told_by tries)) (made_early (told_by tries))
-          (made_late (told_by tries)))
-          (sym (all_sent_early task.campaign tries order))
-          (turned task.campaign task.epoch task.first (step_bytes lent task.steps) d.number (length (sent_by tries))
-          (told_by tries) (replies_by tries) made (not_begun task.campaign tries order)
-          (omega (arith, made.count, now, later)) (if d.is_open then d.number + 1 else d.number) (omega (arith, now)))
-      turned_begun Round.Sync begins end = absurd end
-      turned_begun Round.Transfer begins end = absurd end
-      turned_begun Round.Process begins end = absurd end
-      turned_begun Round.Activate begins end = absurd end
+        turned_begun : (r : Round) → CanBegin r d → IsEndRound (Some r)
+            → AreTurned task.campaign task.epoch task.first (step_bytes lent task.steps)
+            (if d.is_open then d.number + 1 else d.number)
+            (made_in (told_by tries)) (made_early (told_by tries)) (made_late (told_by tries))
+            (sent_early (sent_by tries))
+        turned_begun (Round.End commit) begins end =
+            let made = kept.made begins in
+            let now : (if d.is_open then d.number + 1 else d.number) + 0 ≡ task.first + length (sent_by tries) =
+            count_begun d.is_open kept.count in
+            let later = more d.is_open in
+            let order = kept.order begins in
+            subst
+            (AreTurned task.campaign task.epoch task.first (step_bytes lent task.steps)
+            (if d.is_open then d.number + 1 else d.number) (made_in (told_by tries)) (made_early (told_by tries))
+            (made_late (told_by tries)))
+            (sym (all_sent_early task.campaign tries order))
+            (turned task.campaign task.epoch task.first (step_bytes lent task.steps) d.number (length (sent_by tries))
+            (told_by tries) (replies_by tries) made (not_begun task.campaign tries order)
+            (omega (arith, made.count, now, later)) (if d.is_open then d.number + 1 else d.number) (omega (arith, now)))
+        turned_begun Round.Sync begins end = absurd end
+        turned_begun Round.Transfer begins end = absurd end
+        turned_begun Round.Process begins end = absurd end
+        turned_begun Round.Activate begins end = absurd end
 
 -- a driver as it was made
 pub kept_fresh : (lent : List (List ℕ)) (task : Task)

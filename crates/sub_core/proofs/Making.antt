@@ -90,7 +90,8 @@ all_early (Showed status ∷ told) early = all_early told early
 
 early_if : (m newest : Message) (sent : List Message) (b : Bool) → m.decided ≡ false
     → sent_early (newest ∷ sent) ≡ suc (length sent)
-    → sent_early (if b then newest ∷ sent else m ∷ newest ∷ sent) ≡ length (if b then newest ∷ sent else m ∷ newest ∷ sent)
+    → sent_early (if b then newest ∷ sent else m ∷ newest ∷ sent) ≡ length
+    (if b then newest ∷ sent else m ∷ newest ∷ sent)
 early_if m newest sent true early all = all
 early_if m newest sent false early all =
     ap (λ b. if b then sent_early (newest ∷ sent) else suc (sent_early (newest ∷ sent))) early ∙ ap suc all

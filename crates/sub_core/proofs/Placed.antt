@@ -43,7 +43,8 @@ end_if false p q one other = other
 
 end_status : (commit : Bool) (status : Status) → IsPlacedEnd (at_status commit status)
 end_status commit status =
-    end_if (is_working status) EndProgress.Units (EndProgress.Call (end_step commit status)) tt (bare_step commit status)
+    end_if (is_working status) EndProgress.Units (EndProgress.Call (end_step commit status)) tt
+    (bare_step commit status)
 
 end_free : (call_no : CallNo) (ids : List ℕ) → IsPlacedEnd (at_free call_no ids)
 end_free call_no [] = tt

@@ -57,7 +57,8 @@ due_before lent false id tag is = absurd (cc is)
 left_of : (taken n : ℕ) → nat_le n taken ≡ false → nat_lt taken n ≡ true
 left_of taken n is = grind (arith, nat_tests)
 
-due_at : (lent : List (List ℕ)) (d : DriverState) (round : Round) (p : Progress) → IsBeforeEnd (Some round) → IsCalling p
+due_at : (lent : List (List ℕ)) (d : DriverState) (round : Round) (p : Progress) → IsBeforeEnd (Some round) → IsCalling
+    p
     → is_over (Some round) d.ids p ≡ false → is_due (phase_of round) (call_of lent (round_step d p)) ≡ true
 due_at lent d round Progress.Sync rounds calling over = refl
 due_at lent d Round.Sync Progress.Transfer rounds calling over = absurd (cc over)
@@ -127,7 +128,8 @@ module _ (epoch k : ℕ) (told : List Told) (n : ℕ) (below : ToldBelow epoch n
       go true both = none
       go false both = both
 
-  no_replies : (earlier : List Message) → AllByRecursion (λ m. (nat_eq m.at.epoch epoch && nat_eq m.campaign k) ≡ false) earlier
+  no_replies : (earlier : List Message) → AllByRecursion (λ m. (nat_eq m.at.epoch epoch && nat_eq m.campaign k) ≡ false)
+      earlier
       → replies_of k told earlier ≡ []
   no_replies [] other = refl
   no_replies (m ∷ ms) other =
@@ -286,9 +288,11 @@ module _ (by_size : GoesBySize) (got : RepliesAreGot) (lent : List (List ℕ)) (
               next = subst
                   (λ k. call_at k (stage_of (packages k n) AtSync (replies_of k told (sent ++ earlier))) ≡ Some m.call)
                   (sym master.campaign)
-                  (ap (λ ps. call_at task.campaign (stage_of ps AtSync (replies_of task.campaign told (sent ++ earlier))))
+                  (ap (λ ps. call_at task.campaign (stage_of ps AtSync
+                  (replies_of task.campaign told (sent ++ earlier))))
                   of_node
-                  ∙ (ap (λ rs. call_at task.campaign (stage_of (step_bytes lent task.steps) AtSync rs)) replies ∙ next));
+                  ∙ (ap (λ rs. call_at task.campaign (stage_of (step_bytes lent task.steps) AtSync rs)) replies
+                  ∙ next));
               due = ap (λ phase. is_due phase m.call) master.phase
                   ∙ (ap (λ a. is_due (phase_of round) (call_of lent a)) (sym call.1)
                   ∙ due_at lent d round d.progress rounds call.0
@@ -297,7 +301,8 @@ module _ (by_size : GoesBySize) (got : RepliesAreGot) (lent : List (List ℕ)) (
             })
 
         -- at the end
-        late_by : (commit : Bool) (end : EndProgress) → d.progress ≡ Progress.Ending commit end → IsAtEnd n task commit c
+        late_by : (commit : Bool) (end : EndProgress) → d.progress ≡ Progress.Ending commit end → IsAtEnd n task commit
+            c
             → MaySendBy packages d.epoch n c c.decision told (sent ++ earlier) m.call
         late_by commit end at_end master =
             subst (λ x. MaySendBy packages d.epoch n c x told (sent ++ earlier) m.call) (sym master.decided) (record {

@@ -66,7 +66,8 @@ module _ (by_size : GoesBySize) (lent : List (List ℕ)) (task : Task) (gs : Lis
       let same : n ≡ m = cc (sym o.newest ∙ newest) in
       let early = early_at_round d.round d.progress rounds kept.within in
       let accepted =
-      (early_at d.campaign d.epoch d d.progress (told_by tries) o.asked kept.told (not_ending d.progress early) o.wish).0 in
+      (early_at d.campaign d.epoch d d.progress (told_by tries) o.asked kept.told (not_ending d.progress early)
+      o.wish).0 in
       let ps = step_bytes lent task.steps in
       let more = one_more task.campaign task.epoch task.first ps d.number (made_in (told_by tries)) (replies_by tries)
       (kept.made rounds) (some_bytes lent task.steps is.some) (kept.fit rounds accepted)
@@ -154,8 +155,10 @@ no_round false asked f other is = cc is
 
 voted_of : (d : DriverState) (p : Progress) (f : Finding) → (f ≡ Finding.RoundDone → ⊥)
     → ((call_no : CallNo) → f ≡ Finding.Ended call_no → ⊥) → wish_at d p ≡ Wish.Rest f → p ≡ Progress.Voted f
-voted_of d Progress.Sync f other more is = absurd (no_round (is_over d.round d.ids Progress.Sync) (round_step d Progress.Sync) f other is)
-voted_of d Progress.Transfer f other more is = absurd (no_round (is_over d.round d.ids Progress.Transfer) (round_step d Progress.Transfer) f other is)
+voted_of d Progress.Sync f other more is =
+    absurd (no_round (is_over d.round d.ids Progress.Sync) (round_step d Progress.Sync) f other is)
+voted_of d Progress.Transfer f other more is =
+    absurd (no_round (is_over d.round d.ids Progress.Transfer) (round_step d Progress.Transfer) f other is)
 voted_of d (Progress.Data id counter left) f other more is =
     let p = Progress.Data id counter left in absurd (no_round (is_over d.round d.ids p) (round_step d p) f other is)
 voted_of d (Progress.Process taken true) f other more is =
@@ -213,7 +216,8 @@ module _ (by_size : GoesBySize) (ends : RoundsEnd) (lent : List (List ℕ)) (tas
       (subst (λ n. length (round_calls task.campaign (ids_of replies) ps) ≤ n) (sym many) (le_true _ _ past)) in
       record {
         calls = made.calls []
-            ∙ (ap (λ l. take (length (made_in heard)) (round_calls task.campaign l ps)) (append-nil (ids_given (made_in heard)))
+            ∙ (ap (λ l. take (length (made_in heard)) (round_calls task.campaign l ps))
+            (append-nil (ids_given (made_in heard)))
             ∙ take_all (length (made_in heard)) (round_calls task.campaign (ids_given (made_in heard)) ps) all);
         accepted = accepted_all (made_in heard) (are_accepted heard accepted);
       }
@@ -255,7 +259,8 @@ module _ (by_size : GoesBySize) (ends : RoundsEnd) (lent : List (List ℕ)) (tas
   voted (Finding.Ended call_no) rests = tt
 
 pub votes_are_made : GoesBySize → RoundsEnd → VotesAreMade
-votes_are_made by_size ends lent task gs is given_ rounds f rests = voted by_size ends lent task gs is given_ rounds f rests
+votes_are_made by_size ends lent task gs is given_ rounds f rests =
+    voted by_size ends lent task gs is given_ rounds f rests
 
 -- the last call
 
@@ -287,7 +292,8 @@ end_is_made by_size lent task gs is given_ call_no rests =
     let d = after task gs in
     let kept = (stands by_size lent task is gs given_).kept in
     rest_made d.campaign d.epoch call_no (told_of lent task gs)
-    (found_for d.campaign d.epoch (told_of lent task gs) d d.progress (wish d) (Finding.Ended call_no) refl kept.told rests)
+    (found_for d.campaign d.epoch (told_of lent task gs) d d.progress (wish d) (Finding.Ended call_no) refl kept.told
+    rests)
 
 pub end_is_asked : GoesBySize → EndIsAsked
 end_is_asked by_size lent task gs is given_ commit here =

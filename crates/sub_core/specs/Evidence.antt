@@ -136,7 +136,8 @@ abbrev pub UnitsAreDue : Type 0
 UnitsAreDue =
     (lent : List (List ℕ)) (task : Task) (gs : List Given) → IsTask lent task → AreGiven task gs
     → (round : Round) → (after task gs).round ≡ Some round
-    → (todo (after task gs) ≡ Todo.Unit) ↔ (IsUnitDue round (told_of lent task gs) × (is_missed (after task gs) ≡ false))
+    → (todo (after task gs) ≡ Todo.Unit) ↔ (IsUnitDue round (told_of lent task gs)
+    × (is_missed (after task gs) ≡ false))
 
 -- whether an attempt failed
 abbrev pub is_miss : Got → Bool

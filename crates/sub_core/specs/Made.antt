@@ -103,8 +103,8 @@ pub record AreInTurn (k epoch first : ℕ) (packages : List (List ℕ)) (told : 
 abbrev pub IsEndMessage : Message → Type 0
 IsEndMessage m = (m.decided ≡ true) × (is_end_call m.call ≡ true)
 
--- all messages, the newest first: those of the end phase behind those of the rounds, and the calls of these, answered or
--- not, are first calls of the rounds
+-- all messages, the newest first: those of the end phase behind those of the rounds, and the calls of these, answered
+-- or not, are first calls of the rounds
 pub record AreSentInTurn (k : ℕ) (packages : List (List ℕ)) (told : List Told) (sent : List Message) : Type 0 where
   pub early : List Message
   pub late : List Message

@@ -20,8 +20,8 @@ use Rattle.sub_core.specs.Made.{AreInTurn, AreSentInTurn, IsOfRounds, Made, ends
 abbrev pub AreOfRounds : List (List ℕ) → Task → List Made → Type 0
 AreOfRounds lent task made = IsOfRounds task.campaign task.epoch task.first (step_bytes lent task.steps) made
 
--- before the end the answered calls are first calls of the rounds; so they are with the newest call, if it isn't answered,
--- whatever its reply will be
+-- before the end the answered calls are first calls of the rounds; so they are with the newest call, if it isn't
+-- answered, whatever its reply will be
 abbrev pub RoundsAreMade : Type 0
 RoundsAreMade =
     (lent : List (List ℕ)) (task : Task) (gs : List Given) → IsTask lent task → AreGiven task gs

@@ -158,10 +158,16 @@ module _ {U : Type 0} (last : U → Option CallNo) (counted : U → Counted) (se
       → AreGiven task (now ++ before)
   given_more packages d task before [] s t is are goes = are
   given_more packages d task before (Begun round ∷ now) s t is are goes = absurd goes.2
-  given_more packages d task before (Gave got ∷ now) s t is are goes =
-      (subst Asks (since_more d task before now is) goes.2.0, given_more packages d task before now s goes.0 is are goes.1)
-  given_more packages d task before (GaveNothing ∷ now) s t is are goes =
-      (subst Asks (since_more d task before now is) goes.2.0, given_more packages d task before now s goes.0 is are goes.1)
+  given_more packages d task before (Gave got ∷ now) s t is are goes = (
+    subst Asks (since_more d task before now is) goes.2.0,
+    given_more packages d task before now s goes.0 is are
+        goes.1,
+  )
+  given_more packages d task before (GaveNothing ∷ now) s t is are goes = (
+    subst Asks (since_more d task before now is) goes.2.0,
+    given_more packages d task before now s goes.0 is are
+        goes.1,
+  )
 
   pub ran : (round : Round) (old new : Worker U) → CanBegin round old.driver
       → Drove last counted sends works (begun round old.driver) old new → Ran last counted sends works round old new

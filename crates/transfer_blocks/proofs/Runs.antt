@@ -11,7 +11,8 @@ ran_both obeys (step ∷ first) second a b c ran more =
     (ran.0, ran.1, ran_both obeys first second ran.0 b c ran.2 more)
 
 -- what areas hold after both
-pub wrote_both : (first second : List Step) (areas : Areas) → wrote (first ++ second) areas ≡ wrote second (wrote first areas)
+pub wrote_both : (first second : List Step) (areas : Areas) → wrote (first ++ second) areas ≡ wrote second
+    (wrote first areas)
 wrote_both [] second areas = refl
 wrote_both (puts area at bytes end ∷ first) second areas = wrote_both first second (with_bytes area at bytes areas)
 wrote_both (gets end ∷ first) second areas = wrote_both first second areas

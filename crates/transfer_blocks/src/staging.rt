@@ -25,7 +25,8 @@ pub trait Staging {
     ghost obeys: { Self → Step → Self → Type 0 } = { λ _ _ _. Unit {0} };
 
     /// Puts the bytes at `at` in place of those that lie there. The area grows where the range ends
-    /// behind it. After a failure the bytes of the range may be any, and all others stand; where memory is wanting all do.
+    /// behind it. After a failure the bytes of the range may be any, and all others stand; where memory is wanting all
+    /// do.
     fn put(&mut self, area: Area, at: u64, bytes: &[u8]) -> Result<(), StagingError>
         requires fit { is_fit self.old }
         requires area { IsArea area }

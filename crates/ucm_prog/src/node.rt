@@ -110,7 +110,8 @@ pub fn work(
     requires { core.old.held.state.entries < entry_limit }
     ensures given { IfOk result (λ given. given
         ≡ Given.Worked (answer_to fails.now (node_of core.old.held))) }
-    ensures node { OnOk result (node_of core.new.held ≡ after_work fails.now (node_of core.old.held)) }
+    ensures node { OnOk result
+        (node_of core.new.held ≡ after_work fails.now (node_of core.old.held)) }
     ensures entries { core.new.held.state.entries ≤ core.old.held.state.entries + 1 }
 {
     match core.reserve_work(alloc) {

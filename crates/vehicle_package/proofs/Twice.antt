@@ -27,7 +27,8 @@ module _ (packages : List PackedOf) (steps : List Step) (i : ℕ) where
       → above ≡ changed_before packages steps i → changes ≡ changes_of packages step
       → twice_at packages steps i ≡ again_in above changes
   at_step step above changes lt is before here =
-      ap (λ (o : Option Step). option_and_then (λ s. again_in (changed_before packages steps i) (changes_of packages s)) o)
+      ap (λ (o : Option Step). option_and_then (λ s. again_in (changed_before packages steps i) (changes_of packages s))
+      o)
       (slice_get_read steps (length steps) i step refl lt is)
       ∙ (λ j. again_in (sym before j) (sym here j))
 

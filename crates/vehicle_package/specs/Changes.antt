@@ -50,6 +50,7 @@ abbrev pub first_at : (ℕ → Option Change) → ℕ → ℕ → Option Change
 first_at at place zero = None
 first_at at place (suc n) = or_else_below (at place) (first_at at (place + 1) n)
 
--- in order of the steps, and in each in order of its parts, the first cluster that an earlier step changes on the same node
+-- in order of the steps, and in each in order of its parts, the first cluster that an earlier step changes on the same
+-- node
 abbrev pub twice_in : List PackedOf → List Step → Option Change
 twice_in packages steps = first_at (twice_at packages steps) 0 (length steps)

@@ -1,9 +1,9 @@
 //! Vehicle packages: a plan of steps and the software packages that it brings, read and printed.
 //!
-//! Layer: stands on `package_reader`, `manifest`, `wire` and the kit's `serde_json` and `sha2`; recipes, the program and
-//! the run of a campaign stand on it.
-//! Its one contract: bytes are read exactly where they are a vehicle package, the first fault is answered where they are
-//! not, and what is printed is read as what it was printed of.
+//! Layer: stands on `package_reader`, `manifest`, `wire` and the kit's `serde_json` and `sha2`; recipes, the program
+//! and the run of a campaign stand on it.
+//! Its one contract: bytes are read exactly where they are a vehicle package, the first fault is answered where they
+//! are not, and what is printed is read as what it was printed of.
 #![tactic(auto)]
 
 mod changes;

@@ -64,7 +64,8 @@ returns-in_default-2-clause-reserves g c =
     let next = c.in-Some.next in
     let u : IsUnitOf s next = subst (IsNextUnit s) c.in-Some.is c.in_ok-next.ensures in
     absurd ((needs v c.requires.sound c.requires.status u).some
-    (ap (λ (es : List Extent). piece_of (content_of (Transfer next.slot) v.areas) (parts_place (length es)) next.done es)
+    (ap (λ (es : List Extent). piece_of (content_of (Transfer next.slot) v.areas) (parts_place (length es)) next.done
+    es)
     (sym c.as_slice.ensures.value) ∙ sym c.in_ok-piece.ensures.piece ∙ c.in_default-2.is))
 
 pub returns-then-piece-eq0-clause-reserves : goal.returns-then-piece-eq0-clause-reserves
@@ -78,7 +79,8 @@ returns-then-piece-eq0-clause-reserves g c =
     next.extents.items ≡ Some piece =
     ap (λ (es : List Extent). piece_of (content_of (Transfer next.slot) v.areas) (parts_place (length es)) next.done es)
     (sym c.as_slice.ensures.value) ∙ sym c.in_ok-piece.ensures.piece ∙ c.in-Some-2.is in
-    reads-reserve g.S.Staging.obeys g.S.Staging.areas s _ _ c.args.staging.now c.find_piece.new.staging (Ok tt) (λ end. tt)
+    reads-reserve g.S.Staging.obeys g.S.Staging.areas s _ _ c.args.staging.now c.find_piece.new.staging (Ok tt)
+    (λ end. tt)
     c.in_ok-piece.ensures.reads c.in_ok-piece.ensures.areas (sound-stands v c.requires.sound)
     (λ ok. none-ready v c.requires.sound c.requires.status u piece found c.planning-planned.result
     c.planning-planned.ensures c.if-piece-eq0.true)
@@ -157,7 +159,8 @@ returns-in_err-copy-clause-reserves g c =
     ap (λ (es : List Extent). piece_of (content_of (Transfer next.slot) v.areas) (parts_place (length es)) next.done es)
     (sym c.as_slice.ensures.value) ∙ sym c.in_ok-piece.ensures.piece ∙ c.in-Some-2.is in
     let writes = subst (λ (a : Areas). Writes g.S.Staging.obeys (side_of piece.to) piece.at
-    (slice_range (content_of (Transfer next.slot) a) piece.from (piece.from + piece.len)) (Err (fault_of c.in_err-copy.field-0.0)) c.find_piece.new.staging
+    (slice_range (content_of (Transfer next.slot) a) piece.from (piece.from + piece.len))
+    (Err (fault_of c.in_err-copy.field-0.0)) c.find_piece.new.staging
     c.copy.new.staging) c.in_ok-piece.ensures.areas c.in_err-copy.ensures.writes in
     let left = subst (λ (a : Areas). LeavesOutside (side_of piece.to) piece.at piece.len a
     (g.S.Staging.areas c.copy.new.staging)) c.in_ok-piece.ensures.areas c.in_err-copy.ensures.left in
@@ -179,7 +182,8 @@ returns-clause-reserves g c =
     ap (λ (es : List Extent). piece_of (content_of (Transfer next.slot) v.areas) (parts_place (length es)) next.done es)
     (sym c.as_slice.ensures.value) ∙ sym c.in_ok-piece.ensures.piece ∙ c.in-Some-2.is in
     let writes = subst (λ (a : Areas). Writes g.S.Staging.obeys (side_of piece.to) piece.at
-    (slice_range (content_of (Transfer next.slot) a) piece.from (piece.from + piece.len)) (Ok tt) c.find_piece.new.staging
+    (slice_range (content_of (Transfer next.slot) a) piece.from (piece.from + piece.len)) (Ok tt)
+    c.find_piece.new.staging
     c.copy.new.staging) c.in_ok-piece.ensures.areas c.in_ok-copy.ensures.writes in
     let left = subst (λ (a : Areas). LeavesOutside (side_of piece.to) piece.at piece.len a
     (g.S.Staging.areas c.copy.new.staging)) c.in_ok-piece.ensures.areas c.in_ok-copy.ensures.left in

@@ -27,14 +27,18 @@ returns-clause-holds g c held fit =
 
 pub returns-clause-node : goal.returns-clause-node
 returns-clause-node g c =
-    let areas = c.in_ok-running.ensures.areas ∙ ap (λ l. with_installed l (g.S.Staging.areas c.args.staging.now)) c.in_ok-ordered.ensures.sorted in
+    let areas = c.in_ok-running.ensures.areas ∙ ap (λ l. with_installed l (g.S.Staging.areas c.args.staging.now))
+    c.in_ok-ordered.ensures.sorted in
     subst (λ a. meaning package_reading a c.in_ok-state.state ≡ formatted (in_order c.args.installed.items)) (sym areas)
-    (returns-clause-holds g c (g.S.Staging.areas c.args.staging.now) (g.met.S.Staging.areas_fit c.args.staging.now)).node
+    (returns-clause-holds g c (g.S.Staging.areas c.args.staging.now) (g.met.S.Staging.areas_fit
+    c.args.staging.now)).node
 
 pub returns-clause-sound : goal.returns-clause-sound
 returns-clause-sound g c =
-    let areas = c.in_ok-running.ensures.areas ∙ ap (λ l. with_installed l (g.S.Staging.areas c.args.staging.now)) c.in_ok-ordered.ensures.sorted in
-    let is = (returns-clause-holds g c (g.S.Staging.areas c.args.staging.now) (g.met.S.Staging.areas_fit c.args.staging.now)).sound in
+    let areas = c.in_ok-running.ensures.areas ∙ ap (λ l. with_installed l (g.S.Staging.areas c.args.staging.now))
+    c.in_ok-ordered.ensures.sorted in
+    let is = (returns-clause-holds g c (g.S.Staging.areas c.args.staging.now)
+    (g.met.S.Staging.areas_fit c.args.staging.now)).sound in
     subst (λ a. IsSound (holding a c.in_ok-state.state)) (sym areas)
     (record { fit = is.fit; order = is.order; copied = is.copied })
 
@@ -47,7 +51,8 @@ pub returns-in_err-running-clause-formats : goal.returns-in_err-running-clause-f
 returns-in_err-running-clause-formats g c =
     at-err (λ end. Formats g.S.Staging.obeys (in_order c.args.installed.items) end c.args.staging.now
     c.install.new.staging) _ _ c.from_residual-in_err-running.ensures.1
-    (subst (λ l. Formats g.S.Staging.obeys l (Err (fault_of c.in_err-running.field-0.0)) c.args.staging.now c.install.new.staging) c.in_ok-ordered.ensures.sorted
+    (subst (λ l. Formats g.S.Staging.obeys l (Err (fault_of c.in_err-running.field-0.0)) c.args.staging.now
+    c.install.new.staging) c.in_ok-ordered.ensures.sorted
     c.in_err-running.ensures.formats)
 
 pub returns-in_err-state-clause-formats : goal.returns-in_err-state-clause-formats

@@ -10,6 +10,7 @@ missing-requires c = record {
   rise =
       needing-rises c.as_slice-2.result.now (planned c.args.changes.now c.args.saved.now)
       (ap (map needing) c.as_slice-2.ensures.value ∙ c.in_ok-all.ensures
-      ∙ ap (λ xs. map needing_of (map planned_of xs)) c.as_slice.ensures.value ∙ ap (map needing_of) c.in_ok-plan.ensures)
+      ∙ ap (λ xs. map needing_of (map planned_of xs)) c.as_slice.ensures.value ∙ ap (map needing_of)
+      c.in_ok-plan.ensures)
       (planned-rises (record { slots = []; sides = [] }) c.args.saved.now c.args.changes.now c.requires.rise);
 }

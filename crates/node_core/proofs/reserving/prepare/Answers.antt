@@ -10,7 +10,8 @@ use Rattle.node_core.proofs.reserving.prepare.Goals as goal
 pub returns-in_err-open-in-ProcessSwPackage-clause-reserves : goal.returns-in_err-open-in-ProcessSwPackage-clause-reserves
 returns-in_err-open-in-ProcessSwPackage-clause-reserves g c =
     let own = c.requires.sound in
-    reads-handed g.S.Staging.obeys g.S.Staging.areas OutOfMemory _ c.from_residual-in_err-open-in-ProcessSwPackage.ensures.1
+    reads-handed g.S.Staging.obeys g.S.Staging.areas OutOfMemory _
+    c.from_residual-in_err-open-in-ProcessSwPackage.ensures.1
     (λ end. tt)
     (record { fit = own.fit; order = own.order; copied = own.copied }) (reads-none _ _ _) refl
 
@@ -51,7 +52,8 @@ returns-in_err-stage-in-TransferData-clause-reserves g c =
     c.in-TransferData.is
     ∙ ap (TransferData c.in-TransferData.id c.in-TransferData.counter) (sym c.as_slice.ensures.bytes) in
     failed-reserves _ _ c.from_residual.ensures.1
-    (reserves-at c.ready.view_is same c.args.client (λ held ready. ready) c.in_err-stage-in-TransferData.ensures.reserves)
+    (reserves-at c.ready.view_is same c.args.client (λ held ready. ready)
+    c.in_err-stage-in-TransferData.ensures.reserves)
 
 pub returns-in_ok-stage-in-TransferData-clause-reserves : goal.returns-in_ok-stage-in-TransferData-clause-reserves
 returns-in_ok-stage-in-TransferData-clause-reserves g c =

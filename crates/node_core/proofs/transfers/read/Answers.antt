@@ -21,7 +21,8 @@ pub get-requires-clause-area : goal.get-requires-clause-area
 get-requires-clause-area g c =
     let is : found_of c.args.state.now.transfers c.args.client c.args.id ≡ Some c.in-Some.found =
     ap (λ (s : State). found_of s.transfers c.args.client c.args.id) (sym c.state.view_is) ∙ c.in-Some.ensures.found in
-    found-slot (holding (g.S.Staging.areas c.args.staging.now) c.args.state.now) c.requires.sound c.args.client c.args.id
+    found-slot (holding (g.S.Staging.areas c.args.staging.now) c.args.state.now) c.requires.sound c.args.client
+    c.args.id
     c.in-Some.found is
 
 pub get-requires-clause-range : goal.get-requires-clause-range
@@ -29,7 +30,8 @@ get-requires-clause-range g c =
     let is : found_of c.args.state.now.transfers c.args.client c.args.id ≡ Some c.in-Some.found =
     ap (λ (s : State). found_of s.transfers c.args.client c.args.id) (sym c.state.view_is) ∙ c.in-Some.ensures.found in
     rw (zero-add c.in-Some.found.header.received)
-    (found-lies (holding (g.S.Staging.areas c.args.staging.now) c.args.state.now) c.requires.sound c.args.client c.args.id
+    (found-lies (holding (g.S.Staging.areas c.args.staging.now) c.args.state.now) c.requires.sound c.args.client
+    c.args.id
     c.in-Some.found is)
 
 pub returns-in_err-bytes-clause-reserves : goal.returns-in_err-bytes-clause-reserves
@@ -59,5 +61,6 @@ returns-clause-reserves g c =
     c.in_ok-verdict.field-0 (c.as_slice.ensures.value ∙ c.in_ok-bytes.ensures.bytes) c.in_ok-verdict.ensures in
     reads-reserve g.S.Staging.obeys g.S.Staging.areas s _ _ c.args.staging.now c.get.new.self (Ok tt) (λ end. tt)
     (reads-one _ (Ok tt) _ _ c.in_ok-bytes.ensures.obeys) c.in_ok-bytes.ensures.areas (sound-stands v c.requires.sound)
-    (λ ok held fit stand. exit-ready (record v { prepared = Judged c.in_ok-verdict.field-0 }) held c.args.client c.args.id
+    (λ ok held fit stand. exit-ready (record v { prepared = Judged c.in_ok-verdict.field-0 }) held c.args.client
+    c.args.id
     stand ready)

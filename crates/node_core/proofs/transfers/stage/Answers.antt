@@ -20,21 +20,24 @@ pub put-requires-clause-area : goal.put-requires-clause-area
 put-requires-clause-area g c =
     let is : found_of c.args.state.now.transfers c.args.client c.args.id ≡ Some c.in-Some.found =
     ap (λ (s : State). found_of s.transfers c.args.client c.args.id) (sym c.state.view_is) ∙ c.in-Some.ensures.found in
-    found-slot (holding (g.S.Staging.areas c.args.staging.now) c.args.state.now) c.requires.sound c.args.client c.args.id
+    found-slot (holding (g.S.Staging.areas c.args.staging.now) c.args.state.now) c.requires.sound c.args.client
+    c.args.id
     c.in-Some.found is
 
 pub put-requires-clause-at : goal.put-requires-clause-at
 put-requires-clause-at g c =
     let is : found_of c.args.state.now.transfers c.args.client c.args.id ≡ Some c.in-Some.found =
     ap (λ (s : State). found_of s.transfers c.args.client c.args.id) (sym c.state.view_is) ∙ c.in-Some.ensures.found in
-    found-lies (holding (g.S.Staging.areas c.args.staging.now) c.args.state.now) c.requires.sound c.args.client c.args.id
+    found-lies (holding (g.S.Staging.areas c.args.staging.now) c.args.state.now) c.requires.sound c.args.client
+    c.args.id
     c.in-Some.found is
 
 pub put-requires-clause-fits : goal.put-requires-clause-fits
 put-requires-clause-fits g c =
     let is : found_of c.args.state.now.transfers c.args.client c.args.id ≡ Some c.in-Some.found =
     ap (λ (s : State). found_of s.transfers c.args.client c.args.id) (sym c.state.view_is) ∙ c.in-Some.ensures.found in
-    block-fits g.S.Staging.obeys g.S.Staging.areas c.args.state.now c.args.staging.now c.args.staging.now c.requires.sound
+    block-fits g.S.Staging.obeys g.S.Staging.areas c.args.state.now c.args.staging.now c.args.staging.now
+    c.requires.sound
     c.args.client c.args.id c.args.counter c.args.block.now c.in-Some.found is c.in-Some.ensures.fits
 
 pub returns-in_err-put-clause-reserves : goal.returns-in_err-put-clause-reserves
@@ -49,7 +52,8 @@ returns-in_err-put-clause-reserves g c =
     (BringsNew s c.args.client (TransferData c.args.id c.args.counter c.args.block.now))
     (λ held. IsReady (holding held s) c.args.client (TransferData c.args.id c.args.counter c.args.block.now)) end
     c.args.staging.now c.put.new.self) _ _ c.from_residual.ensures.1
-    (block-reserves g.S.Staging.obeys g.S.Staging.areas s c.args.staging.now c.put.new.self c.requires.sound c.args.client
+    (block-reserves g.S.Staging.obeys g.S.Staging.areas s c.args.staging.now c.put.new.self c.requires.sound
+    c.args.client
     c.args.id c.args.counter c.args.block.now c.in-Some.found is c.in-Some.ensures.fits accepted _
     (g.met.S.Staging.areas_fit c.args.staging.now) (writes-one _ _ _ _ _ _ _ c.in_err-put.ensures.obeys)
     (λ e. absurd (cc e)) c.in_err-put.ensures.outside)

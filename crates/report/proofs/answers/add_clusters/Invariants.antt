@@ -5,4 +5,5 @@ use Rattle.report.specs.Answers.{spaced}
 use Rattle.report.proofs.answers.add_clusters.Given as goal
 
 abbrev pub invariant-loop-cluster : goal.invariant-loop-cluster
-invariant-loop-cluster l = string_bytes l.text ≡ string_bytes l.initial.text ++ flat_map (λ c. spaced (cluster_text c)) (take l.cluster-index l.clusters)
+invariant-loop-cluster l = string_bytes l.text ≡ string_bytes l.initial.text ++ flat_map (λ c. spaced (cluster_text c))
+    (take l.cluster-index l.clusters)

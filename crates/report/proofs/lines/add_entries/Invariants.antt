@@ -4,4 +4,5 @@ use Rattle.report.specs.Lines.{node_line}
 use Rattle.report.proofs.lines.add_entries.Given as goal
 
 abbrev pub invariant-loop-placed : goal.invariant-loop-placed
-invariant-loop-placed l = string_bytes l.text ≡ string_bytes l.initial.text ++ flat_map (node_line l.full l.node) (take l.placed-index l.entries)
+invariant-loop-placed l = string_bytes l.text ≡ string_bytes l.initial.text ++ flat_map (node_line l.full l.node)
+    (take l.placed-index l.entries)

@@ -4,4 +4,5 @@ use Rattle.report.specs.Lines.{node_lines}
 use Rattle.report.proofs.lines.add_histories.Given as goal
 
 abbrev pub invariant-loop-history : goal.invariant-loop-history
-invariant-loop-history l = string_bytes l.text ≡ string_bytes l.initial.text ++ flat_map (node_lines l.full) (take l.history-index l.nodes)
+invariant-loop-history l =
+    string_bytes l.text ≡ string_bytes l.initial.text ++ flat_map (node_lines l.full) (take l.history-index l.nodes)

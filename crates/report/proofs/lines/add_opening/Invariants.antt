@@ -4,4 +4,5 @@ use Rattle.report.specs.Lines.{opening_line}
 use Rattle.report.proofs.lines.add_opening.Given as goal
 
 abbrev pub invariant-loop-cluster : goal.invariant-loop-cluster
-invariant-loop-cluster l = string_bytes l.text ≡ string_bytes l.initial.text ++ flat_map (opening_line) (take l.cluster-index l.clusters)
+invariant-loop-cluster l =
+    string_bytes l.text ≡ string_bytes l.initial.text ++ flat_map (opening_line) (take l.cluster-index l.clusters)

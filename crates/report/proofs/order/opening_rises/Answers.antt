@@ -6,4 +6,5 @@ use Rattle.report.proofs.order.opening_rises.Goals as goal
 
 pub returns : goal.returns
 returns c =
-    decides opens_before c.args.list.now c.is_sorted_by.result (c.is_sorted_by.ensures.cases opens_before (answers_always _ _ _ (λ f a r g h. search rules)))
+    decides opens_before c.args.list.now c.is_sorted_by.result (c.is_sorted_by.ensures.cases opens_before
+    (answers_always _ _ _ (λ f a r g h. search rules)))

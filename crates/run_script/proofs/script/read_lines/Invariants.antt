@@ -8,7 +8,8 @@ use Rattle.run_script.proofs.script.read_lines.Given as goal
 abbrev pub invariant-lines : goal.invariant-lines
 invariant-lines l =
     record {
-      read : lines_read nothing_above 1 (above_end (lines_of l.input)) ≡ lines_read l.above l.number (above_end (pieces_left 10 (text_left l.left)));
+      read : lines_read nothing_above 1 (above_end (lines_of l.input)) ≡ lines_read l.above l.number
+          (above_end (pieces_left 10 (text_left l.left)));
       end : end_at (lines_of l.input) ≡ l.at + end_at (pieces_left 10 (text_left l.left));
       within : l.at + size_left (text_left l.left) ≤ length l.input + 1;
       count : l.number ≤ l.at + 1;

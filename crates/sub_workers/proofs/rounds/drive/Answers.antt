@@ -29,7 +29,8 @@ returns-clause-drove g c =
     let w = c.loop.worker in
     elim c.match-next.branch [
       | in-None x ↦ (rw x.worker-is (stopped U.last U.counted U.sends U.works old w i.4 i.5 i.3 i.6))
-      | in-Some+then-not-has_number x ↦ (rw x.worker-is (stopped U.last U.counted U.sends U.works old w i.4 i.5 i.3 i.6))
+      | in-Some+then-not-has_number x ↦ (rw x.worker-is (stopped U.last U.counted U.sends U.works old w i.4 i.5 i.3
+          i.6))
       | in-Some+else-not-has_number+in-GaveNothing x ↦
           (let t = x.in-GaveNothing.ensures in
           rw x.worker-is

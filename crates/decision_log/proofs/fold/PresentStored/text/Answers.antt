@@ -15,7 +15,8 @@ returns-clause-text c =
 pub returns-clause-short : goal.returns-clause-short
 returns-clause-short c =
     let f = c.self.inside.fold.now in
-    let within = subst (λ (g : Fold). length g.earlier ≤ campaign_limit) (sym c.self.view_is) (omega (arith, c.requires)) in
+    let within = subst (λ (g : Fold). length g.earlier ≤ campaign_limit) (sym c.self.view_is)
+    (omega (arith, c.requires)) in
     omega (
       arith,
       ap (λ (xs : List ℕ). length xs) c.in_ok-text.ensures.spelled,

@@ -24,5 +24,6 @@ returns-in-Err-Failed-clause-in_doubt g c pending x now =
     let disk = c.record.new.self.disk in
     let fold = c.args.self.now.campaign.fold in
     let known = subst (λ (f : Fold). IsKnown log f (Some c.args.event) (d.seen disk) (d.images disk))
-    c.in-Err-Failed.ensures.same (c.in-Err-Failed.ensures.in_doubt (ap (λ (e : StoreError). Err e) c.in-Err-Failed.field-0-is)) in
+    c.in-Err-Failed.ensures.same (c.in-Err-Failed.ensures.in_doubt (ap (λ (e : StoreError). Err e)
+    c.in-Err-Failed.field-0-is)) in
     doubt_is log fold c.args.event (d.seen disk) (d.images disk) x known now

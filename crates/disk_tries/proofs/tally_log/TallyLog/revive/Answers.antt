@@ -26,7 +26,8 @@ returns-in_err-revived-clause-knows g c =
     let known =
     subst (λ (p : Option (List ℕ)). Knows (d.seen old.disk) (d.images old.disk) old.log old.tally p) c.in-Some.is
     c.requires.knows in
-    subst (λ (p : Option (List ℕ)). Knows (d.seen new) (d.images new) c.revive.new.self old.tally p) (sym c.in-Some.is) (
+    subst (λ (p : Option (List ℕ)). Knows (d.seen new) (d.images new) c.revive.new.self old.tally p)
+    (sym c.in-Some.is) (
       known.0,
       λ x now.
           subst (λ (n : List ℕ). InDoubt tally_of with_note c.revive.new.self (of_event with_note old.tally n) x)

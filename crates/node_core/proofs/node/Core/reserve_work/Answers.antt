@@ -7,14 +7,16 @@ use Rattle.node_core.proofs.node.Core.reserve_work.Goals as goal
 
 pub invariant_of-self : goal.invariant_of-self
 invariant_of-self g c = (
-  stays-sound (g.S.Staging.areas c.self.inside.held.staging) (g.S.Staging.areas c.reserve_work.new.self.staging) c.self.inside.held.ready c.reserve_work.new.self.ready
+  stays-sound (g.S.Staging.areas c.self.inside.held.staging) (g.S.Staging.areas c.reserve_work.new.self.staging)
+      c.self.inside.held.ready c.reserve_work.new.self.ready
       c.reserve_work.ensures.state c.self.invariant.0 c.reserve_work.ensures.reserves.stands,
   c.reserve_work.ensures.fit,
 )
 
 pub returns-clause-node : goal.returns-clause-node
 returns-clause-node g c =
-    stays-node (g.S.Staging.areas c.self.inside.held.staging) (g.S.Staging.areas c.reserve_work.new.self.staging) c.self.inside.held.ready c.reserve_work.new.self.ready
+    stays-node (g.S.Staging.areas c.self.inside.held.staging) (g.S.Staging.areas c.reserve_work.new.self.staging)
+    c.self.inside.held.ready c.reserve_work.new.self.ready
     c.reserve_work.ensures.state c.self.invariant.0 c.reserve_work.ensures.reserves.stands
     ∙ ap (λ v. node_of v.held) c.self.view_is
 
@@ -28,4 +30,5 @@ pub returns-clause-reserves : goal.returns-clause-reserves
 returns-clause-reserves g c =
     subst (λ (v : Owning _). Reserves g.S.Staging.obeys g.S.Staging.areas v.held.state
     (Copies v.held.areas v.held.state) (λ held. IsReservedWork (over held c.reserve_work.new.self.ready))
-    (end_by c.reserve_work.result) v.staging c.reserve_work.new.self.staging) c.self.view_is c.reserve_work.ensures.reserves
+    (end_by c.reserve_work.result) v.staging c.reserve_work.new.self.staging) c.self.view_is
+    c.reserve_work.ensures.reserves

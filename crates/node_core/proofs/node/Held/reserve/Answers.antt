@@ -15,7 +15,8 @@ returns-then-is_some-clause-reserves g c =
 pub returns-in_err-prepared-clause-reserves : goal.returns-in_err-prepared-clause-reserves
 returns-in_err-prepared-clause-reserves g c =
     failed-reserves _ _ c.from_residual.ensures.1
-    (reserves-same (λ a s. BringsNew s c.args.client c.args.call.now) (λ a s. Brings s c.args.client c.args.no c.args.call.now)
+    (reserves-same (λ a s. BringsNew s c.args.client c.args.call.now) (λ a s. Brings s c.args.client c.args.no
+    c.args.call.now)
     (λ i. ((c.self.view_is i).staging, (c.self.view_is i).ready.state))
     (brings-new c.args.self.now.ready.state c.args.client c.args.no c.args.call.now (sym (c.repeated.ensures.repeat
     ∙ ap (λ h. repeat_of c.args.no (slice_index_or h.ready.state.last c.args.client None)) c.self.view_is)
@@ -23,7 +24,8 @@ returns-in_err-prepared-clause-reserves g c =
 
 pub returns-clause-reserves : goal.returns-clause-reserves
 returns-clause-reserves g c =
-    reserves-same (λ a s. BringsNew s c.args.client c.args.call.now) (λ a s. Brings s c.args.client c.args.no c.args.call.now)
+    reserves-same (λ a s. BringsNew s c.args.client c.args.call.now) (λ a s. Brings s c.args.client c.args.no
+    c.args.call.now)
     (λ i. ((c.self.view_is i).staging, (c.self.view_is i).ready.state))
     (brings-new c.args.self.now.ready.state c.args.client c.args.no c.args.call.now (sym (c.repeated.ensures.repeat
     ∙ ap (λ h. repeat_of c.args.no (slice_index_or h.ready.state.last c.args.client None)) c.self.view_is)

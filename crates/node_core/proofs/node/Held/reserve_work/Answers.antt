@@ -8,7 +8,8 @@ use Rattle.node_core.proofs.node.Held.reserve_work.Goals as goal
 
 pub returns-in_ok-prepared-in-Processing-clause-reserves : goal.returns-in_ok-prepared-in-Processing-clause-reserves
 returns-in_ok-prepared-in-Processing-clause-reserves g c =
-    reserves-same (λ a s. Copies (g.S.Staging.areas a) s) (λ a s. Copies (g.S.Staging.areas a) s) (λ i. ((c.self.view_is i).staging, (c.self.view_is i).ready.state))
+    reserves-same (λ a s. Copies (g.S.Staging.areas a) s) (λ a s. Copies (g.S.Staging.areas a) s)
+    (λ i. ((c.self.view_is i).staging, (c.self.view_is i).ready.state))
     (λ step brought. brought) (λ held ready. ready) c.in_ok-prepared-in-Processing.ensures.reserves
 
 pub returns-in_err-prepared-in-Processing-clause-reserves : goal.returns-in_err-prepared-in-Processing-clause-reserves
@@ -24,7 +25,8 @@ returns-in_ok-reserve_clusters-in_default g c =
     let own = c.requires.sound in
     record {
       state = c.in_ok-reserve_clusters-in_default.ensures.state;
-      reserves = nothing-reserves g.S.Staging.obeys g.S.Staging.areas self.ready.state _ _ (Ok tt) self.staging (λ end. tt)
+      reserves =
+          nothing-reserves g.S.Staging.obeys g.S.Staging.areas self.ready.state _ _ (Ok tt) self.staging (λ end. tt)
           (sound-stands (over (g.S.Staging.areas self.staging) self.ready) own)
           (λ ok held fit stand. c.in_ok-reserve_clusters-in_default.ensures.ready (λ busy. c.in_default.not-Processing
           ((λ i. (c.self-inside.view_is i).0.1.0.state.status) ∙ (λ i. (c.self.view_is i).ready.state.status) ∙ busy))
@@ -42,7 +44,8 @@ returns-in_err-reserve_clusters-in_default g c =
     record { fit = own.fit; order = own.order; copied = own.copied } in
     record {
       state = c.in_err-reserve_clusters-in_default.ensures.state;
-      reserves = reads-handed g.S.Staging.obeys g.S.Staging.areas OutOfMemory _ c.from_residual-in_err-reserve_clusters-in_default.ensures.1
+      reserves = reads-handed g.S.Staging.obeys g.S.Staging.areas OutOfMemory _
+          c.from_residual-in_err-reserve_clusters-in_default.ensures.1
           (λ end. tt) plain (reads-none _ _ _) refl;
       fit = c.requires.fit;
       cause = λ is.

@@ -10,5 +10,6 @@ block-requires c = record {
 
 pub returns : goal.returns
 returns c =
-    block-made (within c.state.view_is c.self.view_is) c.args.client c.block.result c.block.new.transfers c.args.id c.args.counter c.args.block.now
+    block-made (within c.state.view_is c.self.view_is) c.args.client c.block.result c.block.new.transfers c.args.id
+    c.args.counter c.args.block.now
     c.requires.accepted c.block.ensures.reply c.block.ensures.table
