@@ -1,6 +1,6 @@
 //! How bytes are read.
 use event_codec::{
-    put_event, put_fold, put_record, put_state, take_event, take_fold, take_record, take_state,
+    event_bytes, fold_bytes, put_record, put_state, take_event, take_fold, take_record, take_state,
 };
 use std::alloc::{AllocError, Global};
 
@@ -58,12 +58,12 @@ fn put_again(alloc: Global, kind: Kind, bytes: &[u8]) -> Result<Option<Vec<u8>>,
             None => return Ok(None),
         },
         Kind::Event => match take_event(alloc, bytes)? {
-            Some(event) => put_event(alloc, &mut again, &event)?,
+            Some(event) => again = event_bytes(alloc, &event)?,
             None => return Ok(None),
         },
         Kind::Fold => match take_fold(alloc, bytes)? {
             Some(fold) if fold.earlier.as_slice().len() <= MOST_EARLIER => {
-                put_fold(alloc, &mut again, &fold)?
+                again = fold_bytes(alloc, &fold)?
             }
             _ => return Ok(None),
         },

@@ -22,7 +22,7 @@ const FIRST_TWO: NodeSet = NodeSet {
 };
 
 /// More bytes than a write of an event has.
-const ALL: u64 = 1_000;
+const ALL: u64 = 16;
 
 /// Formatting aside, an event makes two writes and two syncs: its body, which never decides, and its gate, a byte: it
 /// stands where that is kept or torn to ones.
@@ -35,23 +35,20 @@ pub fn print<R: Print + AllocGlobal>(rt: &R) -> io::Result<()> {
     };
     println!(rt; "events of a list of nodes 1 and 2:")?;
     print_answers(rt, rt.alloc(), &mut log, &of_two(second))?;
-    let events = of_one(first);
+    let events = of_one(first, 7);
     println!(rt;
-        "a list of node 1, stopped at the body and the gate of Begin, of the decision and of Enter:"
+        "a list of node 1, stopped at the body and the gate of Start, Begin, the decision and Enter:"
     )?;
-    for count in [2usize, 7, 9] {
-        print_stops(rt, &events[..count])?;
+    for count in [1usize, 2, 7, 9] {
+        print_stops(rt, &events[..count], &events)?;
     }
-    println!(rt; "the decision where a call fails:")?;
-    for (kind, call) in [
-        (FailKind::Write, 13u64),
-        (FailKind::Sync, 13),
-        (FailKind::Write, 14),
-        (FailKind::Sync, 14),
-    ] {
-        let plan = failing_at(rt.alloc(), kind, call);
-        let left = left_under(rt.alloc(), Tear::Keep, plan, &events[..7]);
-        println!(rt; "fail {kind:?} {call}: {left:?}")?;
+    println!(rt; "a list of node 1 where a call fails:")?;
+    for kind in [FailKind::Write, FailKind::Sync] {
+        for call in 1..=18u64 {
+            let plan = failing_at(rt.alloc(), kind, call);
+            let left = left_under(rt.alloc(), Tear::Keep, plan, &events, &events);
+            println!(rt; "fail {kind:?} {call}: {left:?}")?;
+        }
     }
     Ok(())
 }
@@ -79,19 +76,42 @@ fn print_answers<D: Disk, R: Print>(
     println!(rt; "{} added", log.count())
 }
 
-/// Stops the last of these events at each of its writes, with nothing, a byte and all kept, over each tear.
-fn print_stops<R: Print + AllocGlobal>(rt: &R, events: &[MasterEvent]) -> io::Result<()> {
-    let gate = (events.len() as u64).saturating_mul(2);
+/// Stops the last of the first events at each of its writes, over each tear, with each count of bytes kept.
+fn print_stops<R: Print + AllocGlobal>(
+    rt: &R,
+    first: &[MasterEvent],
+    events: &[MasterEvent],
+) -> io::Result<()> {
+    let gate = (first.len() as u64).saturating_mul(2);
     for write in [gate.saturating_sub(1), gate] {
-        for keep in [0u64, 1, ALL] {
-            for tear in [Tear::Keep, Tear::Old, Tear::Ones] {
-                let plan = stopped_at(rt.alloc(), write, keep);
-                let left = left_under(rt.alloc(), tear, plan, events);
-                println!(rt; "stop {write} keep {keep} tear {tear:?}: {left:?}")?;
-            }
+        for tear in [Tear::Keep, Tear::Old, Tear::Ones] {
+            print_kept(rt, write, tear, first, events)?;
         }
     }
     Ok(())
+}
+
+/// The same at one write and over one tear: a line for all counts of bytes kept that leave the same.
+fn print_kept<R: Print + AllocGlobal>(
+    rt: &R,
+    write: u64,
+    tear: Tear,
+    first: &[MasterEvent],
+    events: &[MasterEvent],
+) -> io::Result<()> {
+    let mut from = 0u64;
+    let plan = stopped_at(rt.alloc(), write, 0);
+    let mut left = left_under(rt.alloc(), tear, plan, first, events);
+    for keep in 1..=ALL {
+        let plan = stopped_at(rt.alloc(), write, keep);
+        let next = left_under(rt.alloc(), tear, plan, first, events);
+        if next != left {
+            println!(rt; "stop {write} tear {tear:?} keep {from} up: {left:?}")?;
+            from = keep;
+            left = next;
+        }
+    }
+    println!(rt; "stop {write} tear {tear:?} keep {from} up: {left:?}")
 }
 
 /// The plan in which one write is stopped and keeps so many bytes.
@@ -115,10 +135,11 @@ fn left_under(
     alloc: Global,
     tear: Tear,
     plan: Result<FaultPlan, AllocError>,
+    first: &[MasterEvent],
     events: &[MasterEvent],
 ) -> Result<Left, TryError> {
     let plan = plan?;
-    try_events(alloc, tear, &plan, events)
+    try_events(alloc, tear, &plan, first, events)
 }
 
 /// Events of nodes 1 and 2 with their names, allowed and not.
@@ -151,8 +172,8 @@ fn of_two(second: NodeId) -> [(&'static str, MasterEvent); 9] {
     ]
 }
 
-/// A campaign of node 1 that is successful.
-fn of_one(node: NodeId) -> [MasterEvent; 9] {
+/// A campaign of node 1 that is successful, behind a first Start.
+pub fn of_one(node: NodeId, campaign: u32) -> [MasterEvent; 9] {
     let named = FIRST;
     let vote = Vote::Yes;
     let decision = Decision::Commit;
@@ -160,7 +181,7 @@ fn of_one(node: NodeId) -> [MasterEvent; 9] {
     let result = CampaignResult::Successful;
     [
         MasterEvent::Start { epoch: 1 },
-        MasterEvent::Begin { campaign: 7, named },
+        MasterEvent::Begin { campaign, named },
         MasterEvent::PhaseTo {
             phase: Phase::Transferring,
         },

@@ -1,11 +1,11 @@
 //! A master's list under a plan.
-ghost use Rattle.std.specs.Prelude.{◌≡◌, ◌≤◌, ◌+◌, None, IfOk};
+ghost use Rattle.std.specs.Prelude.{◌≡◌, ◌≤◌, ◌+◌, None, IfOk, OnOk};
 ghost use Rattle.disk_core.specs.Plans.{no_faults};
 ghost use Rattle.checkpoint.specs.Halves.{layout_of};
 ghost use Rattle.decision_log.specs.Known.{IsKnown};
 ghost use Rattle.log_tries.specs.declared.tries.TryError.TheVariants.{Memory as no_memory};
 
-use campaign_core::{CampaignState, Decision, MasterEvent};
+use campaign_core::{CampaignState, CampaignView, Decision, MasterEvent};
 use decision_log::{AddAnswer, MasterLog, MasterRevived};
 use disk_core::{Disk, FaultPlan};
 use disk_mem::{MemDisk, Tear};
@@ -24,14 +24,16 @@ pub enum Settled {
 }
 
 /// What is left.
-#[derive(Debug, Drop)]
+#[derive(Clone, Copy, Debug, PartialEq, Eq, Drop)]
 pub struct Left {
     pub revived: Settled,
     /// How many events the list had then.
     pub count: u64,
-    /// The state and the decision that its disk showed, opened again.
+    /// The state and the decision that its disk showed, opened again behind one event more.
     pub state: CampaignState,
     pub decision: Option<Decision>,
+    /// How many events the list had at last.
+    pub all: u64,
 }
 
 /// Why nothing was tried.
@@ -54,31 +56,66 @@ impl From<AllocError> for TryError {
     }
 }
 
-/// Makes a list on a fresh disk, arms the disk, adds the events up to the first that isn't added, revives the list, and
-/// opens its disk again. Each event makes two writes and two syncs.
+/// Makes a list on a fresh disk, arms the disk, adds the first events up to the one that isn't added, and revives the
+/// list. Of all events it then adds one that the list hasn't, opens its disk again, and adds those that are left. Each
+/// event makes two writes and two syncs.
 pub fn try_events(
     alloc: Global,
     tear: Tear,
     plan: &FaultPlan,
+    first: &[MasterEvent],
     events: &[MasterEvent],
 ) -> Result<Left, TryError> {
     let mut log = fresh(alloc, tear)?;
     log.arm(plan)?;
-    add_events(&mut log, alloc, events);
-    let revived = match log.revive(alloc) {
-        Ok(MasterRevived::Stood { event: _ }) => Settled::Stood,
-        Ok(MasterRevived::Lost) => Settled::Lost,
-        Ok(MasterRevived::Nothing) => Settled::Nothing,
-        Err(_) => return Err(TryError::Revive),
-    };
+    add_events(&mut log, alloc, first);
+    let revived = settle(&mut log, alloc)?;
     let count = log.count();
-    let (state, decision) = opened_again(alloc, log)?;
+    let rest = behind(events, count);
+    let (next, others) = rest.split_at(rest.len().min(1));
+    add_events(&mut log, alloc, next);
+    settle(&mut log, alloc)?;
+    let before = log.count();
+    let mut again = opened_again(alloc, log)?;
+    let state = again.state();
+    let decision = decision_of(&again.view());
+    add_events(&mut again, alloc, others);
     Ok(Left {
         revived,
         count,
         state,
         decision,
+        all: before.saturating_add(again.count()),
     })
+}
+
+/// The events behind the first `count` of these.
+fn behind(events: &[MasterEvent], count: u64) -> &[MasterEvent] {
+    let place = count.min(events.len() as u64);
+    &events[place as usize..]
+}
+
+fn decision_of(view: &CampaignView) -> Option<Decision> {
+    match view.current {
+        Some(current) => current.decision,
+        None => None,
+    }
+}
+
+/// Revives the list, where an event is pending.
+pub fn settle<D: Disk>(log: &mut MasterLog<D>, alloc: Global) -> Result<Settled, TryError>
+    requires known { IsKnown log.old.log log.old.campaign.fold log.old.pending
+        (D.seen log.old.disk) (D.images log.old.disk) }
+    ensures known { IsKnown log.new.log log.new.campaign.fold log.new.pending
+        (D.seen log.new.disk) (D.images log.new.disk) }
+    ensures open { OnOk result (log.new.pending ≡ None) }
+{
+    match log.revive(alloc) {
+        Ok(MasterRevived::Stood { event: _ }) => Ok(Settled::Stood),
+        Ok(MasterRevived::Lost) => Ok(Settled::Lost),
+        Ok(MasterRevived::Nothing) => Ok(Settled::Nothing),
+        Err(_) => Err(TryError::Revive),
+    }
 }
 
 /// An empty list on a fresh disk of two halves.
@@ -108,7 +145,7 @@ fn formatted(alloc: Global, size: u64, tear: Tear) -> Result<MasterLog<MemDisk>,
 }
 
 /// Adds the events, up to the first that isn't added.
-fn add_events<D: Disk>(log: &mut MasterLog<D>, alloc: Global, events: &[MasterEvent])
+pub fn add_events<D: Disk>(log: &mut MasterLog<D>, alloc: Global, events: &[MasterEvent])
     requires known { IsKnown log.old.log log.old.campaign.fold log.old.pending
         (D.seen log.old.disk) (D.images log.old.disk) }
     requires open { log.old.pending ≡ None }
@@ -122,23 +159,20 @@ fn add_events<D: Disk>(log: &mut MasterLog<D>, alloc: Global, events: &[MasterEv
     }
 }
 
-/// The state and the decision that an open list's disk shows when it is opened again.
-fn opened_again<D: Disk + Drop>(
+/// The list that an open list's disk shows when it is opened again.
+pub fn opened_again<D: Disk + Drop>(
     alloc: Global,
     log: MasterLog<D>,
-) -> Result<(CampaignState, Option<Decision>), TryError>
+) -> Result<MasterLog<D>, TryError>
     requires known { IsKnown log.log log.campaign.fold log.pending
         (D.seen log.disk) (D.images log.disk) }
     requires open { log.pending ≡ None }
+    ensures known { IfOk result (λ again. IsKnown again.log again.campaign.fold again.pending
+        (D.seen again.disk) (D.images again.disk)) }
+    ensures open { IfOk result (λ again. again.pending ≡ None) }
 {
     match MasterLog::open(alloc, log.close()) {
-        Ok(again) => {
-            let decision = match again.view().current {
-                Some(current) => current.decision,
-                None => None,
-            };
-            Ok((again.state(), decision))
-        }
+        Ok(again) => Ok(again),
         Err((_disk, _error)) => Err(TryError::Open),
     }
 }
