@@ -1,0 +1,5 @@
+pub mod Arriving
+pub mod Sent
+pub mod Sending
+pub mod Turning
+pub mod Turned

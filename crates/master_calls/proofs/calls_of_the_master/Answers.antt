@@ -1,0 +1,11 @@
+use Rattle.master_calls.proofs.Arriving.{arrivals-keep}
+use Rattle.master_calls.proofs.Turned.{calls-go}
+use Rattle.master_calls.proofs.calls_of_the_master.Goals as goal
+
+pub returns : goal.returns
+returns c =
+    let law = c.driver_law.ensures in
+    record {
+      arrivals = arrivals-keep;
+      turns = calls-go law.allowed law.numbered law.turns law.messages;
+    }
