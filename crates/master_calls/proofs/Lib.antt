@@ -3,3 +3,4 @@ pub mod Sent
 pub mod Sending
 pub mod Turning
 pub mod Turned
+pub mod Ended

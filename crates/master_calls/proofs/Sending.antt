@@ -23,7 +23,7 @@ use Rattle.sub_core.specs.declared.answers.SendStep.{SendStep}
 use Rattle.sub_core.specs.declared.answers.Todo.{Todo}
 use Rattle.sub_core.specs.declared.progress.Progress.{Progress}
 use Rattle.sub_core.specs.Calls.{step_bytes}
-use Rattle.sub_core.specs.Driving.{after_send, after_todo, after_unit, begun, begun_at, has_number, is_answer, progress_after, settled_after, status_of, step, todo, unanswered, unanswered_at, IsBeforeEnd}
+use Rattle.sub_core.specs.Driving.{after_send, after_todo, after_unit, begun, begun_at, has_number, is_answer, progress_after, settled_after, status_of, step, todo, unanswered, unanswered_at, CanBegin, IsBeforeEnd}
 use Rattle.sub_core.specs.Given.{AreGiven, Begun, Gave, GaveNothing, Given, IsTask, Task, after, attempts, given, is_asked, is_ending, message_of, reply_got, sent_of, told_of, with_answer, with_none}
 use Rattle.sub_core.specs.Sends.{AreEarlier, AreNumbered, IsAgain, IsAtEnd, IsInRound, IsMasters, IsNew, SendsAreAllowed, SendsAreNumbered, decision_of, phase_of}
 use Rattle.sub_core.specs.States.{DriverState}
@@ -35,46 +35,39 @@ use Rattle.master_calls.specs.Laws.{IsToldTo}
 record Keeps (d x : DriverState) : Type 0 where
   campaign : x.campaign ≡ d.campaign
   round : x.round ≡ d.round
-  ending : is_ending d.progress ≡ true → is_ending x.progress ≡ true
+  ending : is_ending x.progress ≡ is_ending d.progress
 
 same : (d : DriverState) → Keeps d d
-same d = record { campaign = refl; round = refl; ending = (λ e. e) }
+same d = record { campaign = refl; round = refl; ending = refl }
 
 either : (b : Bool) (d x y : DriverState) → Keeps d x → Keeps d y → Keeps d (if b then x else y)
 either true d x y h g = h
 either false d x y h g = g
 
-replies-late : (d : DriverState) (p : Progress) (reply : Reply) → is_ending p ≡ true
-    → is_ending (progress_after d p reply) ≡ true
-replies-late d (Progress.Ending commit at) reply e = refl
-replies-late d Progress.Sync reply e = absurd (cc e)
-replies-late d Progress.Transfer reply e = absurd (cc e)
-replies-late d (Progress.Data id counter left) reply e = absurd (cc e)
-replies-late d (Progress.Process taken settled) reply e = absurd (cc e)
-replies-late d Progress.Activating reply e = absurd (cc e)
-replies-late d (Progress.Voted finding) reply e = absurd (cc e)
+replies-keep : (d : DriverState) (p : Progress) (reply : Reply) → is_ending (progress_after d p reply) ≡ is_ending p
+replies-keep d (Progress.Ending commit at) reply = refl
+replies-keep d Progress.Sync reply = grind arith
+replies-keep d Progress.Transfer reply = grind arith
+replies-keep d (Progress.Data id counter left) reply = grind arith
+replies-keep d (Progress.Process taken settled) reply = grind arith
+replies-keep d Progress.Activating reply = grind arith
+replies-keep d (Progress.Voted finding) reply = grind arith
 
-settles-late : (p : Progress) (status : Status) → is_ending p ≡ true → is_ending (settled_after p status) ≡ true
-settles-late (Progress.Ending commit at) status e = refl
-settles-late Progress.Sync status e = absurd (cc e)
-settles-late Progress.Transfer status e = absurd (cc e)
-settles-late (Progress.Data id counter left) status e = absurd (cc e)
-settles-late (Progress.Process taken settled) status e = absurd (cc e)
-settles-late Progress.Activating status e = absurd (cc e)
-settles-late (Progress.Voted finding) status e = absurd (cc e)
+settles-keep : (p : Progress) (status : Status) → is_ending (settled_after p status) ≡ is_ending p
+settles-keep p status = grind arith
 
 send-keeps : (asked : SendStep) (got : Got) (d : DriverState) → Keeps d (after_send asked got d)
 send-keeps asked (Got.Replied reply) d = either (is_answer asked reply) d _ _
-    (record { campaign = refl; round = refl; ending = replies-late d d.progress reply })
-    (record { campaign = refl; round = refl; ending = (λ e. e) })
-send-keeps asked (Got.UnitOf unit) d = record { campaign = refl; round = refl; ending = (λ e. e) }
-send-keeps asked (Got.Miss losses faults) d = record { campaign = refl; round = refl; ending = (λ e. e) }
+    (record { campaign = refl; round = refl; ending = replies-keep d d.progress reply })
+    (record { campaign = refl; round = refl; ending = refl })
+send-keeps asked (Got.UnitOf unit) d = record { campaign = refl; round = refl; ending = refl }
+send-keeps asked (Got.Miss losses faults) d = record { campaign = refl; round = refl; ending = refl }
 
 unit-keeps : (got : Got) (d : DriverState) → Keeps d (after_unit got d)
 unit-keeps (Got.Replied reply) d = same d
 unit-keeps (Got.UnitOf unit) d =
-    record { campaign = refl; round = refl; ending = settles-late d.progress (status_of unit) }
-unit-keeps (Got.Miss losses faults) d = record { campaign = refl; round = refl; ending = (λ e. e) }
+    record { campaign = refl; round = refl; ending = settles-keep d.progress (status_of unit) }
+unit-keeps (Got.Miss losses faults) d = record { campaign = refl; round = refl; ending = refl }
 
 todo-keeps : (t : Todo) (got : Got) (d : DriverState) → Keeps d (after_todo t got d)
 todo-keeps (Todo.Send call_no asked) got d = send-keeps asked got d
@@ -82,7 +75,7 @@ todo-keeps Todo.Unit got d = unit-keeps got d
 todo-keeps (Todo.Rest finding) got d = same d
 
 none-keeps : (t : Todo) (d : DriverState) → Keeps d (unanswered_at t d)
-none-keeps (Todo.Send call_no asked) d = record { campaign = refl; round = refl; ending = (λ e. e) }
+none-keeps (Todo.Send call_no asked) d = record { campaign = refl; round = refl; ending = refl }
 none-keeps Todo.Unit d = same d
 none-keeps (Todo.Rest finding) d = same d
 
@@ -91,6 +84,12 @@ step-keeps got d = either (has_number d) d _ _ (todo-keeps (todo d) got d) (same
 
 nothing-keeps : (d : DriverState) → Keeps d (unanswered d)
 nothing-keeps d = either (has_number d) d _ _ (none-keeps (todo d) d) (same d)
+
+pub step-round : (got : Got) (d : DriverState) → (step got d).round ≡ d.round
+step-round got d = (step-keeps got d).round
+
+pub nothing-round : (d : DriverState) → (unanswered d).round ≡ d.round
+nothing-round d = (nothing-keeps d).round
 
 -- a driver is of its task's campaign
 pub same-campaign : (task : Task) (gs : List Given) → (after task gs).campaign ≡ task.campaign
@@ -117,9 +116,38 @@ goes-late task [] r e end = absurd (cc e)
 goes-late task (Begun round ∷ gs) r e end =
     let one : round ≡ r = cc e in begins-late round (after task gs).progress (subst IsEndRound (sym one) end)
 goes-late task (Gave got ∷ gs) r e end =
-    let kept = step-keeps got (after task gs) in kept.ending (goes-late task gs r (sym kept.round ∙ e) end)
+    let kept = step-keeps got (after task gs) in kept.ending ∙ goes-late task gs r (sym kept.round ∙ e) end
 goes-late task (GaveNothing ∷ gs) r e end =
-    let kept = nothing-keeps (after task gs) in kept.ending (goes-late task gs r (sym kept.round ∙ e) end)
+    let kept = nothing-keeps (after task gs) in kept.ending ∙ goes-late task gs r (sym kept.round ∙ e) end
+
+-- before a round begins that isn't the end's, there was no end
+pub before-round : (round : Round) (d : DriverState) → CanBegin round d → IsBeforeEnd d.round
+before-round Round.Sync d can = subst IsBeforeEnd (sym can) tt
+before-round Round.Transfer d can = subst IsBeforeEnd (sym can.round) tt
+before-round Round.Process d can = subst IsBeforeEnd (sym can.round) tt
+before-round Round.Activate d can = subst IsBeforeEnd (sym can.round) tt
+before-round (Round.End commit) d can = can
+
+begins-early : (round : Round) (p : Progress) → IsBeforeEnd (Some round) → is_ending (begun_at round p) ≡ is_ending p
+begins-early Round.Sync p is = refl
+begins-early Round.Transfer p is = refl
+begins-early Round.Process p is = refl
+begins-early Round.Activate p is = refl
+begins-early (Round.End commit) p is = absurd is
+
+-- and before it the driver doesn't go to its end
+pub goes-early : (task : Task) (gs : List Given) → AreGiven task gs → IsBeforeEnd (after task gs).round
+    → is_ending (after task gs).progress ≡ false
+goes-early task [] are is = refl
+goes-early task (Begun round ∷ gs) are is =
+    begins-early round (after task gs).progress is
+    ∙ goes-early task gs are.1 (before-round round (after task gs) are.0)
+goes-early task (Gave got ∷ gs) are is =
+    let kept = step-keeps got (after task gs) in
+    kept.ending ∙ goes-early task gs are.1 (subst IsBeforeEnd kept.round is)
+goes-early task (GaveNothing ∷ gs) are is =
+    let kept = nothing-keeps (after task gs) in
+    kept.ending ∙ goes-early task gs are.1 (subst IsBeforeEnd kept.round is)
 
 -- the campaign as it may be while a driver goes through a round
 abbrev decision_in : Round → Option Decision
@@ -298,22 +326,27 @@ module _ (allowed : SendsAreAllowed) (numbered : SendsAreNumbered) (lent : List 
           let same : n ≡ m = cc again.newest in
           Again older (ap (λ (x : Message). x ∷ older) same) again.pending
 
+  -- a message of the round that goes on
+  pub record IsTimely (gs : List Given) (round : Round) (m : Message) : Type 0 where
+    pub in_round : (after task gs).round ≡ Some round
+    pub decided : m.decided ≡ is_ending (after task gs).progress
+
   -- what was told and sent goes on in one of these ways
   pub data Goes (g : Given) (gs : List Given) (told : List Told) (sent : List Message) : Type 0 where
     Stays : told ≡ told_of lent task gs → sent ≡ sent_of lent task gs → Goes g gs told sent
     Shows : (status : Status) → told ≡ Showed status ∷ told_of lent task gs → sent ≡ sent_of lent task gs
         → Goes g gs told sent
-    Sends : (round : Round) (m : Message) → (IsEndRound round → m.decided ≡ true)
+    Sends : (round : Round) (m : Message) → IsTimely gs round m
         → MaySendNow round m (told_of lent task gs) (sent_of lent task gs) → told ≡ told_of lent task gs
         → sent ≡ with_sent m (sent_of lent task gs) → Goes g gs told sent
-    Answers : (round : Round) (m : Message) (reply : Reply) → (IsEndRound round → m.decided ≡ true)
+    Answers : (round : Round) (m : Message) (reply : Reply) → IsTimely gs round m
         → MaySendNow round m (told_of lent task gs) (sent_of lent task gs)
         → told ≡ Answered m reply ∷ told_of lent task gs → sent ≡ with_sent m (sent_of lent task gs)
         → ((known : Known) → IsToldTo (todo (after task gs)) g known → IsAnswered m.at reply known)
         → Goes g gs told sent
 
   by-reply : (g : Given) (gs : List Given) (round : Round) (m : Message) (o : Option Reply)
-      → (IsEndRound round → m.decided ≡ true) → MaySendNow round m (told_of lent task gs) (sent_of lent task gs)
+      → IsTimely gs round m → MaySendNow round m (told_of lent task gs) (sent_of lent task gs)
       → ((reply : Reply) → o ≡ Some reply → (known : Known) → IsToldTo (todo (after task gs)) g known
       → IsAnswered m.at reply known)
       → Goes g gs (told_by (Tried m o ∷ attempts lent task gs)) (with_sent m (sent_of lent task gs))
@@ -338,7 +371,7 @@ module _ (allowed : SendsAreAllowed) (numbered : SendsAreNumbered) (lent : List 
       gave Todo.Unit e (Got.Miss losses faults) round is numbers = Stays refl refl
       gave (Todo.Send call_no asked) e x (r, in_round) is numbers =
           by-reply (Gave got) gs r (message_of lent (after task gs) call_no asked) (reply_got asked x)
-          (goes-late task gs r in_round) (sends-next gs are.1 r in_round call_no asked e numbers)
+          (record { in_round = in_round; decided = refl }) (sends-next gs are.1 r in_round call_no asked e numbers)
           (λ reply got_it known told. is-answer call_no asked x reply known got_it
           (subst (λ t. IsToldTo t (Gave x) known) e (subst (λ y. IsToldTo (todo (after task gs)) (Gave y) known) is told)))
   goes-on GaveNothing gs are =
@@ -353,5 +386,5 @@ module _ (allowed : SendsAreAllowed) (numbered : SendsAreNumbered) (lent : List 
       gave Todo.Unit e round numbers = Stays refl refl
       gave (Todo.Send call_no asked) e (r, in_round) numbers =
           by-reply GaveNothing gs r (message_of lent (after task gs) call_no asked) None
-          (goes-late task gs r in_round) (sends-next gs are.1 r in_round call_no asked e numbers)
+          (record { in_round = in_round; decided = refl }) (sends-next gs are.1 r in_round call_no asked e numbers)
           (λ reply got_it. absurd (cc got_it))

@@ -22,7 +22,7 @@ use Rattle.master_calls.specs.Turn.{HasNumber, InTurn, IsEarly, IsLater, Rounds,
 use Rattle.master_calls.specs.Laws.{CallsGoInTurn, IsToldTo}
 use Rattle.master_calls.proofs.Arriving.{arrivals-keep}
 use Rattle.master_calls.proofs.Sent.{AllDecided, among-split, late-of, none-late, numbers-before}
-use Rattle.master_calls.proofs.Sending.{Goes, Stays, Shows, Sends, Answers, IsEndRound, MaySendNow, goes-on}
+use Rattle.master_calls.proofs.Sending.{Goes, Stays, Shows, Sends, Answers, IsTimely, MaySendNow, goes-late, goes-on}
 use Rattle.master_calls.proofs.Turning.{Adds, Facts, Heads, Repeats, answers-one, begins-one, has-last, has-more, heads, later-are, more-later, other-eq, pending-same, rounds-showed, same-eq}
 
 all-early-below : (epoch first : ℕ) (m : Message) (older : List Message) → AreNumbered epoch first (m ∷ older)
@@ -167,7 +167,7 @@ record Mid (told : List Told) (sent next : List Message) : Type 0 where
   turn : (known : Known) → InTurn (rounds_of told sent) (late_in sent) known
       → InTurn (rounds_of told next) (late_in next) known
 
-decided : (late : List Message) → AllByRecursion IsEndMessage late → AllDecided true late
+pub decided : (late : List Message) → AllByRecursion IsEndMessage late → AllDecided true late
 decided [] all = tt
 decided (m ∷ ms) all = (all.0.0, decided ms all.1)
 
@@ -183,7 +183,7 @@ module _ (allowed : SendsAreAllowed) (numbered : SendsAreNumbered) (turns : Call
   sent gs = sent_of lent task gs
 
   -- messages, numbered, that go on from what was told
-  facts-with : (gs older : List Given) → AreGiven task gs → AreGiven task older
+  pub facts-with : (gs older : List Given) → AreGiven task gs → AreGiven task older
       → sent_early (sent older) ≤ sent_early (sent gs) → Facts task.epoch task.first (told older) (sent gs)
   facts-with gs older are were more =
       let turn = turns lent task older is_task were in
@@ -231,7 +231,7 @@ module _ (allowed : SendsAreAllowed) (numbered : SendsAreNumbered) (turns : Call
           let high = subst (λ s. task.first + length s ≤ at.number) es high in omega (arith, more, high)))
 
   mid : (g : Given) (gs : List Given) → AreGiven task (g ∷ gs) → (round : Round) (m : Message)
-      → (IsEndRound round → m.decided ≡ true) → MaySendNow round m (told gs) (sent gs)
+      → IsTimely allowed numbered lent task is_task gs round m → MaySendNow round m (told gs) (sent gs)
       → sent (g ∷ gs) ≡ with_sent m (sent gs)
       → AllByRecursion (IsEarly (rounds_of (told gs) (sent gs))) (early_in (sent gs))
       → Mid (told gs) (sent gs) (sent (g ∷ gs))
@@ -293,7 +293,8 @@ module _ (allowed : SendsAreAllowed) (numbered : SendsAreNumbered) (turns : Call
                   → (is_told (told gs) n.at ≡ true) × (n.decided ≡ false)
               newest n older is = elim (free n older is) [
                   inl said ↦ (said, undecided)
-                | inr (same, end) ↦ absurd (cc (sym d ∙ late end)) ]
+                | inr (same, end) ↦ absurd (cc (sym d ∙ (late.decided
+                  ∙ goes-late task gs round late.in_round end))) ]
                 where
                   undecided : n.decided ≡ false
                   undecided = (subst (AllDecided false) (ap (λ (s : List Message). m ∷ s) is) all).1.0
@@ -439,7 +440,7 @@ module _ (allowed : SendsAreAllowed) (numbered : SendsAreNumbered) (turns : Call
           (arrives gs gs known after are.1 are.1 (omega arith) all turn
           (subst (λ s. MayCome (posts_in s) known after) es come))
 
-      come-mid : (round : Round) (m : Message) → (IsEndRound round → m.decided ≡ true)
+      come-mid : (round : Round) (m : Message) → IsTimely allowed numbered lent task is_task gs round m
           → MaySendNow round m (told gs) (sent gs) → sent (g ∷ gs) ≡ with_sent m (sent gs)
           → InTurn (rounds_of (told gs) (sent (g ∷ gs))) (late_in (sent (g ∷ gs))) after
       come-mid round m late next es =

@@ -168,7 +168,7 @@ begins-one answered p later known h = record {
     go (Some d) (inl of) = inl of
     go (Some d) (inr (q, reply, none, is, first, ends)) = absurd (cc none)
 
-last-same : (xs ys : List Made) (x y : Made) → xs ++ x ∷ [] ≡ ys ++ y ∷ [] → (xs ≡ ys) × (x ≡ y)
+pub last-same : (xs ys : List Made) (x y : Made) → xs ++ x ∷ [] ≡ ys ++ y ∷ [] → (xs ≡ ys) × (x ≡ y)
 last-same [] [] x y e = (refl, cc e)
 last-same [] (b ∷ bs) x y e = absurd (none-there bs (cc e))
   where

@@ -5,7 +5,7 @@
 //! their order and then calls of the end phase.
 #![tactic(auto)]
 
-ghost use Rattle.master_calls.specs.Laws.{ArrivalsKeepTurn, CallsGoInTurn};
+ghost use Rattle.master_calls.specs.Laws.{ArrivalsKeepTurn, CallsGoInTurn, EndIsAtRest, MessagesFit, MoreMayComeLater, OrderFollows};
 
 use sub_core::driver_law;
 
@@ -13,6 +13,10 @@ use sub_core::driver_law;
 pub fn calls_of_the_master()
     ensures arrivals { ArrivalsKeepTurn }
     ensures turns { CallsGoInTurn }
+    ensures fits { MessagesFit }
+    ensures more { MoreMayComeLater }
+    ensures rest { EndIsAtRest }
+    ensures order { OrderFollows }
 {
     driver_law();
 }

@@ -1,4 +1,5 @@
 use Rattle.master_calls.proofs.Arriving.{arrivals-keep}
+use Rattle.master_calls.proofs.Ended.{at-rest, messages-fit, more-come, order-follows}
 use Rattle.master_calls.proofs.Turned.{calls-go}
 use Rattle.master_calls.proofs.calls_of_the_master.Goals as goal
 
@@ -8,4 +9,8 @@ returns c =
     record {
       arrivals = arrivals-keep;
       turns = calls-go law.allowed law.numbered law.turns law.messages;
+      fits = messages-fit law.allowed law.numbered law.turns law.messages law.rounds;
+      more = more-come;
+      rest = at-rest;
+      order = order-follows law.allowed law.numbered law.turns law.messages law.rounds;
     }
