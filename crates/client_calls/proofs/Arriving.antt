@@ -1,12 +1,11 @@
 -- What arrivals keep.
-use Rattle.std.specs.Prelude.{◌≡◌, ◌⊎◌, ℕ, ⊤, List, [], ◌∷◌, ◌++◌, Option, Some, None}
+use Rattle.std.specs.Prelude.{◌≡◌, ◌⊎◌, List, [], ◌∷◌, ◌++◌, Option, Some, None}
 use Rattle.std.specs.List.{AllByRecursion}
 use Rattle.std.proofs.Common.{refl, sym, ap, subst, ◌∙◌, inl, inr, arith}
 use Rattle.ucm_base.specs.declared.ids.CallNo.{CallNo}
-use Rattle.pm_types.specs.declared.replies.Reply.{Reply}
 use Rattle.sub_core.specs.Made.{Made}
-use Rattle.client_calls.specs.Calls.{AreBelow, IsAnswered, IsBelow, Known, Posted, Rise, Settles, entry_of, nothing_known}
-use Rattle.client_calls.specs.Arrivals.{AreOf, Arrived, IsAmong, IsDoubtOf, IsOf, MayArrive, MayCome, MayEnter}
+use Rattle.client_calls.specs.Calls.{AreBelow, IsAnswered, IsBelow, Known, Posted, Rise, Settles, entry_of}
+use Rattle.client_calls.specs.Arrivals.{AreOf, Arrived, IsAmong, IsDoubtOf, IsOf, MayArrive, MayEnter}
 use Rattle.client_calls.specs.Laws.{AnsweredStays, EntriesArePosted, MoreMayBePosted}
 
 pub below-self : (a : CallNo) → IsBelow a a → ⊥
@@ -44,7 +43,8 @@ settled-of : (posts : List Posted) (mine : List Made) (doubt : Option Made) (set
     → AreOf posts (record { mine = settled; doubt = None })
 settled-of posts mine None settled h is =
     subst (λ ms. AreOf posts (record { mine = ms; doubt = None })) (sym is) h
-settled-of posts mine (Some d) settled h (inl is) = subst (λ ms. AreOf posts (record { mine = ms; doubt = None })) (sym is)
+settled-of posts mine (Some d) settled h (inl is) = subst (λ ms. AreOf posts (record { mine = ms; doubt = None })) (sym
+    is)
     (record { each = h.each; rise = h.rise; doubt = tt })
 settled-of posts mine (Some d) settled h (inr is) =
     subst (λ ms. AreOf posts (record { mine = ms; doubt = None })) (sym is)
@@ -76,9 +76,10 @@ all-of posts (p ∷ ps) known after among h (then, first, rest) =
     all-of posts ps then after among.1 (one-of posts p known then among.0 h first) rest
 
 pub entries-posted : EntriesArePosted
-entries-posted =
-    ((λ posts. record { each = tt; rise = tt; doubt = tt }),
-    (λ posts known after h come. all-of posts come.came known after come.among h come.arrived))
+entries-posted = (
+  (λ posts. record { each = tt; rise = tt; doubt = tt }),
+  (λ posts known after h come. all-of posts come.came known after come.among h come.arrived),
+)
 
 pub among-more : (more posts : List Posted) (p : Posted) → IsAmong p posts → IsAmong p (more ++ posts)
 among-more [] posts p h = h
@@ -116,7 +117,8 @@ among-all P (q ∷ qs) p all (inr h) = among-all P qs p all.1 h
 not-above : (at : CallNo) (older : List Made) (newest : Made) (p : Posted) → newest.at ≡ at
     → (p.at ≡ at) ⊎ IsBelow p.at at → AreBelow (older ++ newest ∷ []) p.at → ⊥
 not-above at older newest p is (inl same) below =
-    below-self at (subst (IsBelow at) same (subst (λ a. IsBelow a p.at) is (last-of (λ m. IsBelow m.at p.at) older newest below)))
+    below-self at (subst (IsBelow at) same (subst (λ a. IsBelow a p.at) is (last-of (λ m. IsBelow m.at p.at) older
+    newest below)))
 not-above at older newest p is (inr low) below =
     not-both p.at at low (subst (λ a. IsBelow a p.at) is (last-of (λ m. IsBelow m.at p.at) older newest below))
 

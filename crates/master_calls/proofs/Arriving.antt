@@ -1,13 +1,12 @@
 -- Arrivals keep the calls in turn.
-use Rattle.std.specs.Prelude.{◌≡◌, ◌⊎◌, ⊤, List, [], ◌∷◌, ◌++◌, Option, Some, None}
+use Rattle.std.specs.Prelude.{◌≡◌, ◌⊎◌, List, [], ◌∷◌, ◌++◌, Option, Some, None}
 use Rattle.std.specs.List.{AllByRecursion}
 use Rattle.std.proofs.Common.{refl, sym, ap, subst, ◌∙◌, inl, inr, arith}
 use Rattle.std.proofs.lemmas.List.{append_assoc, append-nil}
 use Rattle.ucm_base.specs.declared.ids.CallNo.{CallNo}
-use Rattle.pm_types.specs.declared.replies.Reply.{Reply}
 use Rattle.sub_core.specs.Made.{Made}
 use Rattle.client_calls.specs.Calls.{AreBelow, IsBelow, Known, Posted, Settles, entry_of}
-use Rattle.client_calls.specs.Arrivals.{Arrived, IsAmong, IsOf, MayArrive, MayCome, MayEnter}
+use Rattle.client_calls.specs.Arrivals.{Arrived, IsAmong, IsOf, MayArrive, MayEnter}
 use Rattle.client_calls.proofs.Arriving.{all-and, below-self, last-of, among-all, not-both}
 use Rattle.master_calls.specs.Turn.{AreFirst, HasNumber, InTurn, IsDoubtIn, IsEarly, IsLater, Rounds}
 use Rattle.master_calls.specs.Laws.{ArrivalsKeepTurn}
@@ -108,11 +107,15 @@ module _ (rounds : Rounds) (early later : List Posted) (are_early : AllByRecursi
   -- the pending message comes where nothing came after the answered calls
   at-answered : (p : Posted) (first ends : List Made) → rounds.pending ≡ Some p → AreFirst rounds first
       → AllByRecursion (IsOf later) ends → AreBelow (first ++ ends) p.at → (first ≡ rounds.answered) × (ends ≡ [])
-  at-answered p first ends pending (inl is) of below = (is, none-later p ends pending of (last-below first ends p.at below))
+  at-answered p first ends pending (inl is) of below = (
+    is,
+    none-later p ends pending of (last-below first ends p.at
+        below),
+  )
   at-answered p first ends pending (inr (q, reply, same, is)) of below =
       let one : q ≡ p = grind (arith, same, pending) in
       let newest = last-of (λ m. IsBelow m.at p.at) rounds.answered (entry_of q reply)
-          (subst (λ ms. AreBelow ms p.at) is (first-below first ends p.at below)) in
+      (subst (λ ms. AreBelow ms p.at) is (first-below first ends p.at below)) in
       absurd (below-self p.at (subst (λ x. IsBelow x.at p.at) one newest))
 
   pending-enters : (p : Posted) (mine : List Made) (after : Known) → rounds.pending ≡ Some p → Turned mine None

@@ -1,6 +1,6 @@
 -- How the master's calls end, and that they go in order.
-use Rattle.std.specs.Prelude.{◌≡◌, ◌⊎◌, ℕ, zero, suc, ◌+◌, ◌<◌, ◌≤◌, ⊤, Bool, true, false, not, ◌&&◌, ◌||◌, if◌then◌else◌, is_some, IsTrue, List, [], ◌∷◌, ◌++◌, map, length, take, Option, Some, None}
-use Rattle.std.specs.List.{AllByRecursion, list_all, list_any}
+use Rattle.std.specs.Prelude.{◌≡◌, ℕ, zero, suc, ◌+◌, ◌<◌, ◌≤◌, Bool, true, false, ◌&&◌, ◌||◌, if◌then◌else◌, IsTrue, List, [], ◌∷◌, ◌++◌, map, length, take, Option, Some, None}
+use Rattle.std.specs.List.{AllByRecursion, list_all}
 use Rattle.std.proofs.Common.{refl, sym, ap, subst, ◌∙◌, inl, inr, arith}
 use Rattle.std.proofs.lemmas.Bool.{and_parts}
 use Rattle.std.proofs.lemmas.List.{append_assoc, append-nil}
@@ -11,10 +11,10 @@ use Rattle.pm_types.specs.declared.calls.Call.TheVariants.{Sync}
 use Rattle.pm_types.specs.declared.replies.Reply.{Reply}
 use Rattle.campaign_core.specs.declared.events.MasterEvent.{MasterEvent}
 use Rattle.campaign_core.specs.declared.events.Phase.{Phase}
-use Rattle.world.specs.Messages.{Message, Told, Answered, Showed, is_sync, is_told}
+use Rattle.world.specs.Messages.{Message, Told, Answered, is_sync, is_told}
 use Rattle.world.specs.RoundCalls.{round_calls}
 use Rattle.world.specs.Sends.{is_due}
-use Rattle.run_claim.specs.Masters.{GoesInOrder, IsOfRoundsIn, epoch_of_begin, has_decision, has_end, is_later_than, phase_in, shows_begun}
+use Rattle.run_claim.specs.Masters.{GoesInOrder, IsOfRoundsIn, has_decision, has_end, is_later_than, phase_in}
 use Rattle.sub_core.specs.Calls.{step_bytes}
 use Rattle.sub_core.specs.Driving.{IsBeforeEnd}
 use Rattle.sub_core.specs.Given.{AreGiven, Begun, Gave, GaveNothing, Given, IsTask, MayBe, Task, after, given, sent_of, told_of}
@@ -26,10 +26,10 @@ use Rattle.world.specs.Attempts.{with_sent}
 use Rattle.sub_core.specs.Made.{IsOfRounds, Made, calls_in, ends_at_rest, has_none, ids_given, is_end_call, made_early, made_in, made_late, made_of, numbers_from, sent_early, shows_rest}
 use Rattle.sub_core.specs.Sends.{AreNumbered, SendsAreAllowed, SendsAreNumbered}
 use Rattle.sub_core.specs.Turns.{CallsAreInTurn, MessagesAreInTurn, RoundsAreMade}
-use Rattle.client_calls.specs.Calls.{AreBelow, IsAnswered, IsBelow, Known, Posted, entry_of}
+use Rattle.client_calls.specs.Calls.{AreBelow, IsBelow, Known, Posted, entry_of}
 use Rattle.client_calls.specs.Arrivals.{IsOf}
 use Rattle.client_calls.proofs.Arriving.{all-of-more, among-all, below-self, last-of, of-more}
-use Rattle.master_calls.specs.Turn.{AreFirst, InTurn, IsDoubtIn, IsEarly, IsLater, Rounds, early_in, late_in, pending_of, post_of, posts_in, rounds_of}
+use Rattle.master_calls.specs.Turn.{AreFirst, InTurn, IsDoubtIn, IsEarly, IsLater, early_in, late_in, pending_of, post_of, rounds_of}
 use Rattle.master_calls.specs.Laws.{EndIsAtRest, IsOrdered, MessagesFit, MoreMayComeLater, OrderFollows}
 use Rattle.master_calls.proofs.Sent.{AllDecided}
 use Rattle.master_calls.proofs.Sending.{Answers, Goes, IsTimely, Sends, Shows, Stays, before-round, goes-early, goes-on, nothing-round, step-round}
@@ -84,14 +84,14 @@ at-rest rounds later known turn p reply is_later sync unique answered rest =
     go (m ∷ ms) of e =
         let at_end = last-there m ms in
         let same = last-same (turn.first ++ at_end.0) answered.older at_end.1 answered.newest
-            (append_assoc turn.first at_end.0 (at_end.1 ∷ [])
-            ∙ (ap (λ xs. turn.first ++ xs) (sym at_end.2) ∙ e)) in
+        (append_assoc turn.first at_end.0 (at_end.1 ∷ [])
+        ∙ (ap (λ xs. turn.first ++ xs) (sym at_end.2) ∙ e)) in
         let posted = last-of (IsOf later) at_end.0 at_end.1 (subst (AllByRecursion (IsOf later)) at_end.2 of) in
         let number : posted.post.at ≡ p.at =
-            sym posted.number ∙ (ap (λ (x : Made). x.at) same.1 ∙ answered.number) in
+        sym posted.number ∙ (ap (λ (x : Made). x.at) same.1 ∙ answered.number) in
         let call : at_end.1.call ≡ Sync =
-            posted.call ∙ (among-all (λ q. q.at ≡ p.at → q.call ≡ p.call) later posted.post unique posted.among number
-            ∙ sync) in
+        posted.call ∙ (among-all (λ q. q.at ≡ p.at → q.call ≡ p.call) later posted.post unique posted.among number
+        ∙ sync) in
         let shown : at_end.1.reply ≡ reply = ap (λ (x : Made). x.reply) same.1 ∙ answered.answer in
         ap ends_at_rest at_end.2 ∙ ends-with at_end.0 at_end.1 (rw (call, shown) rest)
 
@@ -99,9 +99,10 @@ at-rest rounds later known turn p reply is_later sync unique answered rest =
 below-epoch : (epoch first : ℕ) (made : List Made) (at : CallNo)
     → map (λ m. m.at) made ≡ numbers_from epoch first (length made) → epoch < at.epoch → AreBelow made at
 below-epoch epoch first [] at is above = tt
-below-epoch epoch first (m ∷ ms) at is above =
-    (inl (subst (λ e. e < at.epoch) (sym (ap (λ (a : CallNo). a.epoch) head)) above),
-    below-epoch epoch (first + 1) ms at (cc is) above)
+below-epoch epoch first (m ∷ ms) at is above = (
+  inl (subst (λ e. e < at.epoch) (sym (ap (λ (a : CallNo). a.epoch) head)) above),
+  below-epoch epoch (first + 1) ms at (cc is) above,
+)
   where
     head : m.at ≡ record { epoch = epoch; number = first }
     head = cc is
@@ -153,7 +154,8 @@ made-late : (m : Message) (reply : Reply) (told : List Told) → m.decided ≡ f
 made-late m reply told early none =
     ap (λ b. if b then made_late told ++ made_of m reply ∷ [] else made_late told) early ∙ none
 
-all-with : (m : Message) (ms : List Message) → m.decided ≡ false → AllDecided false ms → AllDecided false (with_sent m ms)
+all-with : (m : Message) (ms : List Message) → m.decided ≡ false → AllDecided false ms → AllDecided false (with_sent m
+    ms)
 all-with m [] early all = (early, tt)
 all-with m (n ∷ ns) early all = go (is_eq (call_no_cmp n.at m.at)) all
   where
@@ -161,7 +163,8 @@ all-with m (n ∷ ns) early all = go (is_eq (call_no_cmp n.at m.at)) all
     go true all = all
     go false all = (early, all)
 
-split-early : (late early ms : List Message) → ms ≡ late ++ early → AllDecided true late → AllDecided false ms → ms ≡ early
+split-early : (late early ms : List Message) → ms ≡ late ++ early → AllDecided true late → AllDecided false ms → ms ≡
+    early
 split-early [] early ms split l all = split
 split-early (n ∷ ns) early ms split l all =
     absurd (cc (sym l.0 ∙ (subst (AllDecided false) split all).0))
@@ -187,7 +190,8 @@ before-given (Begun round) d may is = before-round round d may
 before-given (Gave got) d may is = subst IsBeforeEnd (step-round got d) is
 before-given GaveNothing d may is = subst IsBeforeEnd (nothing-round d) is
 
-module _ (allowed : SendsAreAllowed) (numbered : SendsAreNumbered) (turns : CallsAreInTurn) (messages : MessagesAreInTurn)
+module _ (allowed : SendsAreAllowed) (numbered : SendsAreNumbered) (turns : CallsAreInTurn) (messages :
+    MessagesAreInTurn)
     (rounds : RoundsAreMade) (lent : List (List ℕ)) (task : Task) (is_task : IsTask lent task) where
   abbrev told : List Given → List Told
   told gs = told_of lent task gs
@@ -199,17 +203,18 @@ module _ (allowed : SendsAreAllowed) (numbered : SendsAreNumbered) (turns : Call
       → AllByRecursion (IsEarly (rounds_of (told gs) (sent gs))) (early_in (sent gs))
       × AllByRecursion (IsLater (rounds_of (told gs) (sent gs))) (late_in (sent gs))
       × ((p : Posted) → task.epoch < p.at.epoch → IsLater (rounds_of (told gs) (sent gs)) p)
-  fits gs are =
-      (early-are allowed numbered turns messages lent task is_task gs are,
-      later-are task.epoch task.first (told gs) (sent gs)
-      (facts-with allowed numbered turns messages lent task is_task gs gs are are (omega arith)),
-      (λ p above. record {
-        answered = below-epoch task.epoch task.first (made_early (told gs)) p.at
-            (turns lent task gs is_task are).of_rounds.numbers above;
-        pending = (λ q is. inl (subst (λ e. e < p.at.epoch)
-            (sym (pending-epoch task.epoch task.first (told gs) (sent gs) q (numbered lent task gs is_task are) is))
-            above));
-      }))
+  fits gs are = (
+    early-are allowed numbered turns messages lent task is_task gs are,
+    later-are task.epoch task.first (told gs) (sent gs)
+        (facts-with allowed numbered turns messages lent task is_task gs gs are are (omega arith)),
+    (λ p above. record {
+      answered = below-epoch task.epoch task.first (made_early (told gs)) p.at
+          (turns lent task gs is_task are).of_rounds.numbers above;
+      pending = (λ q is. inl (subst (λ e. e < p.at.epoch)
+          (sym (pending-epoch task.epoch task.first (told gs) (sent gs) q (numbered lent task gs is_task are) is))
+          above));
+    }),
+  )
 
   -- before the end nothing is decided
   undecided : (gs : List Given) → AreGiven task gs → IsBeforeEnd (after task gs).round
@@ -229,11 +234,15 @@ module _ (allowed : SendsAreAllowed) (numbered : SendsAreNumbered) (turns : Call
           → AllDecided false (sent (g ∷ gs)) × (made_late (told (g ∷ gs)) ≡ [])
       go (Stays et es) all = (subst (AllDecided false) (sym es) all.0, ap made_late et ∙ all.1)
       go (Shows status et es) all = (subst (AllDecided false) (sym es) all.0, ap made_late et ∙ all.1)
-      go (Sends round m timely next et es) all =
-          (subst (AllDecided false) (sym es) (all-with m (sent gs) (early round m timely) all.0), ap made_late et ∙ all.1)
-      go (Answers round m reply timely next et es answered) all =
-          (subst (AllDecided false) (sym es) (all-with m (sent gs) (early round m timely) all.0),
-          ap made_late et ∙ made-late m reply (told gs) (early round m timely) all.1)
+      go (Sends round m timely next et es) all = (
+        subst (AllDecided false) (sym es) (all-with m (sent gs) (early round m timely) all.0),
+        ap made_late et ∙
+            all.1,
+      )
+      go (Answers round m reply timely next et es answered) all = (
+        subst (AllDecided false) (sym es) (all-with m (sent gs) (early round m timely) all.0),
+        ap made_late et ∙ made-late m reply (told gs) (early round m timely) all.1,
+      )
 
   -- what is said of the entries of the rounds
   record AreFine (phase : Option Phase) (gs : List Given) (first : List Made) : Type 0 where
@@ -241,14 +250,17 @@ module _ (allowed : SendsAreAllowed) (numbered : SendsAreNumbered) (turns : Call
     within : length first ≤ length (sent gs)
     due : IsTrue (list_all (λ m. is_due phase m.call) first)
 
-  module _ (phase : Option Phase) (gs : List Given) (are : AreGiven task gs) (before : IsBeforeEnd (after task gs).round)
+  module _ (phase : Option Phase) (gs : List Given) (are : AreGiven task gs) (before : IsBeforeEnd (after task
+      gs).round)
       (due : IsTrue (list_all (is_due phase) (calls_in (sent gs)))) where
     -- the calls that were sent are the first of the rounds
     sent-calls : calls_in (sent gs)
-        ≡ take (length (sent gs)) (round_calls task.campaign (ids_given (made_early (told gs))) (step_bytes lent task.steps))
+        ≡ take (length (sent gs)) (round_calls task.campaign (ids_given (made_early (told gs))) (step_bytes lent
+        task.steps))
     sent-calls =
         let ms = messages lent task gs is_task are in
-        let same = split-early ms.late ms.early (sent gs) ms.split (decided ms.late ms.of_end) (undecided gs are before).0 in
+        let same = split-early ms.late ms.early (sent gs) ms.split (decided ms.late ms.of_end) (undecided gs are
+        before).0 in
         ap calls_in same ∙ (ms.calls ∙ ap (λ (l : List Message). take (length l)
         (round_calls task.campaign (ids_given (made_early (told gs))) (step_bytes lent task.steps))) (sym same))
 
@@ -256,8 +268,8 @@ module _ (allowed : SendsAreAllowed) (numbered : SendsAreNumbered) (turns : Call
     answered-fine =
         let turn = turns lent task gs is_task are in
         let few : length (made_early (told gs)) ≤ length (sent gs) =
-            subst (λ n. length (made_early (told gs)) ≤ n) (all-early-count (sent gs) (undecided gs are before).0)
-            turn.within in
+        subst (λ n. length (made_early (told gs)) ≤ n) (all-early-count (sent gs) (undecided gs are before).0)
+        turn.within in
         record {
           of = turn.of_rounds;
           within = few;
@@ -265,7 +277,8 @@ module _ (allowed : SendsAreAllowed) (numbered : SendsAreNumbered) (turns : Call
               ∙ (ap (list_all (is_due phase)) turn.of_rounds.calls
               ∙ list-all-take (is_due phase)
               (round_calls task.campaign (ids_given (made_early (told gs))) (step_bytes lent task.steps))
-              (length (made_early (told gs))) (length (sent gs)) few (sym (ap (list_all (is_due phase)) sent-calls) ∙ due));
+              (length (made_early (told gs))) (length (sent gs)) few (sym (ap (list_all (is_due phase)) sent-calls) ∙
+              due));
         }
 
     pending-fine : (p : Posted) (reply : Reply) → pending_of (told gs) (early_in (sent gs)) ≡ Some p
@@ -280,15 +293,15 @@ module _ (allowed : SendsAreAllowed) (numbered : SendsAreNumbered) (turns : Call
             → AreFine phase gs (made_early (told gs) ++ made_of m reply ∷ [])
         one m older is untold =
             let of = subst (λ ms. IsOfRounds task.campaign task.epoch task.first (step_bytes lent task.steps)
-                (ms ++ made_of m reply ∷ [])) made ((rounds lent task gs is_task are before).1 m older is untold reply) in
+            (ms ++ made_of m reply ∷ [])) made ((rounds lent task gs is_task are before).1 m older is untold reply) in
             let last = last-number task.epoch task.first (made_early (told gs)) (made_of m reply) of.numbers in
             let at = (subst (AreNumbered task.epoch task.first) is (numbered lent task gs is_task are)).0 in
             let number : m.at.number ≡ task.first + length older = ap (λ (a : CallNo). a.number) at in
             let more = length-and (made_early (told gs)) (made_of m reply) in
             let long = ap (λ (l : List Message). length l) is in
             let both = and_parts (list_all (is_due phase) (calls_in older)) (list_all (is_due phase) (m.call ∷ []))
-                (sym (list_all-append (is_due phase) (calls_in older) (m.call ∷ []))
-                ∙ (sym (ap (λ (l : List Message). list_all (is_due phase) (calls_in l)) is) ∙ due)) in
+            (sym (list_all-append (is_due phase) (calls_in older) (m.call ∷ []))
+            ∙ (sym (ap (λ (l : List Message). list_all (is_due phase) (calls_in l)) is) ∙ due)) in
             record {
               of = of;
               within = omega (arith, last, number, more, long);
@@ -314,7 +327,8 @@ module _ (allowed : SendsAreAllowed) (numbered : SendsAreNumbered) (turns : Call
   all-fine : (phase : Option Phase) (gs : List Given) (are : AreGiven task gs) → IsBeforeEnd (after task gs).round
       → IsTrue (list_all (is_due phase) (calls_in (sent gs))) → (first : List Made)
       → AreFirst (rounds_of (told gs) (sent gs)) first → AreFine phase gs first
-  all-fine phase gs are before due first (inl is) = subst (AreFine phase gs) (sym is) (answered-fine phase gs are before due)
+  all-fine phase gs are before due first (inl is) = subst (AreFine phase gs) (sym is) (answered-fine phase gs are
+      before due)
   all-fine phase gs are before due first (inr (p, reply, pending, is)) =
       subst (AreFine phase gs) (sym is) (pending-fine phase gs are before due p reply pending)
 
@@ -339,7 +353,8 @@ module _ (allowed : SendsAreAllowed) (numbered : SendsAreNumbered) (turns : Call
         calls = all-ends (λ at call. is_end_call call) later turn.ends ordered.calls turn.of_later;
         later = subst (λ o. IsTrue (list_all (λ m. is_later_than o (length (sent gs)) list m.at) turn.ends))
             (sym ordered.epoch)
-            (all-ends (λ at call. is_later_than (Some task.epoch) (length (sent gs)) list at) later turn.ends ordered.above
+            (all-ends (λ at call. is_later_than (Some task.epoch) (length (sent gs)) list at) later turn.ends
+            ordered.above
             turn.of_later);
         decided = none-decided (has_decision list) later turn.ends ordered.decided turn.of_later;
         rest = rest;
@@ -349,6 +364,7 @@ pub messages-fit : SendsAreAllowed → SendsAreNumbered → CallsAreInTurn → M
 messages-fit allowed numbered turns messages rounds lent task gs is_task are =
     fits allowed numbered turns messages rounds lent task is_task gs are
 
-pub order-follows : SendsAreAllowed → SendsAreNumbered → CallsAreInTurn → MessagesAreInTurn → RoundsAreMade → OrderFollows
+pub order-follows : SendsAreAllowed → SendsAreNumbered → CallsAreInTurn → MessagesAreInTurn → RoundsAreMade →
+    OrderFollows
 order-follows allowed numbered turns messages rounds n list lent task gs later is_task are ordered known turn rest =
     order allowed numbered turns messages rounds lent task is_task n list gs later are ordered known turn rest

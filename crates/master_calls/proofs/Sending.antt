@@ -1,9 +1,8 @@
 -- What a driver sends.
-use Rattle.std.specs.Prelude.{◌≡◌, ◌⊎◌, ℕ, suc, ◌+◌, ◌-◌, ◌<◌, ◌≤◌, ⊤, Bool, true, false, not, ◌&&◌, ◌||◌, if◌then◌else◌, nat_eq, is_some, List, [], ◌∷◌, ◌++◌, map, length, Option, Some, None}
+use Rattle.std.specs.Prelude.{◌≡◌, ◌⊎◌, ℕ, suc, ◌+◌, ◌-◌, ⊤, Bool, true, false, not, ◌&&◌, ◌||◌, if◌then◌else◌, nat_eq, is_some, List, [], ◌∷◌, ◌++◌, Option, Some, None}
 use Rattle.std.specs.List.{AllByRecursion}
 use Rattle.std.specs.Ordering.{is_eq}
 use Rattle.std.proofs.Common.{refl, sym, ap, subst, ◌∙◌, inl, inr, arith, eq-eqb}
-use Rattle.std.proofs.lemmas.Bool.{and_parts, eqb-true}
 use Rattle.std.proofs.lemmas.Bool.Decides.{nat_tests}
 use Rattle.ucm_base.specs.declared.ids.CallNo.{CallNo}
 use Rattle.pm_types.specs.Steps.{call_no_cmp}
@@ -15,7 +14,7 @@ use Rattle.campaign_core.specs.declared.events.Decision.{Decision}
 use Rattle.campaign_core.specs.declared.fold.Current.{Current}
 use Rattle.world.specs.Messages.{Message, Told, Answered, Showed, is_told}
 use Rattle.world.specs.Attempts.{Tried, sent_by, told_by, with_sent}
-use Rattle.world.specs.Sends.{may_follow, next_number}
+use Rattle.world.specs.Sends.{is_due, may_follow, next_number, MaySendBy}
 use Rattle.world.proofs.EarlyNode.{same-no}
 use Rattle.sub_core.specs.declared.answers.Got.{Got}
 use Rattle.sub_core.specs.declared.answers.Round.{Round}
@@ -23,12 +22,11 @@ use Rattle.sub_core.specs.declared.answers.SendStep.{SendStep}
 use Rattle.sub_core.specs.declared.answers.Todo.{Todo}
 use Rattle.sub_core.specs.declared.progress.Progress.{Progress}
 use Rattle.sub_core.specs.Calls.{step_bytes}
-use Rattle.sub_core.specs.Driving.{after_send, after_todo, after_unit, begun, begun_at, has_number, is_answer, progress_after, settled_after, status_of, step, todo, unanswered, unanswered_at, CanBegin, IsBeforeEnd}
-use Rattle.sub_core.specs.Given.{AreGiven, Begun, Gave, GaveNothing, Given, IsTask, Task, after, attempts, given, is_asked, is_ending, message_of, reply_got, sent_of, told_of, with_answer, with_none}
-use Rattle.sub_core.specs.Sends.{AreEarlier, AreNumbered, IsAgain, IsAtEnd, IsInRound, IsMasters, IsNew, SendsAreAllowed, SendsAreNumbered, decision_of, phase_of}
+use Rattle.sub_core.specs.Driving.{after_send, after_todo, after_unit, begun_at, has_number, is_answer, progress_after, settled_after, status_of, step, todo, unanswered, unanswered_at, CanBegin, IsBeforeEnd}
+use Rattle.sub_core.specs.Given.{AreGiven, Begun, Gave, GaveNothing, Given, IsTask, Task, after, attempts, is_ending, message_of, reply_got, sent_of, told_of, with_answer, with_none}
+use Rattle.sub_core.specs.Sends.{AreEarlier, AreNumbered, IsAgain, IsMasters, IsNew, SendsAreAllowed, SendsAreNumbered, decision_of, phase_of}
 use Rattle.sub_core.specs.States.{DriverState}
 use Rattle.client_calls.specs.Calls.{IsAnswered, Known}
-use Rattle.master_calls.specs.Turn.{post_of}
 use Rattle.master_calls.specs.Laws.{IsToldTo}
 
 -- an answer leaves a driver in its campaign and its round, and at its end
@@ -196,12 +194,17 @@ are-earlier lent task is = record { other = (apart, tt); next = first }
     first : next_number task.epoch (before task ∷ []) ≡ record { epoch = task.epoch; number = task.first }
     first = let low = is.first in grind (arith, nat_tests, low)
 
+-- before the end the call's round has come
+abbrev pub IsDueIn : Round → Message → Type 0
+IsDueIn round m = IsBeforeEnd (Some round) → is_due (phase_of round) m.call ≡ true
+
 -- what is sent is the newest message again, which isn't answered, or a new one behind an answered one, or the first of
 -- the end behind one from before the decision
 pub data MaySendNow (round : Round) (m : Message) (told : List Told) (sent : List Message) : Type 0 where
   Again : (older : List Message) → sent ≡ m ∷ older → is_told told m.at ≡ false → MaySendNow round m told sent
-  First : sent ≡ [] → MaySendNow round m told sent
-  Next : (newest : Message) (older : List Message) → sent ≡ newest ∷ older → with_sent m sent ≡ m ∷ sent
+  First : IsDueIn round m → sent ≡ [] → MaySendNow round m told sent
+  Next : IsDueIn round m → (newest : Message) (older : List Message) → sent ≡ newest ∷ older → with_sent m sent ≡ m ∷
+      sent
       → (is_told told newest.at ≡ true) ⊎ ((newest.decided ≡ false) × IsEndRound round) → MaySendNow round m told sent
 
 all-campaign : (k : ℕ) (m : Message) (sent : List Message) → m.campaign ≡ k → AllByRecursion (λ n. n.campaign ≡ k) sent
@@ -226,6 +229,9 @@ behind : (told decided : Bool) (r : Round) → (told || (not decided && is_some 
 behind true decided r e = inl refl
 behind false true r e = absurd (cc e)
 behind false false r e = inr (refl, end-round r e)
+
+other-campaign : (k : ℕ) → suc k ≡ k → ⊥
+other-campaign k e = omega (arith, e)
 
 -- a next number is another
 not-next : (a b : CallNo) → a ≡ b
@@ -281,7 +287,8 @@ module _ (allowed : SendsAreAllowed) (numbered : SendsAreNumbered) (lent : List 
   -- what is sent next, where the messages with it are numbered
   pub sends-next : (gs : List Given) → AreGiven task gs → (round : Round) → (after task gs).round ≡ Some round
       → (call_no : CallNo) (asked : SendStep) → todo (after task gs) ≡ Todo.Send call_no asked
-      → AreNumbered task.epoch task.first (with_sent (message_of lent (after task gs) call_no asked) (sent_of lent task gs))
+      → AreNumbered task.epoch task.first (with_sent (message_of lent (after task gs) call_no asked) (sent_of lent task
+      gs))
       → MaySendNow round (message_of lent (after task gs) call_no asked) (told_of lent task gs) (sent_of lent task gs)
   sends-next gs are round in_round call_no asked is with_numbers =
       go (sent_of lent task gs) (sent-campaign gs) with_numbers
@@ -298,22 +305,35 @@ module _ (allowed : SendsAreAllowed) (numbered : SendsAreNumbered) (lent : List 
           → (r : Round) → may_follow m.at.epoch (current task r) told (newest ∷ older) ≡ true
           → (is_told told newest.at ≡ true) ⊎ ((newest.decided ≡ false) × IsEndRound r)
       free newest older epoch campaign r follows = behind (is_told told newest.at) newest.decided r
-          (subst (λ b. (not b || (is_told told newest.at || (not newest.decided && is_some (decision_in r)))) ≡ true) (eq-eqb newest.at.epoch m.at.epoch epoch) (subst
+          (subst (λ b. (not b || (is_told told newest.at || (not newest.decided && is_some (decision_in r)))) ≡ true)
+          (eq-eqb newest.at.epoch m.at.epoch epoch) (subst
           (λ b. (not (nat_eq newest.at.epoch m.at.epoch) || (is_told told newest.at || (not b
           || (not newest.decided && is_some (decision_in r))))) ≡ true) (eq-eqb newest.campaign task.campaign campaign)
           follows))
+
+      is-due : (r : Round) (ms : List Message) → MaySendBy (λ k n. step_bytes lent task.steps) m.at.epoch 1 (current
+          task r) (decision_in r) told
+          ms m.call → IsDueIn r m
+      is-due Round.Sync ms by early = by.due
+      is-due Round.Transfer ms by early = by.due
+      is-due Round.Process ms by early = by.due
+      is-due Round.Activate ms by early = by.due
+      is-due (Round.End commit) ms by early = absurd early
 
       go : (sent : List Message) → AllByRecursion (λ n. n.campaign ≡ task.campaign) sent
           → AreNumbered task.epoch task.first (with_sent m sent)
           → IsNew (λ k n. step_bytes lent task.steps) 1 (current task round) m told (sent ++ before task ∷ [])
           ⊎ IsAgain m told (sent ++ before task ∷ [])
           → MaySendNow round m told sent
-      go [] of numbers h = First refl
+      go [] of numbers (inl new) = First (is-due round (before task ∷ []) new.allowed.by) refl
+      go [] of numbers (inr again) =
+          let same : before task ≡ m = cc again.newest in
+          absurd (other-campaign task.campaign (ap (λ (x : Message). x.campaign) same ∙ same-campaign task gs))
       go (n ∷ older) of numbers (inl new) = other (is_eq (call_no_cmp n.at m.at)) refl
         where
           other : (b : Bool) → is_eq (call_no_cmp n.at m.at) ≡ b → MaySendNow round m told (n ∷ older)
           other true e = absurd (not-next n.at m.at (same-no n.at m.at e) new.next)
-          other false e = Next n older refl added
+          other false e = Next (is-due round (n ∷ older ++ before task ∷ []) new.allowed.by) n older refl added
               (free n older (ap (λ (a : CallNo). a.epoch) all.1.0 ∙ sym (ap (λ (a : CallNo). a.epoch) all.0)) of.0 round
               new.allowed.follows)
             where
@@ -351,7 +371,8 @@ module _ (allowed : SendsAreAllowed) (numbered : SendsAreNumbered) (lent : List 
       → IsAnswered m.at reply known)
       → Goes g gs (told_by (Tried m o ∷ attempts lent task gs)) (with_sent m (sent_of lent task gs))
   by-reply g gs round m None late next answered = Sends round m late next refl refl
-  by-reply g gs round m (Some reply) late next answered = Answers round m reply late next refl refl (answered reply refl)
+  by-reply g gs round m (Some reply) late next answered = Answers round m reply late next refl refl (answered reply
+      refl)
 
   pub goes-on : (g : Given) (gs : List Given) → AreGiven task (g ∷ gs)
       → Goes g gs (told_of lent task (g ∷ gs)) (sent_of lent task (g ∷ gs))
@@ -373,7 +394,8 @@ module _ (allowed : SendsAreAllowed) (numbered : SendsAreNumbered) (lent : List 
           by-reply (Gave got) gs r (message_of lent (after task gs) call_no asked) (reply_got asked x)
           (record { in_round = in_round; decided = refl }) (sends-next gs are.1 r in_round call_no asked e numbers)
           (λ reply got_it known told. is-answer call_no asked x reply known got_it
-          (subst (λ t. IsToldTo t (Gave x) known) e (subst (λ y. IsToldTo (todo (after task gs)) (Gave y) known) is told)))
+          (subst (λ t. IsToldTo t (Gave x) known) e (subst (λ y. IsToldTo (todo (after task gs)) (Gave y) known) is
+          told)))
   goes-on GaveNothing gs are =
       gave (todo (after task gs)) refl (is-round (after task gs).round are.0.begun)
       (numbered lent task (GaveNothing ∷ gs) is_task are)

@@ -1,18 +1,14 @@
 -- Messages that were sent, by their numbers.
-use Rattle.std.specs.Prelude.{◌≡◌, ◌⊎◌, ℕ, suc, ◌+◌, ◌<◌, ◌≤◌, ⊤, Bool, true, false, if◌then◌else◌, List, [], ◌∷◌, ◌++◌, map, length, Option, Some, None}
+use Rattle.std.specs.Prelude.{◌≡◌, ℕ, suc, ◌+◌, ◌<◌, ◌≤◌, Bool, true, false, List, [], ◌∷◌, ◌++◌, map, length}
 use Rattle.std.specs.List.{AllByRecursion}
-use Rattle.std.specs.Ordering.{is_eq}
-use Rattle.std.proofs.Common.{refl, sym, ap, subst, ◌∙◌, inl, inr, arith}
+use Rattle.std.proofs.Common.{refl, sym, ap, ◌∙◌, inl, inr, arith}
 use Rattle.ucm_base.specs.declared.ids.CallNo.{CallNo}
-use Rattle.pm_types.specs.Steps.{call_no_cmp}
-use Rattle.world.specs.Messages.{Message, Told, Answered, Showed, is_told}
-use Rattle.world.specs.Attempts.{with_sent}
-use Rattle.world.proofs.EarlyNode.{same-no}
-use Rattle.sub_core.specs.Made.{Made, made_early, numbers_from, sent_early}
+use Rattle.world.specs.Messages.{Message}
+use Rattle.sub_core.specs.Made.{Made, numbers_from, sent_early}
 use Rattle.sub_core.specs.Sends.{AreNumbered}
 use Rattle.client_calls.specs.Calls.{AreBelow, IsBelow, Posted}
 use Rattle.client_calls.specs.Arrivals.{IsAmong}
-use Rattle.master_calls.specs.Turn.{IsLater, Rounds, early_in, late_in, pending_of, post_of, posts_in, rounds_of}
+use Rattle.master_calls.specs.Turn.{early_in, late_in, post_of, posts_in}
 
 -- messages of the end phase, and those before it
 abbrev pub AllDecided : Bool → List Message → Type 0
@@ -47,9 +43,10 @@ none-late m older (n ∷ ns) early split l e =
 pub numbered-later : (epoch first : ℕ) (late early : List Message) → AreNumbered epoch first (late ++ early)
     → AllByRecursion (λ m. (m.at.epoch ≡ epoch) × (first + length early ≤ m.at.number)) late
 numbered-later epoch first [] early numbered = tt
-numbered-later epoch first (m ∷ ms) early numbered =
-    ((ap (λ (a : CallNo). a.epoch) numbered.0, grind (arith, numbered.0, longer ms)),
-    numbered-later epoch first ms early numbered.1)
+numbered-later epoch first (m ∷ ms) early numbered = (
+  (ap (λ (a : CallNo). a.epoch) numbered.0, grind (arith, numbered.0, longer ms)),
+  numbered-later epoch first ms early numbered.1,
+)
   where
     longer : (ms : List Message) → length early ≤ length (ms ++ early)
     longer [] = omega arith
@@ -65,7 +62,11 @@ pub numbers-below : (epoch first : ℕ) (made : List Made) (at : CallNo)
     → map (λ m. m.at) made ≡ numbers_from epoch first (length made) → at.epoch ≡ epoch
     → first + length made ≤ at.number → AreBelow made at
 numbers-below epoch first [] at is same high = tt
-numbers-below epoch first (m ∷ ms) at is same high = (inr (one, less), numbers-below epoch (first + 1) ms at rest same more)
+numbers-below epoch first (m ∷ ms) at is same high = (
+  inr (one, less),
+  numbers-below epoch (first + 1) ms at rest same
+      more,
+)
   where
     head : m.at ≡ record { epoch = epoch; number = first }
     head = cc is
@@ -100,7 +101,14 @@ numbers-before epoch first (m ∷ ms) x is = (go ms (cc is), numbers-before epoc
     go : (ms : List Made)
         → map (λ m. m.at) (ms ++ x ∷ []) ≡ numbers_from epoch (first + 1) (length (ms ++ x ∷ []))
         → IsBelow m.at x.at
-    go ms e = let h = lasts (first + 1) ms e in inr (ap (λ (a : CallNo). a.epoch) head ∙ sym h.0, grind (arith, head, h.1))
+    go ms e = let h = lasts (first + 1) ms e in inr (
+      ap (λ (a : CallNo). a.epoch) head ∙ sym h.0,
+      grind (
+        arith,
+        head,
+        h.1,
+      ),
+    )
 
 pub among-split : (sent : List Message) (p : Posted) → IsAmong p (posts_in sent)
     → IsAmong p (late_in sent ++ early_in sent)

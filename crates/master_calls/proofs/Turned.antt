@@ -1,10 +1,10 @@
 -- Whatever a driver was given, its calls are in turn.
-use Rattle.std.specs.Prelude.{◌≡◌, ◌⊎◌, ℕ, suc, ◌+◌, ◌<◌, ◌≤◌, ⊤, Bool, true, false, if◌then◌else◌, is_some, List, [], ◌∷◌, ◌++◌, map, length, Option, Some, None}
+use Rattle.std.specs.Prelude.{◌≡◌, ℕ, suc, ◌+◌, ◌≤◌, Bool, true, false, if◌then◌else◌, is_some, List, [], ◌∷◌, ◌++◌, map, length, Some, None}
 use Rattle.std.specs.List.{AllByRecursion}
 use Rattle.std.proofs.Common.{refl, sym, ap, subst, ◌∙◌, inl, inr, arith}
 use Rattle.ucm_base.specs.declared.ids.CallNo.{CallNo}
 use Rattle.pm_types.specs.declared.replies.Reply.{Reply}
-use Rattle.world.specs.Messages.{Message, Told, Answered, Showed, is_told, told_reply}
+use Rattle.world.specs.Messages.{Message, Told, Answered, is_told, told_reply}
 use Rattle.world.specs.Attempts.{with_sent}
 use Rattle.sub_core.specs.declared.answers.Round.{Round}
 use Rattle.sub_core.specs.Driving.{todo}
@@ -16,14 +16,14 @@ use Rattle.sub_core.specs.Made.{AreSentInTurn, IsEndMessage, Made, made_early, m
 use Rattle.sub_core.specs.Sends.{AreNumbered, SendsAreAllowed, SendsAreNumbered}
 use Rattle.sub_core.specs.States.{DriverState}
 use Rattle.sub_core.specs.Turns.{CallsAreInTurn, MessagesAreInTurn}
-use Rattle.client_calls.specs.Calls.{AreBelow, IsAnswered, IsBelow, Known, Posted, entry_of}
+use Rattle.client_calls.specs.Calls.{AreBelow, IsAnswered, IsBelow, Known, Posted}
 use Rattle.client_calls.specs.Arrivals.{IsAmong, MayCome}
-use Rattle.master_calls.specs.Turn.{HasNumber, InTurn, IsEarly, IsLater, Rounds, early_in, late_in, no_rounds, pending_of, post_of, posts_in, rounds_of}
+use Rattle.master_calls.specs.Turn.{InTurn, IsEarly, Rounds, early_in, late_in, pending_of, post_of, posts_in, rounds_of}
 use Rattle.master_calls.specs.Laws.{CallsGoInTurn, IsToldTo}
 use Rattle.master_calls.proofs.Arriving.{arrivals-keep}
 use Rattle.master_calls.proofs.Sent.{AllDecided, among-split, late-of, none-late, numbers-before}
 use Rattle.master_calls.proofs.Sending.{Goes, Stays, Shows, Sends, Answers, IsTimely, MaySendNow, goes-late, goes-on}
-use Rattle.master_calls.proofs.Turning.{Adds, Facts, Heads, Repeats, answers-one, begins-one, has-last, has-more, heads, later-are, more-later, other-eq, pending-same, rounds-showed, same-eq}
+use Rattle.master_calls.proofs.Turning.{Adds, Facts, Heads, Repeats, answers-one, begins-one, has-last, has-more, heads, later-are, more-later, pending-same, rounds-showed, same-eq}
 
 all-early-below : (epoch first : ℕ) (m : Message) (older : List Message) → AreNumbered epoch first (m ∷ older)
     → AllByRecursion (λ p. IsBelow p.at m.at) (early_in older)
@@ -32,8 +32,11 @@ all-early-below epoch first m older numbers = go older numbers.1 (omega arith)
     go : (ms : List Message) → AreNumbered epoch first ms → length ms ≤ length older
         → AllByRecursion (λ p. IsBelow p.at m.at) (early_in ms)
     go [] all few = tt
-    go (n ∷ ns) all few = one n.decided (inr (ap (λ (a : CallNo). a.epoch) all.0 ∙ sym (ap (λ (a : CallNo). a.epoch)
-        numbers.0), grind (arith, all.0, numbers.0, few))) (go ns all.1 (omega (arith, few)))
+    go (n ∷ ns) all few = one n.decided (inr (
+      ap (λ (a : CallNo). a.epoch) all.0 ∙ sym (ap (λ (a : CallNo). a.epoch)
+          numbers.0),
+      grind (arith, all.0, numbers.0, few),
+    )) (go ns all.1 (omega (arith, few)))
       where
         one : (b : Bool) → IsBelow n.at m.at → AllByRecursion (λ p. IsBelow p.at m.at) (early_in ns)
             → AllByRecursion (λ p. IsBelow p.at m.at) (if b then early_in ns else post_of n ∷ early_in ns)
@@ -171,7 +174,8 @@ pub decided : (late : List Message) → AllByRecursion IsEndMessage late → All
 decided [] all = tt
 decided (m ∷ ms) all = (all.0.0, decided ms all.1)
 
-module _ (allowed : SendsAreAllowed) (numbered : SendsAreNumbered) (turns : CallsAreInTurn) (messages : MessagesAreInTurn)
+module _ (allowed : SendsAreAllowed) (numbered : SendsAreNumbered) (turns : CallsAreInTurn) (messages :
+    MessagesAreInTurn)
     (lent : List (List ℕ)) (task : Task) (is_task : IsTask lent task) where
   abbrev told : List Given → List Told
   told gs = told_of lent task gs
@@ -261,9 +265,11 @@ module _ (allowed : SendsAreAllowed) (numbered : SendsAreNumbered) (turns : Call
           })
           by false d = subst (λ s. Mid (told gs) (sent gs) s) (sym new) (record {
             early = subst (λ r. AllByRecursion (IsEarly r) (early_in (m ∷ sent gs))) (sym now)
-                (subst (AllByRecursion (IsEarly begun)) (sym (early-sent m (sent gs) d))
-                (inr refl, early-begins (made_early (told gs)) (post_of m) (early_in (sent gs))
-                (subst (λ r. AllByRecursion (IsEarly r) (early_in (sent gs))) was early)));
+                (subst (AllByRecursion (IsEarly begun)) (sym (early-sent m (sent gs) d)) (
+                  inr refl,
+                  early-begins (made_early (told gs)) (post_of m) (early_in (sent gs))
+                      (subst (λ r. AllByRecursion (IsEarly r) (early_in (sent gs))) was early),
+                ));
             turn = (λ known h. subst (λ r. InTurn r (late_in (m ∷ sent gs)) known) (sym now)
                 (subst (λ ps. InTurn begun ps known) (sym (late-sent m (sent gs) d))
                 (begins-one (made_early (told gs)) (post_of m) (late_in (sent gs)) known
@@ -292,9 +298,10 @@ module _ (allowed : SendsAreAllowed) (numbered : SendsAreNumbered) (turns : Call
               newest : (n : Message) (older : List Message) → sent gs ≡ n ∷ older
                   → (is_told (told gs) n.at ≡ true) × (n.decided ≡ false)
               newest n older is = elim (free n older is) [
-                  inl said ↦ (said, undecided)
+                | inl said ↦ (said, undecided)
                 | inr (same, end) ↦ absurd (cc (sym d ∙ (late.decided
-                  ∙ goes-late task gs round late.in_round end))) ]
+                    ∙ goes-late task gs round late.in_round end)))
+              ]
                 where
                   undecided : n.decided ≡ false
                   undecided = (subst (AllDecided false) (ap (λ (s : List Message). m ∷ s) is) all).1.0
@@ -341,7 +348,8 @@ module _ (allowed : SendsAreAllowed) (numbered : SendsAreNumbered) (turns : Call
       go : Goes allowed numbered lent task is_task g gs (told (g ∷ gs)) (sent (g ∷ gs))
           → AllByRecursion (IsEarly (rounds_of (told gs) (sent gs))) (early_in (sent gs))
           → AllByRecursion (IsEarly (rounds_of (told (g ∷ gs)) (sent (g ∷ gs)))) (early_in (sent (g ∷ gs)))
-      go (Stays et es) all = subst (λ t. AllByRecursion (IsEarly (rounds_of t (sent (g ∷ gs)))) (early_in (sent (g ∷ gs))))
+      go (Stays et es) all = subst (λ t. AllByRecursion (IsEarly (rounds_of t (sent (g ∷ gs)))) (early_in (sent (g ∷
+          gs))))
           (sym et) (subst (λ s. AllByRecursion (IsEarly (rounds_of (told gs) s)) (early_in s)) (sym es) all)
       go (Shows status et es) all =
           subst (λ t. AllByRecursion (IsEarly (rounds_of t (sent (g ∷ gs)))) (early_in (sent (g ∷ gs)))) (sym et)
@@ -427,7 +435,8 @@ module _ (allowed : SendsAreAllowed) (numbered : SendsAreNumbered) (turns : Call
               (subst (λ ms. map (λ x. x.at) ms ≡ numbers_from task.epoch task.first (length ms)) is facts.numbers)
 
   pub turns-on : (g : Given) (gs : List Given) → AreGiven task (g ∷ gs) → (known after : Known)
-      → InTurn (rounds_of (told gs) (sent gs)) (late_in (sent gs)) known → MayCome (posts_in (sent (g ∷ gs))) known after
+      → InTurn (rounds_of (told gs) (sent gs)) (late_in (sent gs)) known → MayCome (posts_in (sent (g ∷ gs))) known
+      after
       → IsToldTo (todo (driven gs)) g after
       → InTurn (rounds_of (told (g ∷ gs)) (sent (g ∷ gs))) (late_in (sent (g ∷ gs))) after
   turns-on g gs are known after turn come said = go (goes-on allowed numbered lent task is_task g gs are)
@@ -466,7 +475,8 @@ module _ (allowed : SendsAreAllowed) (numbered : SendsAreNumbered) (turns : Call
           (answered after said) (come-mid round m late next es)
 
 pub calls-go : SendsAreAllowed → SendsAreNumbered → CallsAreInTurn → MessagesAreInTurn → CallsGoInTurn
-calls-go allowed numbered turns messages =
-    (record { first = []; ends = []; split = refl; of_rounds = inl refl; of_later = tt; doubt = tt },
-    (λ lent task g gs is_task are known after turn come said.
-    turns-on allowed numbered turns messages lent task is_task g gs are known after turn come said))
+calls-go allowed numbered turns messages = (
+  record { first = []; ends = []; split = refl; of_rounds = inl refl; of_later = tt; doubt = tt },
+  (λ lent task g gs is_task are known after turn come said.
+      turns-on allowed numbered turns messages lent task is_task g gs are known after turn come said),
+)

@@ -1,5 +1,5 @@
 -- The calls stay in turn from attempt to attempt.
-use Rattle.std.specs.Prelude.{◌≡◌, ◌⊎◌, ℕ, suc, ◌+◌, ◌<◌, ◌≤◌, ⊤, Bool, true, false, if◌then◌else◌, is_some, List, [], ◌∷◌, ◌++◌, map, length, Option, Some, None}
+use Rattle.std.specs.Prelude.{◌≡◌, ◌⊎◌, ℕ, ◌+◌, ◌≤◌, Bool, true, false, if◌then◌else◌, is_some, List, [], ◌∷◌, ◌++◌, map, length, Option, Some, None}
 use Rattle.std.specs.List.{AllByRecursion}
 use Rattle.std.specs.Ordering.{is_eq}
 use Rattle.std.proofs.Common.{refl, sym, ap, subst, ◌∙◌, inl, inr, arith}
@@ -10,21 +10,15 @@ use Rattle.pm_types.specs.declared.replies.Reply.{Reply}
 use Rattle.pm_types.specs.declared.status.Status.{Status}
 use Rattle.world.specs.Messages.{Message, Told, Answered, Showed, is_told, told_reply}
 use Rattle.world.specs.Attempts.{with_sent}
-use Rattle.world.proofs.EarlyNode.{same-no}
 use Rattle.sub_core.specs.declared.answers.Round.{Round}
-use Rattle.sub_core.specs.Driving.{todo}
-use Rattle.sub_core.specs.Given.{AreGiven, Begun, Gave, GaveNothing, Given, IsTask, Task, after, sent_of, told_of}
 use Rattle.sub_core.specs.Made.{Made, made_early, made_of, numbers_from, sent_early}
-use Rattle.sub_core.specs.Sends.{AreNumbered, SendsAreAllowed, SendsAreNumbered}
-use Rattle.sub_core.specs.Turns.{CallsAreInTurn, MessagesAreInTurn}
+use Rattle.sub_core.specs.Sends.{AreNumbered}
 use Rattle.client_calls.specs.Calls.{AreBelow, IsAnswered, IsBelow, Known, Posted, entry_of}
-use Rattle.client_calls.specs.Arrivals.{IsAmong, IsOf, MayCome}
+use Rattle.client_calls.specs.Arrivals.{IsOf}
 use Rattle.client_calls.proofs.Arriving.{all-of-more, below-self, last-of, of-more}
-use Rattle.master_calls.specs.Turn.{AreFirst, HasNumber, InTurn, IsDoubtIn, IsEarly, IsLater, Rounds, early_in, late_in, pending_of, post_of, posts_in, rounds_of}
-use Rattle.master_calls.specs.Laws.{CallsGoInTurn, IsToldTo}
-use Rattle.master_calls.proofs.Arriving.{arrivals-keep}
-use Rattle.master_calls.proofs.Sent.{AllDecided, among-split, count-of, early-of, late-of, none-late, numbered-later, numbered-rest, numbers-before, numbers-below}
-use Rattle.master_calls.proofs.Sending.{Goes, Stays, Shows, Sends, Answers, IsEndRound, MaySendNow, Again, First, Next, goes-on}
+use Rattle.master_calls.specs.Turn.{AreFirst, HasNumber, InTurn, IsDoubtIn, IsLater, Rounds, early_in, late_in, pending_of, post_of, posts_in, rounds_of}
+use Rattle.master_calls.proofs.Sent.{AllDecided, count-of, early-of, late-of, numbered-later, numbered-rest, numbers-below}
+use Rattle.master_calls.proofs.Sending.{IsEndRound, MaySendNow, Again, First, Next}
 
 pub same-eq : (a : CallNo) → is_eq (call_no_cmp a a) ≡ true
 same-eq a = grind arith
@@ -51,9 +45,9 @@ heads round m told sent (Again older is pending) = Repeats older is (go sent is)
         let one : n ≡ m = cc e in
         ap (λ b. if b then n ∷ ns else m ∷ n ∷ ns)
         (subst (λ (x : Message). is_eq (call_no_cmp x.at m.at) ≡ true) (sym one) (same-eq m.at))
-heads round m told sent (First is) = Adds (subst (λ s. with_sent m s ≡ m ∷ s) (sym is) refl)
+heads round m told sent (First due is) = Adds (subst (λ s. with_sent m s ≡ m ∷ s) (sym is) refl)
     (λ n older e. absurd (cc (sym is ∙ e)))
-heads round m told sent (Next newest older is added free) = Adds added (λ n rest e. go n (cc (sym is ∙ e)))
+heads round m told sent (Next due newest older is added free) = Adds added (λ n rest e. go n (cc (sym is ∙ e)))
   where
     go : (n : Message) → newest ≡ n → (is_told told n.at ≡ true) ⊎ ((n.decided ≡ false) × IsEndRound round)
     go n one = subst (λ (x : Message). (is_told told x.at ≡ true) ⊎ ((x.decided ≡ false) × IsEndRound round)) one free
@@ -231,5 +225,6 @@ pub pending-same : (m : Message) (reply : Reply) (told : List Told) (ps : List P
     → AllByRecursion (λ p. IsBelow p.at m.at) ps
     → pending_of (Answered m reply ∷ told) ps ≡ pending_of told ps
 pending-same m reply told [] below = refl
-pending-same m reply told (p ∷ ps) below = ap (λ b. if is_some (if b then Some reply else told_reply told p.at) then None
+pending-same m reply told (p ∷ ps) below = ap (λ b. if is_some (if b then Some reply else told_reply told p.at) then
+    None
     else Some p) (other-eq m.at p.at below.0)

@@ -1,6 +1,6 @@
 -- The master's calls on a node: those of the rounds, and then those that came later.
-use Rattle.std.specs.Prelude.{◌≡◌, ◌⊎◌, ⊤, Bool, true, false, not, if◌then◌else◌, List, [], ◌∷◌, ◌++◌, map, Option, Some, None}
-use Rattle.std.specs.List.{AllByRecursion, filter}
+use Rattle.std.specs.Prelude.{◌≡◌, ◌⊎◌, ⊤, if◌then◌else◌, List, [], ◌∷◌, ◌++◌, map, Option, Some, None}
+use Rattle.std.specs.List.{AllByRecursion}
 use Rattle.ucm_base.specs.declared.ids.CallNo.{CallNo}
 use Rattle.pm_types.specs.declared.replies.Reply.{Reply}
 use Rattle.world.specs.Messages.{Message, Told, is_told}

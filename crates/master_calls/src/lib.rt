@@ -5,7 +5,7 @@
 //! their order and then calls of the end phase.
 #![tactic(auto)]
 
-ghost use Rattle.master_calls.specs.Laws.{ArrivalsKeepTurn, CallsGoInTurn, EndIsAtRest, MessagesFit, MoreMayComeLater, OrderFollows};
+ghost use Rattle.master_calls.specs.Laws.{ArrivalsKeepTurn, CallsGoInTurn, EndIsAtRest, MessagesFit, MoreMayComeLater, OrderFollows, RoundsAreDue};
 
 use sub_core::driver_law;
 
@@ -16,6 +16,7 @@ pub fn calls_of_the_master()
     ensures fits { MessagesFit }
     ensures more { MoreMayComeLater }
     ensures rest { EndIsAtRest }
+    ensures due { RoundsAreDue }
     ensures order { OrderFollows }
 {
     driver_law();
