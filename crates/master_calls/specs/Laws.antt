@@ -42,9 +42,9 @@ CallsGoInTurn =
     → MayCome (posts_in (sent_of lent task (g ∷ gs))) known then → IsToldTo (todo (after task gs)) g then
     → InTurn (rounds_of (told_of lent task (g ∷ gs)) (sent_of lent task (g ∷ gs)))
     (late_in (sent_of lent task (g ∷ gs))) then)
-    -- each message of a driver's rounds is answered or pending, and each of its end is above them, as are all of later
-    epochs
 
+-- each message of a driver's rounds is answered or pending, and each of its end is above them, as are all of
+-- later epochs
 abbrev pub MessagesFit : Type 0
 MessagesFit =
     (lent : List (List ℕ)) (task : Task) (gs : List Given) → IsTask lent task → AreGiven task gs
@@ -64,9 +64,9 @@ MoreMayComeLater =
 -- where the newest call is a later Sync that shows the node at rest, the later calls end with it
 abbrev pub EndIsAtRest : Type 0
 EndIsAtRest =
-    (rounds : Rounds) (later : List Posted) (known : Known) (turn : InTurn rounds later known) (p : Posted) (reply :
-    Reply)
-    → IsLater rounds p → p.call ≡ Sync → AllByRecursion (λ q. q.at ≡ p.at → q.call ≡ p.call) later
+    (rounds : Rounds) (later : List Posted) (known : Known) (turn : InTurn rounds later known)
+    → (p : Posted) (reply : Reply) → IsLater rounds p
+    → p.call ≡ Sync → AllByRecursion (λ q. q.at ≡ p.at → q.call ≡ p.call) later
     → IsAnswered p.at reply known → IsTrue (shows_rest reply) → IsTrue (ends_at_rest turn.ends)
 
 -- what a run shows of the rounds of a node, of what was posted later, and of the master's list
