@@ -10,10 +10,8 @@ ghost use Rattle.node_core.specs.Errors.{end_by};
 ghost use Rattle.node_core.specs.Reserves.{Brings, Copies, Reserves};
 ghost use Rattle.node_core.specs.Units.{IsReservedWork, after_work, answer_to, state_worked};
 
-use crate::copying::reserve_unit;
 use crate::ready::Ready;
-use crate::reserving::prepare;
-use pm_types::{Call, Reached, State, Status, Worked};
+use pm_types::{Call, Reached, State, Worked};
 use std::alloc::{AllocError, Global};
 use std::marker::Model;
 use transfer_blocks::{Staging, StagingError};
@@ -52,17 +50,11 @@ impl From<StagingError> for ReserveError {
     }
 }
 
-/// A staging, and the node whose areas it keeps.
-#[derive(Drop)]
-pub(crate) struct Held<S: Staging> {
-    pub(crate) staging: S,
-    pub(crate) ready: Ready,
-}
-
 /// A node that keeps its areas in a staging, and what is ready for its next call or unit.
 #[derive(Drop)]
 pub struct Core<S: Staging> {
-    pub(crate) held: Held<S>,
+    pub(crate) staging: S,
+    pub(crate) ready: Ready,
 }
 
 impl<S: Staging> Model for Core<S> {
@@ -71,12 +63,12 @@ impl<S: Staging> Model for Core<S> {
     ghost Value = { Owning S };
 
     ghost view = { λ c. record {
-      staging = c.held.staging;
-      held = over (S.areas c.held.staging) c.held.ready;
+      staging = c.staging;
+      held = over (S.areas c.staging) c.ready;
     } };
 
-    ghost invariant = { λ c. IsSound (over (S.areas c.held.staging) c.held.ready)
-        × S.is_fit c.held.staging };
+    ghost invariant = { λ c. IsSound (over (S.areas c.staging) c.ready)
+        × S.is_fit c.staging };
 }
 
 impl<S: Staging> Core<S> {
@@ -90,8 +82,7 @@ impl<S: Staging> Core<S> {
         } }
     {
         let ready = Ready::of(state);
-        let held = Held { staging, ready };
-        Core { held }
+        Core { staging, ready }
     }
 
     /// The staging and the state, as where nothing was reserved. It takes no memory.
@@ -101,7 +92,7 @@ impl<S: Staging> Core<S> {
         ensures sound { IsSound (holding (S.areas result.0) result.1) }
         ensures fit { S.is_fit result.0 }
     {
-        (self.held.staging, self.held.ready.into_state())
+        (self.staging, self.ready.into_state())
     }
 
     /// The staging, and the state with what a reserve took. It takes no memory.
@@ -111,7 +102,7 @@ impl<S: Staging> Core<S> {
         ensures sound { IsSound (over (S.areas result.0) result.1) }
         ensures fit { S.is_fit result.0 }
     {
-        (self.held.staging, self.held.ready)
+        (self.staging, self.ready)
     }
 
     /// Takes all memory that the call needs, stages a block that the table accepts behind the bytes that came, and
@@ -135,7 +126,8 @@ impl<S: Staging> Core<S> {
             → HasRisen (S.fault_count self.old.staging) (S.fault_count self.new.staging) }
         ensures faults { S.fault_count self.old.staging ≤ S.fault_count self.new.staging }
     {
-        self.held.reserve(alloc, client, no, call)
+        self.ready
+            .reserve(alloc, &mut self.staging, client, no, call)
     }
 
     /// What `exec` would give of a call that was reserved. It takes no memory and changes nothing.
@@ -144,7 +136,7 @@ impl<S: Staging> Core<S> {
         requires entries { self.now.held.state.entries < entry_limit }
         ensures reached { result ≡ (step_by self.now.held client no call.now).1 }
     {
-        self.held.ready.foresee(client, no, call)
+        self.ready.foresee(client, no, call)
     }
 
     /// Executes a numbered call after `reserve` of the same. It takes no memory.
@@ -159,7 +151,7 @@ impl<S: Staging> Core<S> {
         ensures staging { self.new.staging ≡ self.old.staging }
         ensures entries { self.new.held.state.entries ≤ self.old.held.state.entries + 1 }
     {
-        self.held.ready.exec(client, no, call)
+        self.ready.exec(client, no, call)
     }
 
     /// Takes all memory that the next unit of work needs, and copies what it brings of a package. The node stays as
@@ -177,7 +169,7 @@ impl<S: Staging> Core<S> {
             → HasRisen (S.fault_count self.old.staging) (S.fault_count self.new.staging) }
         ensures faults { S.fault_count self.old.staging ≤ S.fault_count self.new.staging }
     {
-        self.held.reserve_work(alloc)
+        self.ready.reserve_work(alloc, &mut self.staging)
     }
 
     /// What `work` would answer of a unit that was reserved. It takes no memory and changes nothing.
@@ -185,8 +177,10 @@ impl<S: Staging> Core<S> {
         requires reserved { IsReservedWork self.now.held }
         requires entries { self.now.held.state.entries < entry_limit }
         ensures answer { result ≡ answer_to fails.now (node_of self.now.held) }
+        ensures nothing { (result ≡ Worked.Nothing self.now.held.state.status)
+            ↔ (is_working self.now.held.state.status ≡ false) }
     {
-        self.held.ready.foresee_work(fails)
+        self.ready.foresee_work(fails)
     }
 
     /// Does the next unit of work after `reserve_work`, where clusters of these names fail when they are verified. It
@@ -203,59 +197,6 @@ impl<S: Staging> Core<S> {
         ensures staging { self.new.staging ≡ self.old.staging }
         ensures entries { self.new.held.state.entries ≤ self.old.held.state.entries + 1 }
     {
-        self.held.ready.work(fails)
-    }
-}
-
-impl<S: Staging> Held<S> {
-    fn reserve(
-        &mut self,
-        alloc: Global,
-        client: ClientId,
-        no: CallNo,
-        call: &Call,
-    ) -> Result<(), ReserveError>
-        requires sound { IsSound (over (S.areas self.old.staging) self.old.ready) }
-        requires fit { S.is_fit self.old.staging }
-        ensures state { self.new.ready.state ≡ self.old.ready.state }
-        ensures reserves { Reserves S.obeys S.areas self.old.ready.state
-            (Brings self.old.ready.state client no call.now)
-            (λ held. IsReserved (over held self.new.ready) client no call.now)
-            (end_by result) self.old.staging self.new.staging }
-        ensures fit { S.is_fit self.new.staging }
-        ensures cause { IsErrOf result ReserveError.StagingFailed
-            → HasRisen (S.fault_count self.old.staging) (S.fault_count self.new.staging) }
-        ensures faults { S.fault_count self.old.staging ≤ S.fault_count self.new.staging }
-    {
-        if self.ready.repeated(client, no).is_some() {
-            return Ok(());
-        }
-        let prepared = prepare(alloc, &mut self.staging, &self.ready, client, call)?;
-        self.ready.prepared = prepared;
-        Ok(())
-    }
-
-    fn reserve_work(&mut self, alloc: Global) -> Result<(), ReserveError>
-        requires sound { IsSound (over (S.areas self.old.staging) self.old.ready) }
-        requires fit { S.is_fit self.old.staging }
-        ensures state { self.new.ready.state ≡ self.old.ready.state }
-        ensures reserves { Reserves S.obeys S.areas self.old.ready.state
-            (Copies (S.areas self.old.staging) self.old.ready.state)
-            (λ held. IsReservedWork (over held self.new.ready))
-            (end_by result) self.old.staging self.new.staging }
-        ensures fit { S.is_fit self.new.staging }
-        ensures cause { IsErrOf result ReserveError.StagingFailed
-            → HasRisen (S.fault_count self.old.staging) (S.fault_count self.new.staging) }
-        ensures faults { S.fault_count self.old.staging ≤ S.fault_count self.new.staging }
-    {
-        match self.ready.state.status {
-            Status::Processing => {
-                let state = &self.ready.state;
-                let prepared = reserve_unit(alloc, &mut self.staging, state)?;
-                self.ready.prepared = prepared;
-                Ok(())
-            }
-            _ => Ok(self.ready.reserve_clusters(alloc)?),
-        }
+        self.ready.work(fails)
     }
 }

@@ -6,8 +6,9 @@ ghost use Rattle.history_query.specs.Shown.{progress_answer};
 ghost use Rattle.node_core.specs.Core.{AllSound, SomeSound, node_of};
 
 use crate::node::Core;
+use crate::ready::Ready;
 use history_query::{change_info, cluster_info, history, packages, process_progress};
-use pm_types::{Answer, Query, Refusal, State, Status};
+use pm_types::{Answer, Query, Refusal, Status};
 use std::alloc::{AllocError, Global};
 use transfer_blocks::Staging;
 use ucm_base::ClientId;
@@ -22,7 +23,7 @@ impl<S: Staging> Core<S> {
     ) -> Result<Answer, AllocError>
         ensures { IfOk result (λ a. a ≡ answer (node_of self.now.held) client query.now) }
     {
-        answer(alloc, &self.held.ready.state, client, query)
+        self.ready.query(alloc, client, query)
     }
 
     /// How much of the client's transfer is processed, in percent. It takes no memory.
@@ -30,50 +31,64 @@ impl<S: Staging> Core<S> {
         ensures { progress_answer result
             ≡ answer (node_of self.now.held) client (GetSwProcessProgress id) }
     {
-        progress(&self.held.ready.state, client, id)
+        self.ready.progress(client, id)
     }
 
     /// The node's status.
     pub fn status(&self) -> Status
         ensures { result ≡ (node_of self.now.held).status }
     {
-        self.held.ready.state.status
+        self.ready.status()
     }
 }
 
-fn answer(
-    alloc: Global,
-    state: &State,
-    client: ClientId,
-    query: &Query,
-) -> Result<Answer, AllocError>
-    requires sound { SomeSound state.now }
-    ensures { AllSound state.now (λ node. IfOk result (λ a. a ≡ answer node client query.now)) }
-{
-    match query {
-        Query::CurrentStatus => Ok(Answer::Status(state.status)),
-        Query::GetSwClusterInfo => Ok(Answer::Clusters(cluster_info(alloc, &state.running)?)),
-        Query::GetSwClusterChangeInfo => {
-            Ok(Answer::Changes(change_info(alloc, state.session.as_ref())?))
-        }
-        Query::GetSwPackages => {
-            let transfers = state.transfers.list.as_slice();
-            Ok(Answer::Packages(packages(alloc, transfers, client)?))
-        }
-        Query::GetSwProcessProgress { id } => Ok(shown(progress(state, client, *id))),
-        Query::GetHistory { ge, lt } => {
-            Ok(Answer::History(history(alloc, &state.lines, *ge, *lt)?))
+impl Ready {
+    /// Answers a query.
+    pub fn query(
+        &self,
+        alloc: Global,
+        client: ClientId,
+        query: &Query,
+    ) -> Result<Answer, AllocError>
+        requires sound { SomeSound self.now.state }
+        ensures { AllSound self.now.state (λ node.
+            IfOk result (λ a. a ≡ answer node client query.now)) }
+    {
+        let state = &self.state;
+        match query {
+            Query::CurrentStatus => Ok(Answer::Status(state.status)),
+            Query::GetSwClusterInfo => Ok(Answer::Clusters(cluster_info(alloc, &state.running)?)),
+            Query::GetSwClusterChangeInfo => {
+                Ok(Answer::Changes(change_info(alloc, state.session.as_ref())?))
+            }
+            Query::GetSwPackages => {
+                let transfers = state.transfers.list.as_slice();
+                Ok(Answer::Packages(packages(alloc, transfers, client)?))
+            }
+            Query::GetSwProcessProgress { id } => Ok(shown(self.progress(client, *id))),
+            Query::GetHistory { ge, lt } => {
+                Ok(Answer::History(history(alloc, &state.lines, *ge, *lt)?))
+            }
         }
     }
-}
 
-fn progress(state: &State, client: ClientId, id: u32) -> Result<u8, Refusal>
-    requires sound { SomeSound state.now }
-    ensures { AllSound state.now (λ node.
-        progress_answer result ≡ answer node client (GetSwProcessProgress id)) }
-{
-    let transfers = state.transfers.list.as_slice();
-    process_progress(transfers, state.session.as_ref(), client, id)
+    /// How much of the client's transfer is processed, in percent. It takes no memory.
+    pub fn progress(&self, client: ClientId, id: u32) -> Result<u8, Refusal>
+        requires sound { SomeSound self.now.state }
+        ensures { AllSound self.now.state (λ node.
+            progress_answer result ≡ answer node client (GetSwProcessProgress id)) }
+    {
+        let state = &self.state;
+        let transfers = state.transfers.list.as_slice();
+        process_progress(transfers, state.session.as_ref(), client, id)
+    }
+
+    /// The node's status.
+    pub fn status(&self) -> Status
+        ensures { result ≡ self.now.state.status }
+    {
+        self.state.status
+    }
 }
 
 /// A progress, or its refusal, as an answer.

@@ -32,8 +32,8 @@ impl Model for Ready {
 }
 
 impl Ready {
-    /// A state for which nothing is ready.
-    pub(crate) fn of(state: State) -> Ready
+    /// A state for which nothing is ready. It takes no memory.
+    pub fn of(state: State) -> Ready
         ensures { result ≡ record { state = state; prepared = Prepared.Nothing } }
     {
         Ready {
@@ -88,8 +88,8 @@ impl Ready {
         Reached::Done(reply)
     }
 
-    /// What executing the call would give.
-    pub(crate) fn foresee(&self, client: ClientId, no: CallNo, call: &Call) -> Reached
+    /// What `exec` would give of a call that was reserved. It takes no memory and changes nothing.
+    pub fn foresee(&self, client: ClientId, no: CallNo, call: &Call) -> Reached
         ensures { AllReserved self.now client no call.now (λ v.
             result ≡ (step_by v client no call.now).1) }
     {

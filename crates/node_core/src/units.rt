@@ -40,9 +40,9 @@ impl Ready {
         Worked::Unit { passed, after }
     }
 
-    /// What the next unit of work would answer.
-    pub(crate) fn foresee_work(&self, fails: &[ClusterName]) -> Worked
-        ensures { AllWorkReady self.now (λ v. result ≡ answer_to fails.now (node_of v)) }
+    /// What `work` would answer of a unit that was reserved. It takes no memory and changes nothing.
+    pub fn foresee_work(&self, fails: &[ClusterName]) -> Worked
+        ensures answer { AllWorkReady self.now (λ v. result ≡ answer_to fails.now (node_of v)) }
     {
         let passed = unit_passes(&self.state, fails);
         match self.status_after(passed) {

@@ -1,5 +1,5 @@
 -- What is found stands for what the image does.
-use Rattle.std.proofs.Common.{◌≡◌, true, false, ℕ, List, Option, Some, None, sym, ◌∙◌, ap, subst}
+use Rattle.std.proofs.Common.{◌≡◌, ℕ, List, Option, Some, None, sym, ◌∙◌, ap, subst}
 use Rattle.std.specs.Prelude.{IfSome, IsSome}
 use Rattle.checkpoint.specs.Halves.{Body, layout_of}
 use Rattle.checkpoint.specs.declared.layout.Layout.{Layout}

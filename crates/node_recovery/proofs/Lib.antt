@@ -4,3 +4,5 @@ pub mod Tables
 pub mod Folded
 pub mod Texts
 pub mod Leading
+pub mod Recorded
+pub mod RecordedWork

@@ -1,10 +1,9 @@
 -- Whether a record is allowed can be told.
-use Rattle.std.proofs.Common.{◌≡◌, ◌⊎◌, inl, inr, ℕ, ◌+◌, ◌<◌, ◌≤◌, ◌^◌, List, [], ◌∷◌, length, map, Option, Some, None, refl, arith}
+use Rattle.std.proofs.Common.{◌≡◌, inl, inr, ℕ, ◌+◌, ◌^◌, List, [], ◌∷◌, length, map, Option, Some, None, refl}
 use Rattle.std.specs.Prelude.{IfSome}
 use Rattle.std.specs.List.{AllByRecursion}
 use Rattle.ucm_base.specs.Limits.{cluster_limit, entry_limit, package_limit, transfer_limit}
 use Rattle.pm_types.specs.declared.clusters.Extent.{Extent}
-use Rattle.pm_types.specs.declared.replies.Refusal.{Refusal}
 use Rattle.pm_types.specs.declared.replies.Reply.{Reply}
 use Rattle.pm_types.specs.declared.replies.Reply.TheVariants.{Done, Started, Synced as SyncedTo, Refused}
 use Rattle.pm_types.specs.declared.state.StoredTransfer.{StoredTransfer}

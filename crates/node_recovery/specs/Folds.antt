@@ -1,5 +1,5 @@
 -- What a record makes of a stored state: it goes by the reply that the record has, and nothing is judged again.
-use Rattle.std.specs.Prelude.{ℕ, Bool, List, [], ◌∷◌, replicate, option_map, option_and_then, Option, Some, None}
+use Rattle.std.specs.Prelude.{ℕ, Bool, [], replicate, option_map, option_and_then, Option, Some}
 use Rattle.std.specs.Option.{option_map_or}
 use Rattle.pm_types.specs.declared.calls.Call.{Call}
 use Rattle.pm_types.specs.declared.calls.Call.TheVariants as calls

@@ -1,12 +1,11 @@
 -- What an image of a node's disk stands for, and when it can be recovered.
-use Rattle.std.specs.Prelude.{ℕ, ◌≤◌, List, length, IfSome, IsSome, option_and_then, Option}
+use Rattle.std.specs.Prelude.{ℕ, List, IfSome, IsSome, option_and_then, Option}
 use Rattle.checkpoint.specs.Halves.{layout_of}
 use Rattle.event_log.specs.Meaning.{current, meaning}
 use Rattle.event_log.specs.Holds.{CanOpen}
 use Rattle.pm_types.specs.Stored.{State}
 use Rattle.event_codec.specs.DecidingRecords.{record_told}
 use Rattle.event_codec.specs.DecidingStates.{state_told}
-use Rattle.event_codec.specs.States.{HasSpelling, state_spelled}
 use Rattle.node_recovery.specs.Deciding.{after_record}
 
 -- the state after the record that these bytes spell; none where they spell none, or one that isn't allowed
@@ -26,8 +25,3 @@ pub record CanRecover (image : List ℕ) : Type 0 where
 -- the most bytes of a state's text
 abbrev pub state_longest : ℕ
 state_longest = 524288
-
--- the state has a text that a half takes
-pub record HasText (s : State) : Type 0 where
-  pub spelled : HasSpelling s
-  pub short : length (state_spelled s) ≤ state_longest

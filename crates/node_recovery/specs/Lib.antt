@@ -3,3 +3,4 @@ pub mod Allowed
 pub mod Deciding
 pub mod Images
 pub mod Errors
+pub mod Recorded

@@ -9,11 +9,13 @@
 mod calls;
 mod destination;
 mod fold;
+mod laws;
 mod opening;
 mod plan;
 mod present;
 mod sessions;
 mod units;
 
+pub use laws::{what_a_call_does_is_recorded, what_a_record_makes, what_a_unit_does_is_recorded};
 pub use opening::{Found, OpenError, recover};
 pub use present::Present;

@@ -1,5 +1,5 @@
 -- What the areas of an image hold after an extent has changed.
-use Rattle.std.proofs.Common.{◌≡◌, ◌≢◌, ⊎_elim, ℕ, zero, suc, ◌<◌, List, [], length, map, get_or, set, refl, lit<, sym, ◌∙◌, ap, subst, arith, get_or-set_other, get_or-set_same}
+use Rattle.std.proofs.Common.{◌≡◌, ◌≢◌, ⊎_elim, inr, ℕ, zero, suc, ◌+◌, ◌<◌, ◌≤◌, List, [], length, map, get_or, set, refl, lit<, sym, ◌∙◌, ap, subst, arith, get_or-set_other, get_or-set_same}
 use Rattle.std.proofs.lemmas.Bool.{cases_eq}
 use Rattle.std.proofs.lemmas.List.{ext_get_or, length-set}
 use Rattle.std.proofs.lemmas.List.FromFn.{get_or-map-range_with_len, length-map-range_with_len}
@@ -15,7 +15,7 @@ use Rattle.transfer_blocks.specs.Steps.{with_bytes}
 use Rattle.slot_store.specs.Extents.{extent_in, slot_in, sides_in, held_in, HasExtents}
 use Rattle.slot_store.specs.declared.places.Places.{Places}
 use Rattle.slot_store.specs.Laws.{one_of, content_held, same_long}
-use Rattle.slot_store.proofs.Apart.{IsSound, extents_apart, extent_inside}
+use Rattle.slot_store.proofs.Apart.{IsSound, extents_apart, extent_behind, extent_inside}
 
 -- a list of n things of which the k-th alone has changed
 one_changed : {A : Type 0} (f g : ℕ → A) (n k : ℕ) (d x : A) → k < n → g k ≡ x
@@ -69,6 +69,20 @@ module _ (places : Places) (sound : IsSound places) where
         → window (extent_in places other) y ≡ window (extent_in places other) x
     other_same area other is torn other_is differ = window_apart (extent_in places area) (extent_in places other) x y
         (extents_apart places sound area other is other_is differ) torn
+
+    -- what is torn before the extents leaves the areas
+    pub torn_before : (at n : ℕ) → at + n ≤ places.slots → Torn at n x y → held_in places y ≡ held_in places x
+    unfolding held_in
+    torn_before at n le torn =
+        let same : (area : Area) → IsArea area
+        → window (extent_in places area) y ≡ window (extent_in places area) x =
+        λ area is. window_apart (record { at = at; len = n }) (extent_in places area) x y
+        (inr (omega (arith, le, extent_behind places sound area))) torn in
+        let slots = same_all (slot_in places x) (slot_in places y) transfer_limit []
+        (λ i lt. same (Transfer i) lt) in
+        let sides = same_all (sides_in places x) (sides_in places y) cluster_limit ([], [])
+        (λ i lt j. (same (Side i 0) (lt, lit< tt) j, same (Side i 1) (lt, lit< tt) j)) in
+        λ i. record { slots = slots i; sides = sides i }
 
     -- then the areas are those of before with the changed one
     pub held_changed : (area : Area) → IsArea area

@@ -18,7 +18,8 @@ use disk_core::Disk;
 use transfer_blocks::Staging;
 
 /// A law: extents lie apart, behind a node's halves and within its disk, and an area holds the whole of its own; what
-/// is torn in one leaves all that lies outside of its range, of this area and of the others.
+/// is torn in one leaves all that lies outside of its range, of this area and of the others; what is torn before the
+/// extents leaves each area.
 pub fn extents_lie_apart()
     ensures apart { (area other : an_area) → IsArea area → IsArea other → other ≢ area
         → let a = extent_in node_places area in let b = extent_in node_places other in
@@ -32,6 +33,8 @@ pub fn extents_lie_apart()
     ensures spared { (area : an_area) (at n : ℕ) (old new : List ℕ) → IsArea area
         → InArea (extent_in node_places area) (Torn at n) old new
         → LeavesOutside area at n (held_in node_places old) (held_in node_places new) }
+    ensures before { (at n : ℕ) (old new : List ℕ) → at + n ≤ node_places.slots → Torn at n old new
+        → held_in node_places new ≡ held_in node_places old }
 {}
 
 /// A law, on calls of extents one after another: a crash at any moment leaves what they may have torn; where each

@@ -1,4 +1,4 @@
-use Rattle.std.proofs.Common.{◌≡◌, ◌≤◌, ◌++◌, drop, length}
+use Rattle.std.proofs.Common.{◌≡◌, ◌++◌, drop, length}
 use Rattle.node_core.specs.Units.{changes_to}
 use Rattle.node_recovery.proofs.units.changes_to.Given as goal
 

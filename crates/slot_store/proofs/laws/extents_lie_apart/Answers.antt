@@ -1,7 +1,7 @@
 use Rattle.std.proofs.Common.{arith}
 use Rattle.slot_store.specs.Extents.{node_places}
 use Rattle.slot_store.proofs.Apart.{node_sound, extents_apart, extent_ends, extent_behind}
-use Rattle.slot_store.proofs.Held.{content_long, torn_leaves}
+use Rattle.slot_store.proofs.Held.{content_long, torn_before, torn_leaves}
 use Rattle.slot_store.proofs.laws.extents_lie_apart.Goals as goal
 
 pub returns-clause-apart : goal.returns-clause-apart
@@ -19,3 +19,6 @@ returns-clause-spared c area at n old new is torn = torn_leaves node_places node
 
 pub returns-clause-whole : goal.returns-clause-whole
 returns-clause-whole c area image is has = content_long node_places node_sound area image is has
+
+pub returns-clause-before : goal.returns-clause-before
+returns-clause-before c at n old new le torn = torn_before node_places node_sound old new at n le torn

@@ -4,27 +4,27 @@ use Rattle.node_core.proofs.node.Core.work.Goals as goal
 
 pub work-requires-clause-reserved : goal.work-requires-clause-reserved
 work-requires-clause-reserved g c = (
-  g.S.Staging.areas c.self.inside.held.staging,
+  g.S.Staging.areas c.self.inside.staging,
   c.self.invariant.0,
   work-reserved-is c.self.view_is c.requires.reserved,
 )
 
 pub invariant_of-self : goal.invariant_of-self
 invariant_of-self g c = (
-  (c.work.ensures.worked (g.S.Staging.areas c.self.inside.held.staging) c.self.invariant.0
+  (c.work.ensures.worked (g.S.Staging.areas c.self.inside.staging) c.self.invariant.0
       (work-reserved-is c.self.view_is c.requires.reserved)).sound,
   c.self.invariant.1,
 )
 
 pub returns-clause-answer : goal.returns-clause-answer
 returns-clause-answer g c =
-    (c.work.ensures.worked (g.S.Staging.areas c.self.inside.held.staging) c.self.invariant.0
+    (c.work.ensures.worked (g.S.Staging.areas c.self.inside.staging) c.self.invariant.0
     (work-reserved-is c.self.view_is c.requires.reserved)).answer
     ∙ ap (λ h. answer_to c.args.fails.now (node_of h)) (held-is c.self.view_is)
 
 pub returns-clause-node : goal.returns-clause-node
 returns-clause-node g c =
-    (c.work.ensures.worked (g.S.Staging.areas c.self.inside.held.staging) c.self.invariant.0
+    (c.work.ensures.worked (g.S.Staging.areas c.self.inside.staging) c.self.invariant.0
     (work-reserved-is c.self.view_is c.requires.reserved)).node
     ∙ ap (λ h. after_work c.args.fails.now (node_of h)) (held-is c.self.view_is)
 
@@ -34,5 +34,5 @@ returns-clause-state g c =
 
 pub returns-clause-valid : goal.returns-clause-valid
 returns-clause-valid g c =
-    (c.work.ensures.worked (g.S.Staging.areas c.self.inside.held.staging) c.self.invariant.0
+    (c.work.ensures.worked (g.S.Staging.areas c.self.inside.staging) c.self.invariant.0
     (work-reserved-is c.self.view_is c.requires.reserved)).sound.fit

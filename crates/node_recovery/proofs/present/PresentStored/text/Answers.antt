@@ -1,4 +1,4 @@
-use Rattle.std.proofs.Common.{◌≡◌, ◌≤◌, ℕ, List, ◌++◌, length, Some, sym, ◌∙◌, ap, arith}
+use Rattle.std.proofs.Common.{◌≡◌, ℕ, List, ◌++◌, Some, ◌∙◌, ap}
 use Rattle.pm_types.specs.Stored.{State}
 use Rattle.event_codec.specs.States.{state_spelled}
 use Rattle.event_codec.specs.DecidingStates.{state_told}

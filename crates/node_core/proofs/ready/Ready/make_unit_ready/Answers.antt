@@ -4,32 +4,33 @@ use Rattle.node_core.specs.Reserves.{Copies}
 use Rattle.node_core.specs.declared.node.ReserveError.TheVariants.{OutOfMemory}
 use Rattle.node_core.proofs.Reserved.{failed-reserves, nothing-reserves, reads-handed, reserves-same, sound-stands}
 use Rattle.node_core.proofs.Runs.{reads-none}
-use Rattle.node_core.proofs.node.Held.reserve_work.Goals as goal
+use Rattle.node_core.proofs.ready.Ready.make_unit_ready.Goals as goal
 
 pub returns-in_ok-prepared-in-Processing-clause-reserves : goal.returns-in_ok-prepared-in-Processing-clause-reserves
 returns-in_ok-prepared-in-Processing-clause-reserves g c =
     reserves-same (λ a s. Copies (g.S.Staging.areas a) s) (λ a s. Copies (g.S.Staging.areas a) s)
-    (λ i. ((c.self.view_is i).staging, (c.self.view_is i).ready.state))
+    (λ i. (c.args.staging.now, (c.self.view_is i).state))
     (λ step brought. brought) (λ held ready. ready) c.in_ok-prepared-in-Processing.ensures.reserves
 
 pub returns-in_err-prepared-in-Processing-clause-reserves : goal.returns-in_err-prepared-in-Processing-clause-reserves
 returns-in_err-prepared-in-Processing-clause-reserves g c =
     failed-reserves _ _ c.from_residual.ensures.1
     (reserves-same (λ a s. Copies (g.S.Staging.areas a) s) (λ a s. Copies (g.S.Staging.areas a) s)
-    (λ i. ((c.self.view_is i).staging, (c.self.view_is i).ready.state)) (λ step brought. brought) (λ held ready. ready)
+    (λ i. (c.args.staging.now, (c.self.view_is i).state)) (λ step brought. brought) (λ held ready. ready)
     c.in_err-prepared-in-Processing.ensures.reserves)
 
 pub returns-in_ok-reserve_clusters-in_default : goal.returns-in_ok-reserve_clusters-in_default
 returns-in_ok-reserve_clusters-in_default g c =
     let self = c.args.self.now in
+    let staging = c.args.staging.now in
     let own = c.requires.sound in
     record {
       state = c.in_ok-reserve_clusters-in_default.ensures.state;
       reserves =
-          nothing-reserves g.S.Staging.obeys g.S.Staging.areas self.ready.state _ _ (Ok tt) self.staging (λ end. tt)
-          (sound-stands (over (g.S.Staging.areas self.staging) self.ready) own)
+          nothing-reserves g.S.Staging.obeys g.S.Staging.areas self.state _ _ (Ok tt) staging (λ end. tt)
+          (sound-stands (over (g.S.Staging.areas staging) self) own)
           (λ ok held fit stand. c.in_ok-reserve_clusters-in_default.ensures.ready (λ busy. c.in_default.not-Processing
-          ((λ i. (c.self-inside.view_is i).0.1.0.state.status) ∙ (λ i. (c.self.view_is i).ready.state.status) ∙ busy))
+          ((λ i. (c.self-inside.view_is i).state.status) ∙ (λ i. (c.self.view_is i).state.status) ∙ busy))
           held);
       fit = c.requires.fit;
       cause = λ is. absurd (cc is);
@@ -39,8 +40,9 @@ returns-in_ok-reserve_clusters-in_default g c =
 pub returns-in_err-reserve_clusters-in_default : goal.returns-in_err-reserve_clusters-in_default
 returns-in_err-reserve_clusters-in_default g c =
     let self = c.args.self.now in
+    let staging = c.args.staging.now in
     let own = c.requires.sound in
-    let plain : IsSound (holding (g.S.Staging.areas self.staging) self.ready.state) =
+    let plain : IsSound (holding (g.S.Staging.areas staging) self.state) =
     record { fit = own.fit; order = own.order; copied = own.copied } in
     record {
       state = c.in_err-reserve_clusters-in_default.ensures.state;
