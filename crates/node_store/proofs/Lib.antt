@@ -1,0 +1,5 @@
+mod Entered
+mod EnteredWork
+mod Recorded
+mod Staged
+mod Steps
