@@ -171,7 +171,7 @@ recorded-at v status x passed after room sound ready n is leads =
     ∙ sym (ap (λ (o : Option State). Some (option_map_or (with_entry (UnitAfter after)) o s)) is)
 
 -- a unit that was answered
-record IsDone (o : Option State) (p passed : Bool) (after : Status) : Type 0 where
+pub record IsDone (o : Option State) (p passed : Bool) (after : Status) : Type 0 where
   pub state : State
   pub is : o ≡ Some state
   pub leads : state.status ≡ after
@@ -185,32 +185,37 @@ answered (Some n) p passed status after e =
     let leads : n.status ≡ after = cc in let passes : p ≡ passed = cc in
     record { state = n; is = refl; leads = leads; passes = passes }
 
-pub work_recorded : (v : Holding) (fails : List (List ℕ)) (passed : Bool) (after : Status)
-    → v.state.entries < entry_limit → IsSound v → IsReservedWork v
-    → answer_to fails (node_of v) ≡ UnitDone passed after → Records v passed after
-work_recorded v fails passed after room sound ready answer = go v.state.session refl
-  where
-    p : Bool
-    p = unit_passes fails (node_of v)
+module _ (v : Holding) (fails : List (List ℕ)) (passed : Bool) (after : Status) (sound : IsSound v)
+    (ready : IsReservedWork v) (answer : answer_to fails (node_of v) ≡ UnitDone passed after) where
+  abbrev p : Bool
+  p = unit_passes fails (node_of v)
 
-    done : IsDone (unit_stored (under v) p) p passed after
-    done = answered (unit_stored (under v) p) p passed v.state.status after
-        (foreseen v fails p sound ready refl (option_map (λ (t : State). t.status) (unit_stored (under v) p)) refl
-        ∙ answer)
+  pub work_done : IsDone (unit_stored (under v) passed) p passed after
+  work_done =
+      let done = answered (unit_stored (under v) p) p passed v.state.status after
+      (foreseen v fails p sound ready refl (option_map (λ (t : State). t.status) (unit_stored (under v) p)) refl
+      ∙ answer) in record {
+        state = done.state;
+        is = ap (unit_stored (under v)) (sym done.passes) ∙ done.is;
+        leads = done.leads;
+        passes = done.passes;
+      }
 
-    is : unit_stored (under v) passed ≡ Some done.state
-    is = ap (unit_stored (under v)) (sym done.passes) ∙ done.is
+  none-done : v.state.session ≡ None → ⊥
+  none-done none =
+      let no : None ≡ Some work_done.state = sym (ap (λ (o : Option (SessionOf Extent)). option_and_then (λ x.
+      work_on (kept_by (under v)) (process_stored (under v) x) v.state x passed v.state.status) o) none)
+      ∙ work_done.is in absurd (cc)
 
-    none-done : v.state.session ≡ None → ⊥
-    none-done none =
-        let no : None ≡ Some done.state = sym (ap (λ (o : Option (SessionOf Extent)). option_and_then (λ x.
-        work_on (kept_by (under v)) (process_stored (under v) x) v.state x passed v.state.status) o) none) ∙ is in
-        absurd (cc)
-
-    go : (o : Option (SessionOf Extent)) → v.state.session ≡ o → Records v passed after
-    go None none = absurd (none-done none)
-    go (Some x) some =
-        let same = at-work v v.state.status x refl some in
-        subst (λ u. Records u passed after) (sym same)
-        (recorded-at v v.state.status x passed after room (subst IsSound same sound) (subst IsReservedWork same ready)
-        done.state (subst (λ (u : Holding). unit_stored (under u) passed ≡ Some done.state) same is) done.leads)
+  pub work_recorded : v.state.entries < entry_limit → Records v passed after
+  work_recorded room = go v.state.session refl
+    where
+      go : (o : Option (SessionOf Extent)) → v.state.session ≡ o → Records v passed after
+      go None none = absurd (none-done none)
+      go (Some x) some =
+          let same = at-work v v.state.status x refl some in
+          subst (λ u. Records u passed after) (sym same)
+          (recorded-at v v.state.status x passed after room (subst IsSound same sound)
+          (subst IsReservedWork same ready) work_done.state
+          (subst (λ (u : Holding). unit_stored (under u) passed ≡ Some work_done.state) same work_done.is)
+          work_done.leads)

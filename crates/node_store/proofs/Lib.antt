@@ -1,0 +1,6 @@
+mod Entered
+mod EnteredWork
+mod Recorded
+mod Staged
+mod Steps
+mod Blank
