@@ -28,7 +28,7 @@ use Rattle.sub_core.specs.declared.progress.Wish.{Wish}
 use Rattle.sub_core.specs.Calls.{call_of}
 use Rattle.sub_core.specs.Driving.{after_send, after_todo, after_unit, at_free, at_session, at_shown, at_status, begun, end_after, end_wish, has_number, is_answer, is_missed, is_over, next_no, next_transfer, opened, progress_after, replied, round_after, round_step, settled_after, status_of, step, todo, todo_for, unreached, wish, wish_at, IsEnding}
 use Rattle.sub_core.specs.Given.{is_ending, message_of, reply_got}
-use Rattle.sub_core.specs.Sends.{decision_of}
+use Rattle.sub_core.specs.Sends.{IsEndCall, decision_of}
 use Rattle.sub_core.specs.States.{DriverState, IsPlaced, IsPlacedEnd, IsSound, size_at}
 use Rattle.sub_core.proofs.Told.{EndTold, Found, IsOwned, IsTold, ToldAt, told_after, told_reply, told_unit}
 use Rattle.sub_core.proofs.Stages.{calls_of_wish, not_process, wish_of_todo, IsCalling}
@@ -588,13 +588,13 @@ module _ (packages : List (List ℕ)) (k epoch : ℕ) (commit : Bool) (cause : C
 
 pub late_told : (packages : List (List ℕ)) (d : DriverState) (told : List Told) (commit : Bool) (end : EndProgress)
     → d.progress ≡ Progress.Ending commit end → IsSound d → IsTold d told
-    → (at : CallNo) (asked : SendStep) → todo d ≡ Todo.Send at asked → (cause : Cause)
-    → IsLate packages d.campaign d.epoch commit cause told asked
-late_told packages d told commit end here sound is_told at asked is cause =
+    → (asked : SendStep) → wish d ≡ Wish.Send asked
+    → IsEndCall commit d.campaign d.epoch told (call_of packages asked)
+late_told packages d told commit end here sound is_told asked is cause =
     late_at packages d.campaign d.epoch commit cause told end asked
     (subst (IsPlaced d.steps d.ids) here sound.placed)
     (subst (λ p. ToldAt d.campaign d.epoch p told) here is_told)
-    (subst (λ p. wish_at d p ≡ Wish.Send asked) here (wish_of_todo d (wish d) at asked is))
+    (subst (λ p. wish_at d p ≡ Wish.Send asked) here is)
 
 module _ (k epoch : ℕ) (told : List Told) where
   found_if : (b : Bool) (g f : Finding) (t : Todo) → Found k epoch g told → (t ≡ Todo.Rest f → ⊥)

@@ -1,25 +1,24 @@
 -- What is kept of a driver and of its attempts, by whatever it is given.
-use Rattle.std.proofs.Common.{◌≡◌, ◌⊎◌, inl, inr, ℕ, suc, ◌+◌, ◌-◌, ◌<◌, ◌≤◌, Bool, true, false, if◌then◌else◌, nat_eq, nat_lt, nat_le, List, [], ◌∷◌, ◌++◌, length, slice_index_or, take, ◌==◌, Option, Some, None, is_some, refl, sym, ap, subst, ◌∙◌, arith, append-nil}
+use Rattle.std.proofs.Common.{◌≡◌, ◌⊎◌, inl, inr, ℕ, suc, ◌+◌, ◌-◌, ◌<◌, ◌≤◌, Bool, true, false, ◌||◌, if◌then◌else◌, nat_eq, nat_lt, nat_le, List, [], ◌∷◌, ◌++◌, length, slice_index_or, take, ◌==◌, Option, Some, None, is_some, refl, sym, ap, subst, ◌∙◌, arith, append-nil}
 use Rattle.std.proofs.lemmas.Bool.Decides.{nat_tests}
 use Rattle.std.specs.Ordering.{is_eq, is_lt}
 use Rattle.ucm_base.specs.Limits.{block_limit}
 use Rattle.ucm_base.specs.declared.ids.CallNo.{CallNo}
 use Rattle.campaign_core.specs.declared.events.Cause.{Cause}
-use Rattle.campaign_core.specs.declared.events.Decision.{Decision}
-use Rattle.campaign_core.specs.declared.events.Decision.TheVariants.{Commit, Abort}
 use Rattle.pm_types.specs.Steps.{call_no_cmp}
 use Rattle.pm_types.specs.NodeState.{is_working}
 use Rattle.pm_types.specs.declared.calls.Call.{Call}
 use Rattle.pm_types.specs.declared.replies.Reply.{Reply}
 use Rattle.pm_types.specs.declared.replies.Reply.TheVariants.{Done, Started, Synced, Refused}
+use Rattle.pm_types.specs.declared.replies.Synced.{Synced as Shown}
 use Rattle.pm_types.specs.declared.status.Status.{Status}
 use Rattle.pm_types.specs.declared.status.Status.TheVariants.{Idle, Ready, Processing, Activating, Verifying, Activated, RollingBack, RolledBack, CleaningUp}
 use Rattle.world.specs.Attempts.{Attempt, Tried, Worked, told_by, sent_by, with_sent, replies_by, MayTry, AreInOrder}
-use Rattle.world.specs.Messages.{Message, Told, Answered, Showed, is_refusal, is_told, told_reply}
+use Rattle.world.specs.Messages.{Message, Told, Answered, Showed, is_refusal, is_sync, is_told, told_reply}
 use Rattle.world.specs.RoundCalls.{AllFit, Fits, round_calls}
 use Rattle.world.specs.Rounds.{Stage, AtSync, AtStart, AtData, AtProcess, AtActivate, Over, RefusedOnce, call_at, onward, stage_of}
 use Rattle.world.specs.RoundsBySize.{GoesBySize}
-use Rattle.world.specs.Sends.{end_call_at, has_refusal}
+use Rattle.world.specs.Sends.{delete_at, end_call_at, has_refusal, last_shown, last_status}
 use Rattle.sub_core.specs.declared.answers.Finding.{Finding}
 use Rattle.sub_core.specs.declared.answers.Round.{Round}
 use Rattle.sub_core.specs.declared.answers.SendStep.{SendStep}
@@ -28,20 +27,20 @@ use Rattle.sub_core.specs.declared.progress.EndProgress.{EndProgress}
 use Rattle.sub_core.specs.declared.progress.Progress.{Progress}
 use Rattle.sub_core.specs.declared.progress.Wish.{Wish}
 use Rattle.sub_core.specs.Calls.{AreThere, call_of, step_bytes}
-use Rattle.sub_core.specs.Driving.{begun, end_step, end_wish, fresh, is_answer, is_missed, is_over, missed, next_no, opened, progress_after, replied, round_step, settled_after, todo, wish, wish_at, worked, CanBegin, IsBeforeEnd, IsEnding}
+use Rattle.sub_core.specs.Driving.{begun, decision_given, end_step, fresh, is_answer, is_missed, is_over, missed, next_no, opened, progress_after, replied, round_step, settled_after, todo, wish, wish_at, worked, CanBegin, IsBeforeEnd, IsEnding}
 use Rattle.sub_core.specs.Evidence.{AreVain, misses_in}
-use Rattle.sub_core.specs.Made.{AreSentInTurn, Made, calls_in, ids_given, is_end_call, made_early, made_in, made_late, made_of, sent_early}
+use Rattle.sub_core.specs.Made.{AreSentInTurn, Made, calls_in, ids_given, is_permitted, made_early, made_in, made_late, made_of, sent_early}
 use Rattle.sub_core.specs.Given.{Given, Task, after, is_ending, message_of}
-use Rattle.sub_core.specs.Sends.{AreCallsFor, AreNumbered, IsCallFor, decision_of}
+use Rattle.sub_core.specs.Sends.{AreCallsFor, AreNumbered, IsCallFor, IsEndCall, decision_of}
 use Rattle.sub_core.specs.States.{DriverState, IsPlaced, IsPlacedEnd, IsSound, number_limit}
-use Rattle.sub_core.proofs.Allowed.{early_at, told_begun, told_replied, told_worked}
+use Rattle.sub_core.proofs.Allowed.{early_at, late_told, told_begun, told_replied, told_worked}
 use Rattle.sub_core.proofs.Ends.{IsEndAt, end_begins, not_begun, end_replied, end_worked}
 use Rattle.sub_core.proofs.Asked.{all_undecided, answered_in, answered_late, calls_answered, closed_of, count_answered, sent_late, shown_late}
 use Rattle.sub_core.proofs.Making.{AreRounds, AreTurned, all_early, all_sent_early, are_accepted, end_more, neither, next_taken, none_made, one_more, some_bytes, turned, with_late}
 use Rattle.sub_core.proofs.Placed.{sound_begun, sound_missed, sound_opened, sound_replied, sound_worked}
 use Rattle.sub_core.proofs.Rounds.{StandsFor}
 use Rattle.sub_core.proofs.Stages.{asks_next, done_of_todo, stands_begun, stands_replied, stands_worked}
-use Rattle.sub_core.proofs.Told.{EndTold, IsTold, ToldAt}
+use Rattle.sub_core.proofs.Told.{IsTold}
 
 -- Activate is answered in its own round alone, and the end phase is gone through in its own
 abbrev pub IsWithin : Option Round → Progress → Type 0
@@ -129,17 +128,18 @@ pub record IsKept (lent : List (List ℕ)) (task : Task) (d : DriverState) (atte
       → AllFit (step_bytes lent task.steps) AtSync (replies_by attempts)
   pub last : LastAt d.progress attempts
   pub end : IsEndAt d.round d.progress (told_by attempts)
-  pub calls : AreCallsFor task.campaign (step_bytes lent task.steps) attempts
+  pub calls : AreCallsFor task.campaign task.epoch (step_bytes lent task.steps) (decision_given d.round) attempts
   pub made : IsBeforeEnd d.round
       → AreRounds task.campaign task.epoch task.first (step_bytes lent task.steps) d.number
       (made_in (told_by attempts)) (replies_by attempts)
   pub turned : IsEndRound d.round
-      → AreTurned task.campaign task.epoch task.first (step_bytes lent task.steps) d.number
+      → AreTurned task.campaign task.epoch task.first (step_bytes lent task.steps) (decision_given d.round) d.number
       (made_in (told_by attempts)) (made_early (told_by attempts)) (made_late (told_by attempts))
       (sent_early (sent_by attempts))
   pub heard : IsBeforeEnd d.round → closed_of d.is_open (sent_by attempts) ≡ answered_in (told_by attempts)
   pub messages : IsEndRound d.round
-      → AreSentInTurn task.campaign (step_bytes lent task.steps) (told_by attempts) (sent_by attempts)
+      → AreSentInTurn (decision_given d.round) task.campaign (step_bytes lent task.steps) (told_by attempts)
+      (sent_by attempts)
 
 -- numbers and what was told
 
@@ -337,10 +337,10 @@ last_asked d (Progress.Ending commit EndProgress.Units) attempts asks = tt
 last_asked d (Progress.Ending commit (EndProgress.Delete listed place)) attempts asks = tt
 last_asked d (Progress.Ending commit (EndProgress.Rest call_no)) attempts asks = absurd (asks call_no refl)
 
-last_status : (commit b : Bool) (asked : SendStep) (attempts : List Attempt)
+last_at_status : (commit b : Bool) (asked : SendStep) (attempts : List Attempt)
     → LastAt (Progress.Ending commit (if b then EndProgress.Units else EndProgress.Call asked)) attempts
-last_status commit true asked attempts = tt
-last_status commit false asked attempts = tt
+last_at_status commit true asked attempts = tt
+last_at_status commit false asked attempts = tt
 
 last_worked : (d : DriverState) (p : Progress) (status : Status) (attempts : List Attempt) → wish_at d p ≡ Wish.Unit
     → LastAt (settled_after p status) attempts
@@ -359,7 +359,7 @@ last_worked d Progress.Activating RollingBack attempts is = tt
 last_worked d Progress.Activating CleaningUp attempts is = tt
 last_worked d (Progress.Voted finding) status attempts is = tt
 last_worked d (Progress.Ending commit at) status attempts is =
-    last_status commit (is_working status) (end_step commit status) attempts
+    last_at_status commit (is_working status) (end_step commit status) attempts
 
 last_begun : (round : Round) (d : DriverState) (attempts : List Attempt) → LastAt d.progress attempts
     → LastAt (begun round d).progress attempts
@@ -472,55 +472,39 @@ same_no a epoch number e n =
 same_send : (a b : SendStep) → Wish.Send a ≡ Wish.Send b → a ≡ b
 same_send a b is = cc is
 
--- what the last status allows is a call of the end phase
-end_call_only : (decision : Decision) (status : Option Status) (call : Call) → end_call_at decision status call ≡ true
-    → is_end_call call ≡ true
-end_call_only decision status Call.Sync is = refl
-end_call_only decision status (Call.DeleteTransfer id) is = refl
-end_call_only decision status Call.Finish is = refl
-end_call_only decision status Call.Rollback is = refl
-end_call_only decision status Call.RevertProcessedSwPackages is = refl
-end_call_only decision None call is = absurd (cc is)
-end_call_only Commit (Some s) (Call.TransferStart size) is = absurd (cc is)
-end_call_only (Abort cause) (Some s) (Call.TransferStart size) is = absurd (cc is)
-end_call_only Commit (Some s) (Call.TransferData id counter bytes) is = absurd (cc is)
-end_call_only (Abort cause) (Some s) (Call.TransferData id counter bytes) is = absurd (cc is)
-end_call_only Commit (Some s) (Call.TransferExit id) is = absurd (cc is)
-end_call_only (Abort cause) (Some s) (Call.TransferExit id) is = absurd (cc is)
-end_call_only Commit (Some s) (Call.ProcessSwPackage id tag) is = absurd (cc is)
-end_call_only (Abort cause) (Some s) (Call.ProcessSwPackage id tag) is = absurd (cc is)
-end_call_only Commit (Some s) Call.Activate is = absurd (cc is)
-end_call_only (Abort cause) (Some s) Call.Activate is = absurd (cc is)
-end_call_only Commit (Some s) (Call.Cancel id) is = absurd (cc is)
-end_call_only (Abort cause) (Some s) (Call.Cancel id) is = absurd (cc is)
+-- what is allowed in the end phase is what the decision permits
+permitted : (commit : Bool) (cause : Cause) (status : Option Status) (shown : Option Shown) (call : Call)
+    → (is_sync call || (end_call_at (decision_of commit cause) status call || delete_at shown call)) ≡ true
+    → is_permitted (Some commit) call ≡ true
+permitted true cause None shown call is = grind arith
+permitted true cause (Some s) shown call is = grind arith
+permitted false cause None shown call is = grind arith
+permitted false cause (Some s) shown call is = grind arith
 
-module _ (lent : List (List ℕ)) (k epoch : ℕ) (commit : Bool) (told : List Told) where
-  end_call_asked : (a : SendStep) → IsPlacedEnd (EndProgress.Call a) → EndTold k epoch commit (EndProgress.Call a) told
-      → is_end_call (call_of lent a) ≡ true
-  end_call_asked SendStep.Sync placed t = refl
-  end_call_asked (SendStep.Start p) placed t = absurd placed
-  end_call_asked (SendStep.Data p id counter) placed t = absurd placed
-  end_call_asked (SendStep.Exit id) placed t =
-      end_call_only (decision_of commit Cause.Cancel) _ (Call.TransferExit id) (t.allowed Cause.Cancel)
-  end_call_asked (SendStep.Process id tag) placed t =
-      end_call_only (decision_of commit Cause.Cancel) _ (Call.ProcessSwPackage id tag) (t.allowed Cause.Cancel)
-  end_call_asked SendStep.Activate placed t =
-      end_call_only (decision_of commit Cause.Cancel) _ Call.Activate (t.allowed Cause.Cancel)
-  end_call_asked SendStep.Finish placed t = refl
-  end_call_asked SendStep.Rollback placed t = refl
-  end_call_asked SendStep.Revert placed t = refl
-  end_call_asked (SendStep.Delete id) placed t = refl
+-- before the decision no message is of the end phase
+call_so_far : (k epoch : ℕ) (ps : List (List ℕ)) (b : Bool) (decision : Option Bool) (call : Call)
+    (older : List Attempt) → IsCallFor k epoch ps b None call older → IsCallFor k epoch ps b decision call older
+call_so_far k epoch ps false decision call older is = is
+call_so_far k epoch ps true decision call older is = absurd is
 
-  end_call_of : (at : EndProgress) (asked : SendStep) → IsPlacedEnd at → EndTold k epoch commit at told
-      → end_wish at ≡ Wish.Send asked → is_end_call (call_of lent asked) ≡ true
-  end_call_of (EndProgress.Call a) asked placed t is =
-      let same : a ≡ asked = cc is in
-      subst (λ s. is_end_call (call_of lent s) ≡ true) same (end_call_asked a placed t)
-  end_call_of EndProgress.Units asked placed t is = absurd (cc is)
-  end_call_of (EndProgress.Delete listed place) asked placed t is =
-      let same : SendStep.Delete (slice_index_or listed place 0) ≡ asked = cc is in
-      subst (λ s. is_end_call (call_of lent s) ≡ true) same refl
-  end_call_of (EndProgress.Rest call_no) asked placed t is = absurd (cc is)
+calls_so_far : (k epoch : ℕ) (ps : List (List ℕ)) (decision : Option Bool) (attempts : List Attempt)
+    → AreCallsFor k epoch ps None attempts → AreCallsFor k epoch ps decision attempts
+calls_so_far k epoch ps decision [] calls = tt
+calls_so_far k epoch ps decision (Tried m reply ∷ older) calls = (
+  call_so_far k epoch ps m.decided decision m.call older calls.0,
+  calls_so_far k epoch ps decision older calls.1,
+)
+calls_so_far k epoch ps decision (Worked status ∷ older) calls = calls_so_far k epoch ps decision older calls
+
+none_given : (round : Round) (d : DriverState) → CanBegin round d → decision_given d.round ≡ None
+none_given Round.Sync d can = ap decision_given can
+none_given Round.Transfer d can = ap decision_given can.round
+none_given Round.Process d can = ap decision_given can.round
+none_given Round.Activate d can = ap decision_given can.round
+none_given (Round.End commit) d can = before d.round can
+  where
+    before : (r : Option Round) → IsBeforeEnd r → decision_given r ≡ None
+    before r rounds = grind arith
 
 module _ (by_size : GoesBySize) (lent : List (List ℕ)) (task : Task) (d : DriverState) (tries : List Attempt)
     (kept : IsKept lent task d tries) (there : AreThere lent task.steps) (asked : SendStep)
@@ -540,7 +524,8 @@ module _ (by_size : GoesBySize) (lent : List (List ℕ)) (task : Task) (d : Driv
       (not_ending d.progress early) asked wishes))
 
   call_for : (p : Progress) → d.progress ≡ p
-      → IsCallFor task.campaign (step_bytes lent task.steps) (is_ending p) (call_of lent asked) (replies_by tries)
+      → IsCallFor task.campaign task.epoch (step_bytes lent task.steps) (is_ending p) (decision_given d.round)
+      (call_of lent asked) tries
   call_for Progress.Sync here = early_call (ap is_ending here)
   call_for Progress.Transfer here = early_call (ap is_ending here)
   call_for (Progress.Data id counter left) here = early_call (ap is_ending here)
@@ -548,14 +533,17 @@ module _ (by_size : GoesBySize) (lent : List (List ℕ)) (task : Task) (d : Driv
   call_for Progress.Activating here = early_call (ap is_ending here)
   call_for (Progress.Voted finding) here = early_call (ap is_ending here)
   call_for (Progress.Ending commit at) here =
-      end_call_of lent d.campaign d.epoch commit (told_by tries) at asked
-      (subst (IsPlaced d.steps d.ids) here kept.sound.placed)
-      (subst (λ p. ToldAt d.campaign d.epoch p (told_by tries)) here kept.told)
-      (subst (λ p. wish_at d p ≡ Wish.Send asked) here wishes)
+      let call = call_of lent asked in
+      subst
+      (λ r. IsCallFor task.campaign task.epoch (step_bytes lent task.steps) true (decision_given r) call tries)
+      (sym (subst (IsWithin d.round) here kept.within))
+      (subst (λ k. IsEndCall commit k task.epoch (told_by tries) call) kept.campaign
+      (subst (λ e. IsEndCall commit d.campaign e (told_by tries) call) kept.epoch
+      (late_told lent d (told_by tries) commit at here kept.sound kept.told asked wishes)))
 
-  -- what is asked is a call for the replies
-  pub is_call_for : IsCallFor task.campaign (step_bytes lent task.steps) (is_ending d.progress) (call_of lent asked)
-      (replies_by tries)
+  -- what is asked is a call for the attempts before it
+  pub is_call_for : IsCallFor task.campaign task.epoch (step_bytes lent task.steps) (is_ending d.progress)
+      (decision_given d.round) (call_of lent asked) tries
   is_call_for = call_for d.progress refl
 
 module _ (lent : List (List ℕ)) (task : Task) (d : DriverState) (tries : List Attempt) (kept : IsKept lent task d tries)
@@ -627,18 +615,28 @@ module _ (lent : List (List ℕ)) (task : Task) (d : DriverState) (tries : List 
   is_late : IsEndRound d.round → is_ending d.progress ≡ true
   is_late end = let round = end_round d.round end in ap is_ending (kept.end round.0 round.1)
 
-  end_call : IsEndRound d.round → is_end_call m.call ≡ true
+  end_call : IsEndRound d.round → is_permitted (decision_given d.round) m.call ≡ true
   end_call end =
-      subst (λ b. IsCallFor task.campaign (step_bytes lent task.steps) b m.call (replies_by tries)) (is_late end)
-      (is_call_for by_size lent task d tries kept there asked wishes)
+      let round = end_round d.round end in
+      let is : IsEndCall round.0 task.campaign task.epoch (told_by tries) m.call =
+      subst
+      (λ r. IsCallFor task.campaign task.epoch (step_bytes lent task.steps) true (decision_given r) m.call tries)
+      round.1
+      (subst
+      (λ b. IsCallFor task.campaign task.epoch (step_bytes lent task.steps) b (decision_given d.round) m.call tries)
+      (is_late end) (is_call_for by_size lent task d tries kept there asked wishes)) in
+      subst (λ r. is_permitted (decision_given r) m.call ≡ true) (sym round.1)
+      (permitted round.0 Cause.Cancel (last_status task.campaign task.epoch (told_by tries))
+      (last_shown task.campaign task.epoch (told_by tries)) m.call (is Cause.Cancel))
 
   turned_opened : IsEndRound d.round
-      → AreTurned task.campaign task.epoch task.first (step_bytes lent task.steps) d.number (made_in (told_by tries))
-      (made_early (told_by tries)) (made_late (told_by tries)) (sent_early (with_sent m (sent_by tries)))
+      → AreTurned task.campaign task.epoch task.first (step_bytes lent task.steps) (decision_given d.round) d.number
+      (made_in (told_by tries)) (made_early (told_by tries)) (made_late (told_by tries))
+      (sent_early (with_sent m (sent_by tries)))
   turned_opened end =
       subst
-      (AreTurned task.campaign task.epoch task.first (step_bytes lent task.steps) d.number (made_in (told_by tries))
-      (made_early (told_by tries)) (made_late (told_by tries)))
+      (AreTurned task.campaign task.epoch task.first (step_bytes lent task.steps) (decision_given d.round) d.number
+      (made_in (told_by tries)) (made_early (told_by tries)) (made_late (told_by tries)))
       (sym (with_late m (sent_by tries) (is_late end))) (kept.turned end)
 
   -- an attempt without an answer
@@ -670,7 +668,7 @@ module _ (lent : List (List ℕ)) (task : Task) (d : DriverState) (tries : List 
     turned = turned_opened;
     heard = λ rounds. ap (closed_of true) now.sent ∙ (now.closed ∙ kept.heard rounds);
     messages = λ end.
-        sent_late task.campaign (step_bytes lent task.steps) (told_by tries) m (is_late end) (end_call end)
+        sent_late (decision_given d.round) task.campaign (step_bytes lent task.steps) (told_by tries) m (is_late end) (end_call end)
         (sent_by tries)
         (kept.messages end);
   }
@@ -709,10 +707,10 @@ module _ (lent : List (List ℕ)) (task : Task) (d : DriverState) (tries : List 
     answered = Answered m reply ∷ told_by tries
 
     turned_now : IsEndRound d.round
-        → AreTurned task.campaign task.epoch task.first ps (d.number + 1) (made_in answered) (made_early answered)
-        (made_late answered) (sent_early (with_sent m (sent_by tries)))
+        → AreTurned task.campaign task.epoch task.first ps (decision_given d.round) (d.number + 1) (made_in answered)
+        (made_early answered) (made_late answered) (sent_early (with_sent m (sent_by tries)))
     turned_now end =
-        end_more task.campaign task.epoch task.first ps d.number (sent_early (with_sent m (sent_by tries)))
+        end_more task.campaign task.epoch task.first ps (decision_given d.round) d.number (sent_early (with_sent m (sent_by tries)))
         (told_by tries) (turned_opened end) m (is_late end) at_now (end_call end) reply
 
     -- an attempt with its reply
@@ -755,8 +753,8 @@ module _ (lent : List (List ℕ)) (task : Task) (d : DriverState) (tries : List 
       turned = turned_now;
       heard = λ rounds. now.sent ∙ ap (λ l. m ∷ l) (now.closed ∙ kept.heard rounds);
       messages = λ end.
-          answered_late task.campaign ps (told_by tries) m (is_late end) (end_call end) reply (sent_by tries)
-          (kept.messages end);
+          answered_late (decision_given d.round) task.campaign ps (told_by tries) m (is_late end) (end_call end) reply
+          (sent_by tries) (kept.messages end);
     }
 
 -- the end comes once
@@ -855,8 +853,9 @@ module _ (by_size : GoesBySize) (lent : List (List ℕ)) (task : Task) (d : Driv
       calls_open pending.asked pending.older pending.wish pending.newest
       (ap (closed_of true) (sym pending.newest) ∙ heard)
 
-  pub sent_in_rounds : AreSentInTurn task.campaign bytes (told_by tries) (sent_by tries)
-  sent_in_rounds =
+  pub sent_in_rounds : (decision : Option Bool) → AreSentInTurn decision task.campaign bytes (told_by tries)
+      (sent_by tries)
+  sent_in_rounds decision =
       let order = kept.order rounds in
       record {
         early = sent_by tries;
@@ -960,7 +959,7 @@ module _ (lent : List (List ℕ)) (task : Task) (d : DriverState) (tries : List 
       turned = kept.turned;
       heard = kept.heard;
       messages = λ end.
-          shown_late task.campaign (step_bytes lent task.steps) (told_by tries) (sent_by tries) status
+          shown_late (decision_given d.round) task.campaign (step_bytes lent task.steps) (told_by tries) (sent_by tries) status
           (kept.messages end);
     }
       where
@@ -995,7 +994,9 @@ module _ (lent : List (List ℕ)) (task : Task) (d : DriverState) (tries : List 
       fit = λ rounds. kept.fit (rounds_before round d can rounds).0;
       last = last_begun round d tries kept.last;
       end = end_begins task.campaign round d tries can kept.order;
-      calls = kept.calls;
+      calls = calls_so_far task.campaign task.epoch (step_bytes lent task.steps) (decision_given (Some round)) tries
+          (subst (λ x. AreCallsFor task.campaign task.epoch (step_bytes lent task.steps) x tries)
+          (none_given round d can) kept.calls);
       made = made_begun d.is_open kept.pending;
       turned = turned_begun round can;
       heard = heard_begun d.is_open kept.pending kept.heard;
@@ -1010,8 +1011,10 @@ module _ (lent : List (List ℕ)) (task : Task) (d : DriverState) (tries : List 
         heard_begun false pending heard rounds = heard (rounds_before round d can rounds).0
 
         messages_begun : (r : Round) → CanBegin r d → IsEndRound (Some r)
-            → AreSentInTurn task.campaign (step_bytes lent task.steps) (told_by tries) (sent_by tries)
-        messages_begun (Round.End commit) begins end = sent_in_rounds by_size lent task d tries kept there begins
+            → AreSentInTurn (decision_given (Some r)) task.campaign (step_bytes lent task.steps) (told_by tries)
+            (sent_by tries)
+        messages_begun (Round.End commit) begins end =
+            sent_in_rounds by_size lent task d tries kept there begins (Some commit)
         messages_begun Round.Sync begins end = absurd end
         messages_begun Round.Transfer begins end = absurd end
         messages_begun Round.Process begins end = absurd end
@@ -1035,7 +1038,7 @@ module _ (lent : List (List ℕ)) (task : Task) (d : DriverState) (tries : List 
         made_begun false pending rounds = kept.made (rounds_before round d can rounds).0
 
         turned_begun : (r : Round) → CanBegin r d → IsEndRound (Some r)
-            → AreTurned task.campaign task.epoch task.first (step_bytes lent task.steps)
+            → AreTurned task.campaign task.epoch task.first (step_bytes lent task.steps) (decision_given (Some r))
             (if d.is_open then d.number + 1 else d.number)
             (made_in (told_by tries)) (made_early (told_by tries)) (made_late (told_by tries))
             (sent_early (sent_by tries))
@@ -1046,11 +1049,11 @@ module _ (lent : List (List ℕ)) (task : Task) (d : DriverState) (tries : List 
             let later = more d.is_open in
             let order = kept.order begins in
             subst
-            (AreTurned task.campaign task.epoch task.first (step_bytes lent task.steps)
+            (AreTurned task.campaign task.epoch task.first (step_bytes lent task.steps) (Some commit)
             (if d.is_open then d.number + 1 else d.number) (made_in (told_by tries)) (made_early (told_by tries))
             (made_late (told_by tries)))
             (sym (all_sent_early task.campaign tries order))
-            (turned task.campaign task.epoch task.first (step_bytes lent task.steps) d.number (length (sent_by tries))
+            (turned task.campaign task.epoch task.first (step_bytes lent task.steps) (Some commit) d.number (length (sent_by tries))
             (told_by tries) (replies_by tries) made (not_begun task.campaign tries order)
             (omega (arith, made.count, now, later)) (if d.is_open then d.number + 1 else d.number) (omega (arith, now)))
         turned_begun Round.Sync begins end = absurd end

@@ -193,152 +193,151 @@ module _ (by_size : GoesBySize) (got : RepliesAreGot) (lent : List (List ℕ)) (
   kept : IsKept lent task d tries
   kept = so_far.kept
 
-  module _ (asked : SendStep) (wishes : wish d ≡ Wish.Send asked) (asks : todo d ≡ Todo.Send (next_no d) asked)
-    where
-      abbrev m : Message
-      m = message_of lent d (next_no d) asked
+  module _ (asked : SendStep) (wishes : wish d ≡ Wish.Send asked) where
+    abbrev m : Message
+    m = message_of lent d (next_no d) asked
 
-      -- the newest message again
-      again : IsOpen lent d sent → IsAgain m told (sent ++ earlier)
-      again is_open =
-          let same : is_open.asked ≡ asked = cc (sym is_open.wish ∙ wishes) in
-          record {
-            older = is_open.older ++ earlier;
-            newest = ap (λ l. l ++ earlier)
-                (is_open.newest ∙ ap (λ a. message_of lent d (next_no d) a ∷ is_open.older) same);
-            pending = ap is_some (untold task.epoch (next_no d) told kept.below);
-          }
+    -- the newest message again
+    again : IsOpen lent d sent → IsAgain m told (sent ++ earlier)
+    again is_open =
+        let same : is_open.asked ≡ asked = cc (sym is_open.wish ∙ wishes) in
+        record {
+          older = is_open.older ++ earlier;
+          newest = ap (λ l. l ++ earlier)
+              (is_open.newest ∙ ap (λ a. message_of lent d (next_no d) a ∷ is_open.older) same);
+          pending = ap is_some (untold task.epoch (next_no d) told kept.below);
+        }
 
-      -- a new message has the next number
-      next_of : (own : List Message) → AreNumbered task.epoch task.first own → d.number + 0 ≡ task.first + length own
-          → m.at ≡ next_number d.epoch (own ++ earlier)
-      next_of [] numbered count =
-          let number : d.number ≡ task.first = omega (arith, count) in
-          ap (λ x. record { epoch = d.epoch; number = x }) number
-          ∙ (ap (λ x. record { epoch = x; number = task.first }) kept.epoch
-          ∙ (sym before.next ∙ ap (λ e. next_number e earlier) (sym kept.epoch)))
-      next_of (newest ∷ older) numbered count =
-          let number : newest.at.number ≡ task.first + length older = ap (λ a. a.number) numbered.0 in
-          let same : nat_eq newest.at.epoch d.epoch ≡ true =
-          ap (λ a. nat_eq a.epoch d.epoch) numbered.0 ∙ (ap (nat_eq task.epoch) kept.epoch ∙ same_number task.epoch) in
-          let up : d.number ≡ newest.at.number + 1 = omega (arith, count, number) in
-          ap (λ x. record { epoch = d.epoch; number = x })
-          (up ∙ sym (ap (λ b. if b then newest.at.number + 1 else 1) same))
-        where
-          same_number : (x : ℕ) → nat_eq x x ≡ true
-          same_number x = grind (arith, nat_tests)
+    -- a new message has the next number
+    next_of : (own : List Message) → AreNumbered task.epoch task.first own → d.number + 0 ≡ task.first + length own
+        → m.at ≡ next_number d.epoch (own ++ earlier)
+    next_of [] numbered count =
+        let number : d.number ≡ task.first = omega (arith, count) in
+        ap (λ x. record { epoch = d.epoch; number = x }) number
+        ∙ (ap (λ x. record { epoch = x; number = task.first }) kept.epoch
+        ∙ (sym before.next ∙ ap (λ e. next_number e earlier) (sym kept.epoch)))
+    next_of (newest ∷ older) numbered count =
+        let number : newest.at.number ≡ task.first + length older = ap (λ a. a.number) numbered.0 in
+        let same : nat_eq newest.at.epoch d.epoch ≡ true =
+        ap (λ a. nat_eq a.epoch d.epoch) numbered.0 ∙ (ap (nat_eq task.epoch) kept.epoch ∙ same_number task.epoch) in
+        let up : d.number ≡ newest.at.number + 1 = omega (arith, count, number) in
+        ap (λ x. record { epoch = d.epoch; number = x })
+        (up ∙ sym (ap (λ b. if b then newest.at.number + 1 else 1) same))
+      where
+        same_number : (x : ℕ) → nat_eq x x ≡ true
+        same_number x = grind (arith, nat_tests)
 
-      -- and the message before it is done with
-      follows_of : (own : List Message) → FollowsAt false d.round told own → c.campaign ≡ task.campaign
-          → (IsEndRound d.round → is_some c.decision ≡ true) → may_follow d.epoch c told (own ++ earlier) ≡ true
-      follows_of [] follows of_k decided = first earlier before.other
-        where
-          first : (ms : List Message)
-              → AllByRecursion (λ m. (nat_eq m.at.epoch task.epoch && nat_eq m.campaign task.campaign) ≡ false) ms
-              → may_follow d.epoch c told ms ≡ true
-          first [] other = refl
-          first (x ∷ xs) other =
-              follow_other (nat_eq x.at.epoch d.epoch) (nat_eq x.campaign c.campaign) (is_told told x.at)
-              (not x.decided && is_some c.decision)
-              (ap (λ e. nat_eq x.at.epoch e && nat_eq x.campaign c.campaign) kept.epoch
-              ∙ (ap (λ k. nat_eq x.at.epoch task.epoch && nat_eq x.campaign k) of_k ∙ other.0))
-      follows_of (x ∷ own) (inl answered) of_k decided =
-          follow_told (not (nat_eq x.at.epoch d.epoch)) (is_told told x.at)
-          (not (nat_eq x.campaign c.campaign) || (not x.decided && is_some c.decision)) answered
-      follows_of (x ∷ own) (inr ended) of_k decided =
-          ap (λ b. not (nat_eq x.at.epoch d.epoch)
-          || (is_told told x.at || (not (nat_eq x.campaign c.campaign) || (not x.decided && b)))) (decided ended.1)
-          ∙ follow_decided (not (nat_eq x.at.epoch d.epoch)) (is_told told x.at) (not (nat_eq x.campaign c.campaign))
-          x.decided ended.0
+    -- and the message before it is done with
+    follows_of : (own : List Message) → FollowsAt false d.round told own → c.campaign ≡ task.campaign
+        → (IsEndRound d.round → is_some c.decision ≡ true) → may_follow d.epoch c told (own ++ earlier) ≡ true
+    follows_of [] follows of_k decided = first earlier before.other
+      where
+        first : (ms : List Message)
+            → AllByRecursion (λ m. (nat_eq m.at.epoch task.epoch && nat_eq m.campaign task.campaign) ≡ false) ms
+            → may_follow d.epoch c told ms ≡ true
+        first [] other = refl
+        first (x ∷ xs) other =
+            follow_other (nat_eq x.at.epoch d.epoch) (nat_eq x.campaign c.campaign) (is_told told x.at)
+            (not x.decided && is_some c.decision)
+            (ap (λ e. nat_eq x.at.epoch e && nat_eq x.campaign c.campaign) kept.epoch
+            ∙ (ap (λ k. nat_eq x.at.epoch task.epoch && nat_eq x.campaign k) of_k ∙ other.0))
+    follows_of (x ∷ own) (inl answered) of_k decided =
+        follow_told (not (nat_eq x.at.epoch d.epoch)) (is_told told x.at)
+        (not (nat_eq x.campaign c.campaign) || (not x.decided && is_some c.decision)) answered
+    follows_of (x ∷ own) (inr ended) of_k decided =
+        ap (λ b. not (nat_eq x.at.epoch d.epoch)
+        || (is_told told x.at || (not (nat_eq x.campaign c.campaign) || (not x.decided && b)))) (decided ended.1)
+        ∙ follow_decided (not (nat_eq x.at.epoch d.epoch)) (is_told told x.at) (not (nat_eq x.campaign c.campaign))
+        x.decided ended.0
 
-      new_by : (b : Bool) → d.is_open ≡ b → b ≡ false → flag_of c.named n ≡ true → c.campaign ≡ task.campaign
-          → (IsEndRound d.round → is_some c.decision ≡ true)
+    new_by : (b : Bool) → d.is_open ≡ b → b ≡ false → flag_of c.named n ≡ true → c.campaign ≡ task.campaign
+        → (IsEndRound d.round → is_some c.decision ≡ true)
+        → MaySendBy packages d.epoch n c c.decision told (sent ++ earlier) m.call
+        → IsNew packages n c m told (sent ++ earlier)
+    new_by b is_b closed named of_k decided by =
+        let shut : d.is_open ≡ false = is_b ∙ closed in
+        record {
+          allowed = record {
+            named = named;
+            follows = follows_of sent (subst (λ o. FollowsAt o d.round told sent) shut kept.follows) of_k decided;
+            by = by;
+          };
+          next = next_of sent kept.numbered
+              (subst (λ o. d.number + (if o then 1 else 0) ≡ task.first + length sent) shut kept.count);
+        }
+
+    module _ (round : Round) (here : d.round ≡ Some round) where
+      -- in the rounds
+      early_by : IsBeforeEnd (Some round) → IsInRound n task round c
           → MaySendBy packages d.epoch n c c.decision told (sent ++ earlier) m.call
-          → IsNew packages n c m told (sent ++ earlier)
-      new_by b is_b closed named of_k decided by =
-          let shut : d.is_open ≡ false = is_b ∙ closed in
-          record {
-            allowed = record {
-              named = named;
-              follows = follows_of sent (subst (λ o. FollowsAt o d.round told sent) shut kept.follows) of_k decided;
-              by = by;
-            };
-            next = next_of sent kept.numbered
-                (subst (λ o. d.number + (if o then 1 else 0) ≡ task.first + length sent) shut kept.count);
-          }
+      early_by rounds master =
+          let in_rounds = subst IsBeforeEnd (sym here) rounds in
+          let early = not_ending d.progress (early_at_round d.round d.progress in_rounds kept.within) in
+          let t = early_at d.campaign d.epoch d d.progress told asked kept.told early wishes in
+          let call = calls_of_wish d d.progress asked wishes early in
+          let replies : replies_of task.campaign told (sent ++ earlier) ≡ replies_by tries =
+          replies_are_read by_size got lent task gs is given_ in_rounds earlier before in
+          let next = early_call by_size lent task d tries kept is.there asked wishes
+          (early_at_round d.round d.progress in_rounds kept.within) in
+          let over = over_at d d.progress asked call.0 wishes in
+          subst (λ x. MaySendBy packages d.epoch n c x told (sent ++ earlier) m.call) (sym master.undecided) (record {
+            no_mark = master.no_mark;
+            no_vote = master.no_vote;
+            no_refusal = t.0;
+            next = subst
+                (λ k. call_at k (stage_of (packages k n) AtSync (replies_of k told (sent ++ earlier))) ≡ Some m.call)
+                (sym master.campaign)
+                (ap (λ ps. call_at task.campaign (stage_of ps AtSync
+                (replies_of task.campaign told (sent ++ earlier))))
+                of_node
+                ∙ (ap (λ rs. call_at task.campaign (stage_of (step_bytes lent task.steps) AtSync rs)) replies
+                ∙ next));
+            due = ap (λ phase. is_due phase m.call) master.phase
+                ∙ (ap (λ a. is_due (phase_of round) (call_of lent a)) (sym call.1)
+                ∙ due_at lent d round d.progress rounds call.0
+                (subst (λ r. is_over r d.ids d.progress ≡ false) here over));
+            settled = t.1;
+          })
 
-      module _ (round : Round) (here : d.round ≡ Some round) where
-        -- in the rounds
-        early_by : IsBeforeEnd (Some round) → IsInRound n task round c
-            → MaySendBy packages d.epoch n c c.decision told (sent ++ earlier) m.call
-        early_by rounds master =
-            let in_rounds = subst IsBeforeEnd (sym here) rounds in
-            let early = not_ending d.progress (early_at_round d.round d.progress in_rounds kept.within) in
-            let t = early_at d.campaign d.epoch d d.progress told asked kept.told early wishes in
-            let call = calls_of_wish d d.progress asked wishes early in
-            let replies : replies_of task.campaign told (sent ++ earlier) ≡ replies_by tries =
-            replies_are_read by_size got lent task gs is given_ in_rounds earlier before in
-            let next = early_call by_size lent task d tries kept is.there asked wishes
-            (early_at_round d.round d.progress in_rounds kept.within) in
-            let over = over_at d d.progress asked call.0 wishes in
-            subst (λ x. MaySendBy packages d.epoch n c x told (sent ++ earlier) m.call) (sym master.undecided) (record {
-              no_mark = master.no_mark;
-              no_vote = master.no_vote;
-              no_refusal = t.0;
-              next = subst
-                  (λ k. call_at k (stage_of (packages k n) AtSync (replies_of k told (sent ++ earlier))) ≡ Some m.call)
-                  (sym master.campaign)
-                  (ap (λ ps. call_at task.campaign (stage_of ps AtSync
-                  (replies_of task.campaign told (sent ++ earlier))))
-                  of_node
-                  ∙ (ap (λ rs. call_at task.campaign (stage_of (step_bytes lent task.steps) AtSync rs)) replies
-                  ∙ next));
-              due = ap (λ phase. is_due phase m.call) master.phase
-                  ∙ (ap (λ a. is_due (phase_of round) (call_of lent a)) (sym call.1)
-                  ∙ due_at lent d round d.progress rounds call.0
-                  (subst (λ r. is_over r d.ids d.progress ≡ false) here over));
-              settled = t.1;
-            })
-
-        -- at the end
-        late_by : (commit : Bool) (end : EndProgress) → d.progress ≡ Progress.Ending commit end → IsAtEnd n task commit
-            c
-            → MaySendBy packages d.epoch n c c.decision told (sent ++ earlier) m.call
-        late_by commit end at_end master =
-            subst (λ x. MaySendBy packages d.epoch n c x told (sent ++ earlier) m.call) (sym master.decided) (record {
-              not_ended = master.not_ended;
-              allowed = subst
-                  (λ k. (is_sync m.call
-                  || (end_call_at (decision_of commit master.cause) (last_status k d.epoch told) m.call
-                  || delete_at (last_shown k d.epoch told) m.call))
-                  ≡ true)
-                  (kept.campaign ∙ sym master.campaign)
-                  (late_told lent d told commit end at_end kept.sound kept.told (next_no d) asked asks master.cause);
-            })
-
-      -- which of both
-      allowed_if : (b : Bool) → d.is_open ≡ b → OpenAt lent b d sent → (flag_of c.named n ≡ true)
-          → c.campaign ≡ task.campaign → (IsEndRound d.round → is_some c.decision ≡ true)
+      -- at the end
+      late_by : (commit : Bool) (end : EndProgress) → d.progress ≡ Progress.Ending commit end → IsAtEnd n task commit
+          c
           → MaySendBy packages d.epoch n c c.decision told (sent ++ earlier) m.call
-          → IsNew packages n c m told (sent ++ earlier) ⊎ IsAgain m told (sent ++ earlier)
-      allowed_if true is_b is_open named of_k decided by = inr (again is_open)
-      allowed_if false is_b is_open named of_k decided by = inl (new_by false is_b refl named of_k decided by)
+      late_by commit end at_end master =
+          subst (λ x. MaySendBy packages d.epoch n c x told (sent ++ earlier) m.call) (sym master.decided) (record {
+            not_ended = master.not_ended;
+            allowed = subst
+                (λ k. (is_sync m.call
+                || (end_call_at (decision_of commit master.cause) (last_status k d.epoch told) m.call
+                || delete_at (last_shown k d.epoch told) m.call))
+                ≡ true)
+                (kept.campaign ∙ sym master.campaign)
+                (late_told lent d told commit end at_end kept.sound kept.told asked wishes master.cause);
+          })
 
-      in_round : (round : Round) → d.round ≡ Some round → IsBeforeEnd (Some round) → IsInRound n task round c
-          → IsNew packages n c m told (sent ++ earlier) ⊎ IsAgain m told (sent ++ earlier)
-      in_round round here rounds master =
-          allowed_if d.is_open refl kept.pending master.named master.campaign
-          (λ end. absurd (no_end (Some round) rounds (subst IsEndRound here end))) (early_by round here rounds master)
+    -- which of both
+    allowed_if : (b : Bool) → d.is_open ≡ b → OpenAt lent b d sent → (flag_of c.named n ≡ true)
+        → c.campaign ≡ task.campaign → (IsEndRound d.round → is_some c.decision ≡ true)
+        → MaySendBy packages d.epoch n c c.decision told (sent ++ earlier) m.call
+        → IsNew packages n c m told (sent ++ earlier) ⊎ IsAgain m told (sent ++ earlier)
+    allowed_if true is_b is_open named of_k decided by = inr (again is_open)
+    allowed_if false is_b is_open named of_k decided by = inl (new_by false is_b refl named of_k decided by)
 
-      allowed_at : (round : Round) → d.round ≡ Some round → IsMasters n task round c
-          → IsNew packages n c m told (sent ++ earlier) ⊎ IsAgain m told (sent ++ earlier)
-      allowed_at Round.Sync here master = in_round Round.Sync here tt master
-      allowed_at Round.Transfer here master = in_round Round.Transfer here tt master
-      allowed_at Round.Process here master = in_round Round.Process here tt master
-      allowed_at Round.Activate here master = in_round Round.Activate here tt master
-      allowed_at (Round.End commit) here master =
-          allowed_if d.is_open refl kept.pending master.named master.campaign (λ e. ap is_some master.decided)
-          (late_by (Round.End commit) here commit (end_at commit told) (kept.end commit here) master)
+    in_round : (round : Round) → d.round ≡ Some round → IsBeforeEnd (Some round) → IsInRound n task round c
+        → IsNew packages n c m told (sent ++ earlier) ⊎ IsAgain m told (sent ++ earlier)
+    in_round round here rounds master =
+        allowed_if d.is_open refl kept.pending master.named master.campaign
+        (λ end. absurd (no_end (Some round) rounds (subst IsEndRound here end))) (early_by round here rounds master)
+
+    allowed_at : (round : Round) → d.round ≡ Some round → IsMasters n task round c
+        → IsNew packages n c m told (sent ++ earlier) ⊎ IsAgain m told (sent ++ earlier)
+    allowed_at Round.Sync here master = in_round Round.Sync here tt master
+    allowed_at Round.Transfer here master = in_round Round.Transfer here tt master
+    allowed_at Round.Process here master = in_round Round.Process here tt master
+    allowed_at Round.Activate here master = in_round Round.Activate here tt master
+    allowed_at (Round.End commit) here master =
+        allowed_if d.is_open refl kept.pending master.named master.campaign (λ e. ap is_some master.decided)
+        (late_by (Round.End commit) here commit (end_at commit told) (kept.end commit here) master)
 
 -- each call that a driver asks for is allowed
 pub sends_are_allowed : GoesBySize → RepliesAreGot → SendsAreAllowed
@@ -351,7 +350,7 @@ sends_are_allowed by_size got lent task gs is given_ packages n of_node earlier 
     ⊎ IsAgain (message_of lent d x asked) (told_of lent task gs) (sent_of lent task gs ++ earlier))
     at
     (allowed_at by_size got lent task gs is given_ packages n of_node earlier before c asked
-    (wish_of_todo d (wish d) call_no asked asks) (asks ∙ ap (λ x. Todo.Send x asked) (sym at)) round here master)
+    (wish_of_todo d (wish d) call_no asked asks) round here master)
 
 -- a Sync at rest ends it
 pub end_is_found : GoesBySize → EndIsFound

@@ -22,7 +22,7 @@ use Rattle.sub_core.specs.declared.progress.EndProgress.{EndProgress}
 use Rattle.sub_core.specs.declared.progress.Progress.{Progress}
 use Rattle.sub_core.specs.declared.progress.Wish.{Wish}
 use Rattle.sub_core.specs.Calls.{step_bytes}
-use Rattle.sub_core.specs.Driving.{is_missed, is_over, next_no, round_step, todo, todo_for, wish, wish_at, IsBeforeEnd}
+use Rattle.sub_core.specs.Driving.{decision_given, is_missed, is_over, next_no, round_step, todo, todo_for, wish, wish_at, IsBeforeEnd}
 use Rattle.sub_core.specs.Given.{AreGiven, Given, IsTask, Task, after, attempts, message_of, replies_to, told_of}
 use Rattle.sub_core.specs.Made.{AreInTurn, AreSentInTurn, Made, ends_at_rest, has_none, ids_given, made_early, made_in, made_late, made_of, sent_early, shows_rest}
 use Rattle.sub_core.specs.States.{DriverState}
@@ -82,19 +82,24 @@ module _ (by_size : GoesBySize) (lent : List (List ℕ)) (task : Task) (gs : Lis
       of_rounds task.campaign task.epoch task.first (step_bytes lent task.steps) d.number (made_in (told_by tries))
       (replies_by tries) (kept.made rounds)
 
+  abbrev InTurn : Type 0
+  InTurn =
+      AreInTurn (decision_given d.round) task.campaign task.epoch task.first (step_bytes lent task.steps)
+      (told_by tries) (sent_by tries)
+
   in_turn_so : (number : ℕ)
-      → AreTurned task.campaign task.epoch task.first (step_bytes lent task.steps) number (made_in (told_by tries))
-      (made_early (told_by tries)) (made_late (told_by tries)) (sent_early (sent_by tries))
-      → AreInTurn task.campaign task.epoch task.first (step_bytes lent task.steps) (told_by tries) (sent_by tries)
+      → AreTurned task.campaign task.epoch task.first (step_bytes lent task.steps) (decision_given d.round) number
+      (made_in (told_by tries)) (made_early (told_by tries)) (made_late (told_by tries)) (sent_early (sent_by tries))
+      → InTurn
   in_turn_so number t = record { split = t.split; of_rounds = t.of_rounds; within = t.within; of_end = t.of_end }
 
   in_rounds_so : IsBeforeEnd d.round
-      → AreSentInTurn task.campaign (step_bytes lent task.steps) (told_by tries) (sent_by tries)
-  in_rounds_so rounds = sent_in_rounds by_size lent task d tries kept is.there rounds
+      → AreSentInTurn (decision_given d.round) task.campaign (step_bytes lent task.steps) (told_by tries)
+      (sent_by tries)
+  in_rounds_so rounds = sent_in_rounds by_size lent task d tries kept is.there rounds (decision_given d.round)
 
   -- before the end there are none of its calls
-  before : IsBeforeEnd d.round
-      → AreInTurn task.campaign task.epoch task.first (step_bytes lent task.steps) (told_by tries) (sent_by tries)
+  before : IsBeforeEnd d.round → InTurn
   before rounds =
       let order = kept.order rounds in
       let made = kept.made rounds in
@@ -102,11 +107,12 @@ module _ (by_size : GoesBySize) (lent : List (List ℕ)) (task : Task) (gs : Lis
       let sent : length (made_in (told_by tries)) ≤ length (sent_by tries) = few d.is_open made.count count in
       in_turn_so (task.first + length (sent_by tries))
       (subst
-      (AreTurned task.campaign task.epoch task.first (step_bytes lent task.steps)
+      (AreTurned task.campaign task.epoch task.first (step_bytes lent task.steps) (decision_given d.round)
       (task.first + length (sent_by tries)) (made_in (told_by tries)) (made_early (told_by tries))
       (made_late (told_by tries)))
       (sym (all_sent_early task.campaign tries order))
-      (turned task.campaign task.epoch task.first (step_bytes lent task.steps) d.number (length (sent_by tries))
+      (turned task.campaign task.epoch task.first (step_bytes lent task.steps) (decision_given d.round) d.number
+      (length (sent_by tries))
       (told_by tries) (replies_by tries) made (not_begun task.campaign tries order) sent
       (task.first + length (sent_by tries)) (omega arith)))
     where
@@ -116,8 +122,7 @@ module _ (by_size : GoesBySize) (lent : List (List ℕ)) (task : Task) (gs : Lis
       few true made count = omega (arith, made, count)
       few false made count = omega (arith, made, count)
 
-  in_turn : (r : Option Round) → d.round ≡ r
-      → AreInTurn task.campaign task.epoch task.first (step_bytes lent task.steps) (told_by tries) (sent_by tries)
+  in_turn : (r : Option Round) → d.round ≡ r → InTurn
   in_turn (Some (Round.End commit)) here = in_turn_so d.number (kept.turned (subst IsEndRound (sym here) tt))
   in_turn None here = before (subst IsBeforeEnd (sym here) tt)
   in_turn (Some Round.Sync) here = before (subst IsBeforeEnd (sym here) tt)
@@ -127,7 +132,8 @@ module _ (by_size : GoesBySize) (lent : List (List ℕ)) (task : Task) (gs : Lis
 
   -- and the messages likewise
   sent_in_turn : (r : Option Round) → d.round ≡ r
-      → AreSentInTurn task.campaign (step_bytes lent task.steps) (told_by tries) (sent_by tries)
+      → AreSentInTurn (decision_given d.round) task.campaign (step_bytes lent task.steps) (told_by tries)
+      (sent_by tries)
   sent_in_turn (Some (Round.End commit)) here = kept.messages (subst IsEndRound (sym here) tt)
   sent_in_turn None here = in_rounds_so (subst IsBeforeEnd (sym here) tt)
   sent_in_turn (Some Round.Sync) here = in_rounds_so (subst IsBeforeEnd (sym here) tt)
