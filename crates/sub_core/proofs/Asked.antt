@@ -78,7 +78,8 @@ module _ (decision : Option Bool) (k : ℕ) (ps : List (List ℕ)) (told : List 
   late_if newest sent false turn = one_late (newest ∷ sent) turn
 
   -- one more of them was sent, or the newest one again
-  pub sent_late : (sent : List Message) → AreSentInTurn decision k ps told sent → AreSentInTurn decision k ps told (with_sent m sent)
+  pub sent_late : (sent : List Message) → AreSentInTurn decision k ps told sent → AreSentInTurn decision k ps told
+      (with_sent m sent)
   sent_late [] turn = one_late [] turn
   sent_late (newest ∷ sent) turn = late_if newest sent (is_eq (call_no_cmp newest.at m.at)) turn
 
@@ -100,7 +101,8 @@ module _ (decision : Option Bool) (k : ℕ) (ps : List (List ℕ)) (told : List 
       }
 
 -- a status is no message
-pub shown_late : (decision : Option Bool) (k : ℕ) (ps : List (List ℕ)) (told : List Told) (sent : List Message) (status : Status)
+pub shown_late : (decision : Option Bool) (k : ℕ) (ps : List (List ℕ)) (told : List Told) (sent : List Message) (status
+    : Status)
     → AreSentInTurn decision k ps told sent → AreSentInTurn decision k ps (Showed status ∷ told) sent
 shown_late decision k ps told sent status turn = record {
   early = turn.early;

@@ -231,9 +231,6 @@ fresh_sound : (lent : List (List ℕ)) (task : Task) → IsTask lent task
     → IsSound (fresh task.epoch task.first task.campaign task.steps)
 fresh_sound lent task is = record {
   some = is.some;
-  epoch = is.epoch;
-  campaign = is.campaign;
-  first = is.first;
   numbers = omega (arith, is.numbers);
   misses = omega arith;
   placed = refl;

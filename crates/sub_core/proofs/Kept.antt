@@ -668,7 +668,8 @@ module _ (lent : List (List ℕ)) (task : Task) (d : DriverState) (tries : List 
     turned = turned_opened;
     heard = λ rounds. ap (closed_of true) now.sent ∙ (now.closed ∙ kept.heard rounds);
     messages = λ end.
-        sent_late (decision_given d.round) task.campaign (step_bytes lent task.steps) (told_by tries) m (is_late end) (end_call end)
+        sent_late (decision_given d.round) task.campaign (step_bytes lent task.steps) (told_by tries) m (is_late end)
+        (end_call end)
         (sent_by tries)
         (kept.messages end);
   }
@@ -710,7 +711,8 @@ module _ (lent : List (List ℕ)) (task : Task) (d : DriverState) (tries : List 
         → AreTurned task.campaign task.epoch task.first ps (decision_given d.round) (d.number + 1) (made_in answered)
         (made_early answered) (made_late answered) (sent_early (with_sent m (sent_by tries)))
     turned_now end =
-        end_more task.campaign task.epoch task.first ps (decision_given d.round) d.number (sent_early (with_sent m (sent_by tries)))
+        end_more task.campaign task.epoch task.first ps (decision_given d.round) d.number (sent_early (with_sent m
+        (sent_by tries)))
         (told_by tries) (turned_opened end) m (is_late end) at_now (end_call end) reply
 
     -- an attempt with its reply
@@ -959,7 +961,8 @@ module _ (lent : List (List ℕ)) (task : Task) (d : DriverState) (tries : List 
       turned = kept.turned;
       heard = kept.heard;
       messages = λ end.
-          shown_late (decision_given d.round) task.campaign (step_bytes lent task.steps) (told_by tries) (sent_by tries) status
+          shown_late (decision_given d.round) task.campaign (step_bytes lent task.steps) (told_by tries) (sent_by
+          tries) status
           (kept.messages end);
     }
       where
@@ -989,7 +992,8 @@ module _ (lent : List (List ℕ)) (task : Task) (d : DriverState) (tries : List 
       below = below_more task.epoch d.number (begun round d).number (told_by tries) (more d.is_open) kept.below;
       pending = tt;
       follows =
-          follows_begun lent d (told_by tries) kept.within round can (sent_by tries) d.is_open kept.pending kept.follows;
+          follows_begun lent d (told_by tries) kept.within round can (sent_by tries) d.is_open kept.pending
+          kept.follows;
       order = λ rounds. kept.order (rounds_before round d can rounds).0;
       fit = λ rounds. kept.fit (rounds_before round d can rounds).0;
       last = last_begun round d tries kept.last;
@@ -1053,7 +1057,8 @@ module _ (lent : List (List ℕ)) (task : Task) (d : DriverState) (tries : List 
             (if d.is_open then d.number + 1 else d.number) (made_in (told_by tries)) (made_early (told_by tries))
             (made_late (told_by tries)))
             (sym (all_sent_early task.campaign tries order))
-            (turned task.campaign task.epoch task.first (step_bytes lent task.steps) (Some commit) d.number (length (sent_by tries))
+            (turned task.campaign task.epoch task.first (step_bytes lent task.steps) (Some commit) d.number (length
+            (sent_by tries))
             (told_by tries) (replies_by tries) made (not_begun task.campaign tries order)
             (omega (arith, made.count, now, later)) (if d.is_open then d.number + 1 else d.number) (omega (arith, now)))
         turned_begun Round.Sync begins end = absurd end

@@ -14,3 +14,4 @@ pub mod Units
 pub mod Votes
 pub mod Turns
 pub mod Sending
+pub mod Onward

@@ -251,7 +251,8 @@ module _ (k epoch first : ℕ) (ps : List (List ℕ)) where
     pub of_end : AllByRecursion (IsOfEnd decision epoch (first + sent)) late
     pub below : first + sent ≤ number
 
-  pub turned : (decision : Option Bool) (number sent : ℕ) (told : List Told) (replies : List Reply) → AreRounds number (made_in told) replies
+  pub turned : (decision : Option Bool) (number sent : ℕ) (told : List Told) (replies : List Reply) → AreRounds number
+      (made_in told) replies
       → has_end_answer told ≡ false → length (made_in told) ≤ sent → (now : ℕ) → first + sent ≤ now
       → AreTurned decision now (made_in told) (made_early told) (made_late told) sent
   turned decision number sent told replies are early within now below =

@@ -175,18 +175,15 @@ placed_begun Round.Process d placed = placed
 placed_begun Round.Activate d placed = placed
 placed_begun (Round.End commit) d placed = tt
 
-number_begun : (b : Bool) (n : ℕ) → 1 ≤ n → n + (if b then 1 else 0) ≤ number_limit
-    → (1 ≤ (if b then n + 1 else n)) × ((if b then n + 1 else n) + 0 ≤ number_limit)
-number_begun true n first below = (omega (arith, first), omega (arith, below))
-number_begun false n first below = (first, below)
+number_begun : (b : Bool) (n : ℕ) → n + (if b then 1 else 0) ≤ number_limit
+    → (if b then n + 1 else n) + 0 ≤ number_limit
+number_begun true n below = omega (arith, below)
+number_begun false n below = below
 
 module _ (d : DriverState) (sound : IsSound d) where
   pub sound_replied : (reply : Reply) → d.number < number_limit → IsSound (replied reply d)
   sound_replied reply left = record {
     some = sound.some;
-    epoch = sound.epoch;
-    campaign = sound.campaign;
-    first = omega (arith, sound.first);
     numbers = omega (arith, left);
     misses = omega arith;
     placed = placed_after d d.progress reply sound.some sound.placed;
@@ -195,9 +192,6 @@ module _ (d : DriverState) (sound : IsSound d) where
   pub sound_opened : d.number < number_limit → IsSound (opened d)
   sound_opened left = record {
     some = sound.some;
-    epoch = sound.epoch;
-    campaign = sound.campaign;
-    first = sound.first;
     numbers = omega (arith, left);
     misses = sound.misses;
     placed = sound.placed;
@@ -206,9 +200,6 @@ module _ (d : DriverState) (sound : IsSound d) where
   pub sound_missed : (losses faults : ℕ) → is_missed d ≡ false → IsSound (missed losses faults d)
   sound_missed losses faults few = record {
     some = sound.some;
-    epoch = sound.epoch;
-    campaign = sound.campaign;
-    first = sound.first;
     numbers = sound.numbers;
     misses =
         let less : length d.misses < 8 = grind (arith, nat_tests, few) in
@@ -219,23 +210,15 @@ module _ (d : DriverState) (sound : IsSound d) where
   pub sound_worked : (status : Status) → IsSound (worked status d)
   sound_worked status = record {
     some = sound.some;
-    epoch = sound.epoch;
-    campaign = sound.campaign;
-    first = sound.first;
     numbers = sound.numbers;
     misses = omega arith;
     placed = placed_worked d.steps d.ids d.progress status sound.placed;
   }
 
   pub sound_begun : (round : Round) → IsSound (begun round d)
-  sound_begun round =
-      let n = number_begun d.is_open d.number sound.first sound.numbers in
-      record {
-        some = sound.some;
-        epoch = sound.epoch;
-        campaign = sound.campaign;
-        first = n.0;
-        numbers = n.1;
-        misses = omega arith;
-        placed = placed_begun round d sound.placed;
-      }
+  sound_begun round = record {
+    some = sound.some;
+    numbers = number_begun d.is_open d.number sound.numbers;
+    misses = omega arith;
+    placed = placed_begun round d sound.placed;
+  }

@@ -1,0 +1,113 @@
+-- How the end phase goes on.
+use Rattle.std.proofs.Common.{◌≡◌, inl, inr, ℕ, Bool, true, false, if◌then◌else◌, nat_eq, is_some, List, [], ◌∷◌, Option, Some, None, refl, sym, ap, ◌∙◌, arith}
+use Rattle.ucm_base.specs.declared.ids.CallNo.{CallNo}
+use Rattle.pm_types.specs.NodeState.{is_working}
+use Rattle.pm_types.specs.declared.replies.Reply.{Reply}
+use Rattle.pm_types.specs.declared.replies.SessionMark.{SessionMark}
+use Rattle.pm_types.specs.declared.replies.Synced.{Synced as Shown}
+use Rattle.pm_types.specs.declared.status.Status.{Status}
+use Rattle.pm_types.specs.declared.status.Status.TheVariants.{Idle, Ready, Processing, Activating, Verifying, Activated, RollingBack, RolledBack, CleaningUp}
+use Rattle.world.specs.Messages.{Message, Told, Answered, Showed}
+use Rattle.world.specs.RoundsBySize.{GoesBySize}
+use Rattle.world.specs.Sends.{is_end_sync, is_masters, last_shown, session_status}
+use Rattle.sub_core.specs.declared.answers.Round.{Round}
+use Rattle.sub_core.specs.declared.answers.SendStep.{SendStep}
+use Rattle.sub_core.specs.declared.answers.Todo.{Todo}
+use Rattle.sub_core.specs.declared.progress.EndProgress.{EndProgress}
+use Rattle.sub_core.specs.Calls.{call_of}
+use Rattle.sub_core.specs.Driving.{at_free, at_session, at_shown, at_status, end_after, end_step, end_wish, is_missed, next_no, todo, todo_for, unreached}
+use Rattle.sub_core.specs.Ending.{end_at}
+use Rattle.sub_core.specs.Given.{Given, Task, after, told_of}
+use Rattle.sub_core.specs.Onward.{EndGoesOn, GoesOn, IsNextAt, ListedAreDeleted, ShowsNow}
+use Rattle.sub_core.specs.States.{DriverState}
+use Rattle.sub_core.proofs.Ends.{begun_of, end_sync_decided}
+use Rattle.sub_core.proofs.Turns.{end_is_asked}
+
+some_shown : (o : Option Shown) → is_some o ≡ true → (x : Shown) × (o ≡ Some x)
+some_shown None is = absurd (cc is)
+some_shown (Some x) is = (x, refl)
+
+owned_at : (commit : Bool) (call_no : CallNo) (session : Option SessionMark) (ids : List ℕ) (status : Status)
+    → is_masters session ≡ true → session_status session ≡ status
+    → at_session commit call_no session ids ≡ at_status commit status
+owned_at commit call_no None ids status masters is = absurd (cc masters)
+owned_at commit call_no (Some mark) ids status masters is =
+    ap (λ b. if b then at_status commit mark.status else at_free call_no ids) masters ∙ ap (at_status commit) is
+
+free_at : (commit : Bool) (call_no : CallNo) (session : Option SessionMark) (ids : List ℕ)
+    → is_masters session ≡ false → at_session commit call_no session ids ≡ at_free call_no ids
+free_at commit call_no None ids free = refl
+free_at commit call_no (Some mark) ids free =
+    ap (λ b. if b then at_status commit mark.status else at_free call_no ids) free
+
+-- a Sync of the end phase leads to what it shows
+synced_at : (k epoch : ℕ) (commit : Bool) (m : Message) (x : Shown) (told : List Told)
+    → is_end_sync k epoch m ≡ true → end_at commit (Answered m (Reply.Synced x) ∷ told) ≡ at_shown commit m.at x
+synced_at k epoch commit m x told of_end =
+    ap (λ b. if b then at_shown commit m.at x else EndProgress.Call SendStep.Sync) (end_sync_decided k epoch m of_end)
+
+status_at : (k epoch : ℕ) (commit : Bool) (status : Status) (told : List Told) → ShowsNow k epoch status told
+    → end_at commit told ≡ at_status commit status
+status_at k epoch commit status [] now = absurd now
+status_at k epoch commit status (Showed s ∷ told) now =
+    let x = some_shown (last_shown k epoch told) now.1 in
+    ap (λ b. if b then at_status commit s else EndProgress.Call SendStep.Sync) (begun_of k epoch told x.0 x.1)
+    ∙ ap (at_status commit) now.0
+status_at k epoch commit status (Answered m reply ∷ told) now =
+    let x = now.0 in
+    ap (λ r. end_at commit (Answered m r ∷ told)) now.1
+    ∙ (synced_at k epoch commit m x told now.2 ∙ owned_at commit m.at x.session x.transfers status now.3 now.4)
+
+next_at : (lent : List (List ℕ)) (commit : Bool) (status : Status) → is_working status ≡ false
+    → IsNextAt commit status (call_of lent (end_step commit status))
+next_at lent true Idle idle = inr (refl, λ cause other. grind arith)
+next_at lent true Ready idle = inr (refl, λ cause other. grind arith)
+next_at lent true Activated idle = inl (λ cause. refl)
+next_at lent true RolledBack idle = inr (refl, λ cause other. grind arith)
+next_at lent false Idle idle = inr (refl, λ cause other. grind arith)
+next_at lent false Ready idle = inl (λ cause. refl)
+next_at lent false Activated idle = inl (λ cause. refl)
+next_at lent false RolledBack idle = inl (λ cause. refl)
+next_at lent commit Processing idle = absurd (cc idle)
+next_at lent commit Activating idle = absurd (cc idle)
+next_at lent commit Verifying idle = absurd (cc idle)
+next_at lent commit RollingBack idle = absurd (cc idle)
+next_at lent commit CleaningUp idle = absurd (cc idle)
+
+module _ (lent : List (List ℕ)) (d : DriverState) (few : is_missed d ≡ false) where
+  send_at : (asked : SendStep) → todo d ≡ todo_for d (end_wish (EndProgress.Call asked))
+      → todo d ≡ Todo.Send (next_no d) asked
+  send_at asked asks =
+      asks ∙ ap (λ b. if b then Todo.Rest (unreached d.misses) else Todo.Send (next_no d) asked) few
+
+  goes_at : (commit : Bool) (status : Status) (b : Bool) → is_working status ≡ b
+      → todo d ≡ todo_for d (end_wish (at_status commit status)) → GoesOn lent commit status (todo d)
+  goes_at commit status true is asks =
+      inl (is, asks
+      ∙ (ap (λ b. todo_for d (end_wish (if b then EndProgress.Units else EndProgress.Call (end_step commit status)))) is
+      ∙ ap (λ b. if b then Todo.Rest (unreached d.misses) else Todo.Unit) few))
+  goes_at commit status false is asks =
+      let on : todo d ≡ todo_for d (end_wish (EndProgress.Call (end_step commit status))) =
+      asks
+      ∙ ap (λ b. todo_for d (end_wish (if b then EndProgress.Units else EndProgress.Call (end_step commit status)))) is
+      in
+      inr (is, (next_no d, end_step commit status, send_at (end_step commit status) on, next_at lent commit status is))
+
+-- behind a status
+pub end_goes_on : GoesBySize → EndGoesOn
+end_goes_on by_size lent task gs is given_ commit here few status now =
+    let d = after task gs in
+    goes_at lent d few commit status (is_working status) refl (end_is_asked by_size lent task gs is given_ commit here
+    ∙ ap (λ at. todo_for d (end_wish at)) (status_at task.campaign task.epoch commit status (told_of lent task gs) now))
+
+-- behind a Sync that lists transfers
+pub listed_are_deleted : GoesBySize → ListedAreDeleted
+listed_are_deleted by_size lent task gs is given_ commit here few m shown older told of_end free id ids listed =
+    let d = after task gs in
+    let at : end_at commit (told_of lent task gs) ≡ EndProgress.Delete (id ∷ ids) 0 =
+    ap (end_at commit) told
+    ∙ (synced_at task.campaign task.epoch commit m shown older of_end
+    ∙ (free_at commit m.at shown.session shown.transfers free ∙ ap (at_free m.at) listed)) in
+    (next_no d, end_is_asked by_size lent task gs is given_ commit here
+    ∙ (ap (λ at. todo_for d (end_wish at)) at
+    ∙ ap (λ b. if b then Todo.Rest (unreached d.misses) else Todo.Send (next_no d) (SendStep.Delete id)) few))
