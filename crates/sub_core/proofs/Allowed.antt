@@ -1,5 +1,5 @@
 -- What was told to a driver, as answers are added.
-use Rattle.std.proofs.Common.{◌≡◌, ℕ, zero, suc, ◌+◌, ◌-◌, ◌<◌, Bool, true, false, not, ◌&&◌, ◌||◌, if◌then◌else◌, ◌==◌, nat_eq, nat_lt, List, [], ◌∷◌, length, slice_index_or, Option, Some, None, is_some, refl, sym, ap, subst, ◌∙◌, arith}
+use Rattle.std.proofs.Common.{◌≡◌, ℕ, zero, suc, ◌+◌, ◌-◌, ◌<◌, Bool, true, false, not, ◌&&◌, ◌||◌, if◌then◌else◌, ◌==◌, nat_eq, nat_lt, List, [], ◌∷◌, length, slice_index_or, Option, Some, None, refl, sym, ap, subst, ◌∙◌, arith}
 use Rattle.std.specs.Option.{option_or}
 use Rattle.std.specs.List.{list_any}
 use Rattle.std.proofs.lemmas.Bool.Decides.{nat_tests}
@@ -7,7 +7,6 @@ use Rattle.ucm_base.specs.Limits.{block_limit}
 use Rattle.ucm_base.specs.declared.ids.CallNo.{CallNo}
 use Rattle.campaign_core.specs.declared.events.Cause.{Cause}
 use Rattle.campaign_core.specs.declared.events.Decision.TheVariants.{Commit, Abort}
-use Rattle.pm_types.specs.NodeState.{is_working}
 use Rattle.pm_types.specs.declared.calls.Call.{Call}
 use Rattle.pm_types.specs.declared.replies.Reply.{Reply}
 use Rattle.pm_types.specs.declared.replies.Reply.TheVariants.{Done, Started, Synced, Refused}
@@ -16,7 +15,7 @@ use Rattle.pm_types.specs.declared.replies.Synced.{Synced as Shown}
 use Rattle.pm_types.specs.declared.status.Status.{Status}
 use Rattle.pm_types.specs.declared.status.Status.TheVariants.{Idle, Ready, Processing, Activating, Verifying, Activated, RollingBack, RolledBack, CleaningUp}
 use Rattle.world.specs.Messages.{Message, Told, Answered, Showed, is_activate, is_done, is_process, is_status, is_sync}
-use Rattle.world.specs.Sends.{activate_done, delete_at, end_call_at, has_refusal, is_end_sync, is_masters, is_settled, last_shown, last_status, session_status, lists_free, showed_after_activate, shown_if, status_if, status_of_shown}
+use Rattle.world.specs.Sends.{activate_done, delete_at, end_call_at, has_refusal, is_end_sync, is_masters, is_settled, last_shown, last_status, session_status, lists_free, showed_after_activate, shown_if, status_of_shown}
 use Rattle.sub_core.specs.declared.answers.Finding.{Finding}
 use Rattle.sub_core.specs.declared.answers.Got.{Got}
 use Rattle.sub_core.specs.declared.answers.Round.{Round}
@@ -86,36 +85,7 @@ or_false false c is = is
 -- a unit's status was told
 pub told_worked : (k epoch : ℕ) (d : DriverState) (p : Progress) (status : Status) (told : List Told)
     → wish_at d p ≡ Wish.Unit → ToldAt k epoch p told → ToldAt k epoch (settled_after p status) (Showed status ∷ told)
-told_worked k epoch d Progress.Sync status told is t =
-    absurd (not_unit (is_over d.round d.ids Progress.Sync) Finding.RoundDone (round_step d Progress.Sync) is)
-told_worked k epoch d Progress.Transfer status told is t =
-    absurd (not_unit (is_over d.round d.ids Progress.Transfer) Finding.RoundDone (round_step d Progress.Transfer) is)
-told_worked k epoch d (Progress.Data id counter left) status told is t =
-    let p = Progress.Data id counter left in
-    absurd (not_unit (is_over d.round d.ids p) Finding.RoundDone (round_step d p) is)
-told_worked k epoch d (Progress.Process taken true) status told is t =
-    let p = Progress.Process taken true in
-    absurd (not_unit (is_over d.round d.ids p) Finding.RoundDone (round_step d p) is)
-told_worked k epoch d (Progress.Process taken false) status told is t =
-    (t.0, or_false (not (is_working status)) (is_settled told) t.1, t.2)
-told_worked k epoch d Progress.Activating Idle told is t = t
-told_worked k epoch d Progress.Activating Ready told is t = t
-told_worked k epoch d Progress.Activating Processing told is t = t
-told_worked k epoch d Progress.Activating Activating told is t = t
-told_worked k epoch d Progress.Activating Verifying told is t = t
-told_worked k epoch d Progress.Activating Activated told is t =
-    (ap (λ a. a || showed_after_activate Activated told) t.0, t.1, t.3)
-told_worked k epoch d Progress.Activating RollingBack told is t = t
-told_worked k epoch d Progress.Activating RolledBack told is t =
-    (ap (λ a. a || showed_after_activate RolledBack told) t.0, t.1, t.2)
-told_worked k epoch d Progress.Activating CleaningUp told is t = t
-told_worked k epoch d (Progress.Voted finding) status told is t = absurd (cc is)
-told_worked k epoch d (Progress.Ending commit (EndProgress.Call asked)) status told is t = absurd (cc is)
-told_worked k epoch d (Progress.Ending commit EndProgress.Units) status told is t =
-    told_status k epoch commit status (Showed status ∷ told) (owned_on k epoch status told t)
-    (ap (λ o. option_or (status_if (is_some o) status) (last_status k epoch told)) t.last)
-told_worked k epoch d (Progress.Ending commit (EndProgress.Delete listed place)) status told is t = absurd (cc is)
-told_worked k epoch d (Progress.Ending commit (EndProgress.Rest call_no)) status told is t = absurd (cc is)
+told_worked k epoch d x3 x4 told is t = grind arith
 
 module _ (k epoch : ℕ) (commit : Bool) (call_no : CallNo) (m : Message) (x : Shown) (told : List Told)
     (of_end : is_end_sync k epoch m ≡ true) (at_no : m.at ≡ call_no) where
@@ -157,40 +127,13 @@ module _ (k epoch : ℕ) (commit : Bool) (call_no : CallNo) (m : Message) (x : S
 -- before a call of the end phase that is done the last Sync showed a session of the master
 owned_of : (k epoch : ℕ) (commit : Bool) (a : SendStep) (told : List Told) → is_answer a Done ≡ true
     → EndTold k epoch commit (EndProgress.Call a) told → IsOwned k epoch told
-owned_of k epoch commit SendStep.Sync told fits t = absurd (cc fits)
-owned_of k epoch commit (SendStep.Start p) told fits t = absurd (cc fits)
-owned_of k epoch commit (SendStep.Data p id counter) told fits t = t.owned
-owned_of k epoch commit (SendStep.Exit id) told fits t = t.owned
-owned_of k epoch commit (SendStep.Process id tag) told fits t = t.owned
-owned_of k epoch commit SendStep.Activate told fits t = t.owned
-owned_of k epoch commit SendStep.Finish told fits t = t.owned
-owned_of k epoch commit SendStep.Rollback told fits t = t.owned
-owned_of k epoch commit SendStep.Revert told fits t = t.owned
-owned_of k epoch commit (SendStep.Delete id) told fits t = t.owned
+owned_of k epoch commit x3 told fits t = grind arith
 
 sync_only : (a : SendStep) (x : Shown) → is_answer a (Synced x) ≡ true → a ≡ SendStep.Sync
-sync_only SendStep.Sync x fits = refl
-sync_only (SendStep.Start p) x fits = absurd (cc fits)
-sync_only (SendStep.Data p id counter) x fits = absurd (cc fits)
-sync_only (SendStep.Exit id) x fits = absurd (cc fits)
-sync_only (SendStep.Process id tag) x fits = absurd (cc fits)
-sync_only SendStep.Activate x fits = absurd (cc fits)
-sync_only SendStep.Finish x fits = absurd (cc fits)
-sync_only SendStep.Rollback x fits = absurd (cc fits)
-sync_only SendStep.Revert x fits = absurd (cc fits)
-sync_only (SendStep.Delete id) x fits = absurd (cc fits)
+sync_only x0 x fits = grind arith
 
 none_starts : (a : SendStep) (n : ℕ) → IsPlacedEnd (EndProgress.Call a) → is_answer a (Started n) ≡ true → ⊥
-none_starts SendStep.Sync n placed fits = cc fits
-none_starts (SendStep.Start p) n placed fits = placed
-none_starts (SendStep.Data p id counter) n placed fits = cc fits
-none_starts (SendStep.Exit id) n placed fits = cc fits
-none_starts (SendStep.Process id tag) n placed fits = cc fits
-none_starts SendStep.Activate n placed fits = cc fits
-none_starts SendStep.Finish n placed fits = cc fits
-none_starts SendStep.Rollback n placed fits = cc fits
-none_starts SendStep.Revert n placed fits = cc fits
-none_starts (SendStep.Delete id) n placed fits = cc fits
+none_starts x0 n placed fits = grind arith
 
 shown_done : (b : Bool) (o : Option Shown) → option_or (shown_if b Done) o ≡ o
 shown_done true o = refl
@@ -462,10 +405,7 @@ unit_at_if false f at asked is = cc is
 
 pub at_of_todo : (d : DriverState) (w : Wish) (at : CallNo) (asked : SendStep) → todo_for d w ≡ Todo.Send at asked
     → next_no d ≡ at
-at_of_todo d (Wish.Rest finding) at asked is = absurd (cc is)
-at_of_todo d (Wish.Send other) at asked is =
-    at_if (is_missed d) (unreached d.misses) (next_no d) at other asked is
-at_of_todo d Wish.Unit at asked is = absurd (unit_at_if (is_missed d) (unreached d.misses) at asked is)
+at_of_todo d x1 at asked is = grind arith
 
 send_unit_if : (b : Bool) (f : Finding) (n : CallNo) (other : SendStep)
     → (if b then Todo.Rest f else Todo.Send n other) ≡ Todo.Unit → ⊥
@@ -473,10 +413,7 @@ send_unit_if true f n other is = cc is
 send_unit_if false f n other is = cc is
 
 pub unit_of_todo : (d : DriverState) (w : Wish) → todo_for d w ≡ Todo.Unit → w ≡ Wish.Unit
-unit_of_todo d (Wish.Rest finding) is = absurd (cc is)
-unit_of_todo d (Wish.Send other) is =
-    absurd (send_unit_if (is_missed d) (unreached d.misses) (next_no d) other is)
-unit_of_todo d Wish.Unit is = refl
+unit_of_todo d x1 is = grind arith
 
 told_todo : (packages : List (List ℕ)) (d : DriverState) (told : List Told) (t : Todo) (got : Got) → IsSound d
     → IsTold d told → todo d ≡ t → IsTold (after_todo t got d) (told_after packages d t got told)
@@ -498,33 +435,18 @@ told_step packages d told got sound is_told has =
     (told_todo packages d told (todo d) got sound is_told refl)
 
 pub told_begun : (d : DriverState) (told : List Told) (round : Round) → IsTold d told → IsTold (begun round d) told
-told_begun d told Round.Sync t = t
-told_begun d told Round.Transfer t = t
-told_begun d told Round.Process t = t
-told_begun d told Round.Activate t = t
-told_begun d told (Round.End commit) t = tt
+told_begun d told x2 t = grind arith
 
 pub early_at : (k epoch : ℕ) (d : DriverState) (p : Progress) (told : List Told) (asked : SendStep) → ToldAt k epoch p
     told
     → (IsEnding p → ⊥) → wish_at d p ≡ Wish.Send asked → (has_refusal told ≡ false) × (is_settled told ≡ true)
-early_at k epoch d Progress.Sync told asked t early is = (t.0, t.1)
-early_at k epoch d Progress.Transfer told asked t early is = (t.0, t.1)
-early_at k epoch d (Progress.Data id counter left) told asked t early is = (t.0, t.1)
-early_at k epoch d (Progress.Process taken true) told asked t early is = (t.0, t.1)
-early_at k epoch d (Progress.Process taken false) told asked t early is = absurd (cc is)
-early_at k epoch d Progress.Activating told asked t early is = absurd (cc is)
-early_at k epoch d (Progress.Voted finding) told asked t early is = absurd (cc is)
-early_at k epoch d (Progress.Ending commit at) told asked t early is = absurd (early tt)
+early_at k epoch d x3 told asked t early is = grind arith
 
 or_second : (a b c : Bool) → b ≡ true → (a || (b || c)) ≡ true
-or_second true b c is = refl
-or_second false true c is = refl
-or_second false false c is = absurd (cc is)
+or_second x0 x1 c is = grind arith
 
 or_third : (a b c : Bool) → c ≡ true → (a || (b || c)) ≡ true
-or_third true b c is = refl
-or_third false true c is = refl
-or_third false false c is = is
+or_third x0 x1 c is = grind arith
 
 has_place : (ids : List ℕ) (place : ℕ) → place < length ids
     → list_any (λ there. nat_eq (slice_index_or ids place 0) there) ids ≡ true

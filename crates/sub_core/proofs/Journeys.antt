@@ -1,7 +1,6 @@
 -- The laws of drivers, over whatever they are given.
-use Rattle.std.proofs.Common.{◌≡◌, ℕ, ◌<◌, Bool, true, false, if◌then◌else◌, nat_le, List, [], ◌∷◌, ◌++◌, length, Some, None, is_some, refl, sym, ap, subst, ◌∙◌, arith}
+use Rattle.std.proofs.Common.{◌≡◌, ℕ, ◌<◌, Bool, true, false, if◌then◌else◌, List, [], ◌∷◌, ◌++◌, Some, None, is_some, refl, sym, ap, subst, ◌∙◌, arith}
 use Rattle.std.proofs.lemmas.Bool.Decides.{nat_tests}
-use Rattle.ucm_base.specs.Limits.{attempt_limit}
 use Rattle.world.specs.Attempts.{Attempt, Tried, Worked}
 use Rattle.world.specs.Messages.{Message}
 use Rattle.world.specs.RoundsBySize.{GoesBySize}
@@ -42,11 +41,7 @@ pub wishes_of : (d : DriverState) → is_asked (todo d) ≡ true → Wishes d (t
 wishes_of d asks = wishes_if d (wish d) (is_missed d) refl refl asks
 
 plain_clean : (d : DriverState) (w : Wish) → d.misses ≡ [] → todo_for d w ≡ plain d w
-plain_clean d (Wish.Rest finding) clean = refl
-plain_clean d (Wish.Send asked) clean =
-    ap (λ ms. if nat_le attempt_limit (length ms) then Todo.Rest (unreached ms) else Todo.Send (next_no d) asked) clean
-plain_clean d Wish.Unit clean =
-    ap (λ ms. if nat_le attempt_limit (length ms) then Todo.Rest (unreached ms) else Todo.Unit) clean
+plain_clean d x1 clean = grind arith
 
 -- where the misses are emptied, a row begins
 clean_row : (task : Task) (d : DriverState) (gs : List Given) → after task gs ≡ d → d.misses ≡ [] → HasRow task d gs

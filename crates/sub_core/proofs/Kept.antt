@@ -1,18 +1,16 @@
 -- What is kept of a driver and of its attempts, by whatever it is given.
-use Rattle.std.proofs.Common.{◌≡◌, ◌⊎◌, inl, inr, ℕ, suc, ◌+◌, ◌-◌, ◌<◌, ◌≤◌, Bool, true, false, ◌||◌, if◌then◌else◌, nat_eq, nat_lt, nat_le, List, [], ◌∷◌, ◌++◌, length, slice_index_or, take, ◌==◌, Option, Some, None, is_some, refl, sym, ap, subst, ◌∙◌, arith, append-nil}
+use Rattle.std.proofs.Common.{◌≡◌, ◌⊎◌, inl, inr, ℕ, suc, ◌+◌, ◌<◌, ◌≤◌, Bool, true, false, ◌||◌, if◌then◌else◌, nat_eq, nat_lt, List, [], ◌∷◌, ◌++◌, length, take, Option, Some, None, is_some, refl, sym, ap, subst, ◌∙◌, arith, append-nil}
 use Rattle.std.proofs.lemmas.Bool.Decides.{nat_tests}
 use Rattle.std.specs.Ordering.{is_eq, is_lt}
 use Rattle.ucm_base.specs.Limits.{block_limit}
 use Rattle.ucm_base.specs.declared.ids.CallNo.{CallNo}
 use Rattle.campaign_core.specs.declared.events.Cause.{Cause}
 use Rattle.pm_types.specs.Steps.{call_no_cmp}
-use Rattle.pm_types.specs.NodeState.{is_working}
 use Rattle.pm_types.specs.declared.calls.Call.{Call}
 use Rattle.pm_types.specs.declared.replies.Reply.{Reply}
-use Rattle.pm_types.specs.declared.replies.Reply.TheVariants.{Done, Started, Synced, Refused}
+use Rattle.pm_types.specs.declared.replies.Reply.TheVariants.{Done}
 use Rattle.pm_types.specs.declared.replies.Synced.{Synced as Shown}
 use Rattle.pm_types.specs.declared.status.Status.{Status}
-use Rattle.pm_types.specs.declared.status.Status.TheVariants.{Idle, Ready, Processing, Activating, Verifying, Activated, RollingBack, RolledBack, CleaningUp}
 use Rattle.world.specs.Attempts.{Attempt, Tried, Worked, told_by, sent_by, with_sent, replies_by, MayTry, AreInOrder}
 use Rattle.world.specs.Messages.{Message, Told, Answered, Showed, is_refusal, is_sync, is_told, told_reply}
 use Rattle.world.specs.RoundCalls.{AllFit, Fits, round_calls}
@@ -27,19 +25,19 @@ use Rattle.sub_core.specs.declared.progress.EndProgress.{EndProgress}
 use Rattle.sub_core.specs.declared.progress.Progress.{Progress}
 use Rattle.sub_core.specs.declared.progress.Wish.{Wish}
 use Rattle.sub_core.specs.Calls.{AreThere, call_of, step_bytes}
-use Rattle.sub_core.specs.Driving.{begun, decision_given, end_step, fresh, is_answer, is_missed, is_over, missed, next_no, opened, progress_after, replied, round_step, settled_after, todo, wish, wish_at, worked, CanBegin, IsBeforeEnd, IsEnding}
+use Rattle.sub_core.specs.Driving.{begun, decision_given, fresh, is_answer, is_missed, is_over, missed, next_no, opened, progress_after, replied, settled_after, todo, wish, wish_at, worked, CanBegin, IsBeforeEnd, IsEnding}
 use Rattle.sub_core.specs.Evidence.{AreVain, misses_in}
 use Rattle.sub_core.specs.Made.{AreSentInTurn, Made, calls_in, ids_given, is_permitted, made_early, made_in, made_late, made_of, sent_early}
 use Rattle.sub_core.specs.Given.{Given, Task, after, is_ending, message_of}
 use Rattle.sub_core.specs.Sends.{AreCallsFor, AreNumbered, IsCallFor, IsEndCall, decision_of}
-use Rattle.sub_core.specs.States.{DriverState, IsPlaced, IsPlacedEnd, IsSound, number_limit}
+use Rattle.sub_core.specs.States.{DriverState, IsSound, number_limit}
 use Rattle.sub_core.proofs.Allowed.{early_at, late_told, told_begun, told_replied, told_worked}
 use Rattle.sub_core.proofs.Ends.{IsEndAt, end_begins, not_begun, end_replied, end_worked}
 use Rattle.sub_core.proofs.Asked.{all_undecided, answered_in, answered_late, calls_answered, closed_of, count_answered, sent_late, shown_late}
 use Rattle.sub_core.proofs.Making.{AreRounds, AreTurned, all_early, all_sent_early, are_accepted, end_more, neither, next_taken, none_made, one_more, some_bytes, turned, with_late}
 use Rattle.sub_core.proofs.Placed.{sound_begun, sound_missed, sound_opened, sound_replied, sound_worked}
 use Rattle.sub_core.proofs.Rounds.{StandsFor}
-use Rattle.sub_core.proofs.Stages.{asks_next, done_of_todo, stands_begun, stands_replied, stands_worked}
+use Rattle.sub_core.proofs.Stages.{asks_next, stands_begun, stands_replied, stands_worked}
 use Rattle.sub_core.proofs.Told.{IsTold}
 
 -- Activate is answered in its own round alone, and the end phase is gone through in its own
@@ -172,36 +170,16 @@ untold epoch at (Showed status ∷ told) below = untold epoch at told below
 -- where a driver is, by its round
 
 pub early_at_round : (r : Option Round) (p : Progress) → IsBeforeEnd r → IsWithin r p → is_ending p ≡ false
-early_at_round r Progress.Sync rounds within = refl
-early_at_round r Progress.Transfer rounds within = refl
-early_at_round r (Progress.Data id counter left) rounds within = refl
-early_at_round r (Progress.Process taken settled) rounds within = refl
-early_at_round r Progress.Activating rounds within = refl
-early_at_round r (Progress.Voted finding) rounds within = refl
-early_at_round r (Progress.Ending commit at) rounds within = absurd (subst IsBeforeEnd within rounds)
+early_at_round r x1 rounds within = grind arith
 
 pub not_ending : (p : Progress) → is_ending p ≡ false → IsEnding p → ⊥
-not_ending (Progress.Ending commit at) is ending = cc is
-not_ending Progress.Sync is ending = ending
-not_ending Progress.Transfer is ending = ending
-not_ending (Progress.Data id counter left) is ending = ending
-not_ending (Progress.Process taken settled) is ending = ending
-not_ending Progress.Activating is ending = ending
-not_ending (Progress.Voted finding) is ending = ending
+not_ending x0 is ending = grind arith
 
 -- Activate is asked for in its round alone
 activates_in : (r : Option Round) (ids : List ℕ) (taken : ℕ) (settled : Bool) → IsBeforeEnd r
     → nat_lt taken (length ids) ≡ false → is_over r ids (Progress.Process taken settled) ≡ false → r ≡ Some
     Round.Activate
-activates_in None ids taken settled rounds end pending = absurd (cc pending)
-activates_in (Some Round.Sync) ids taken settled rounds end pending = absurd (cc pending)
-activates_in (Some Round.Transfer) ids taken settled rounds end pending = absurd (cc pending)
-activates_in (Some Round.Process) ids taken settled rounds end pending =
-    let less : length ids ≤ taken = grind (arith, nat_tests, end) in
-    let is : nat_le (length ids) taken ≡ true = grind (arith, nat_tests, less) in
-    absurd (cc (sym is ∙ pending))
-activates_in (Some Round.Activate) ids taken settled rounds end pending = refl
-activates_in (Some (Round.End commit)) ids taken settled rounds end pending = absurd rounds
+activates_in x0 ids taken settled rounds end pending = grind arith
 
 open_round : (b : Bool) (f : Finding) (other asked : SendStep)
     → (if b then Wish.Rest f else Wish.Send other) ≡ Wish.Send asked → b ≡ false
@@ -211,9 +189,7 @@ open_round false f other asked is = refl
 within_data : (r : Option Round) (b c : Bool) (id counter left : ℕ) → IsBeforeEnd r
     → IsWithin r (if b then (if c then Progress.Transfer else Progress.Process 0 true)
     else Progress.Data id counter left)
-within_data r true true id counter left rounds = rounds
-within_data r true false id counter left rounds = rounds
-within_data r false c id counter left rounds = rounds
+within_data r x1 x2 id counter left rounds = grind arith
 
 within_process : (r : Option Round) (b : Bool) (taken : ℕ) → IsBeforeEnd r → (b ≡ false → r ≡ Some Round.Activate)
     → IsWithin r (if b then Progress.Process (suc taken) false else Progress.Activating)
@@ -222,106 +198,29 @@ within_process r false taken rounds last = last refl
 
 within_replied : (d : DriverState) (p : Progress) (reply : Reply) (asked : SendStep) → wish_at d p ≡ Wish.Send asked
     → IsWithin d.round p → IsWithin d.round (progress_after d p reply)
-within_replied d Progress.Sync (Refused why) asked is within = within
-within_replied d Progress.Sync (Synced x) asked is within = within
-within_replied d Progress.Sync Done asked is within = within
-within_replied d Progress.Sync (Started id) asked is within = within
-within_replied d Progress.Transfer (Refused why) asked is within = within
-within_replied d Progress.Transfer (Synced x) asked is within = within
-within_replied d Progress.Transfer Done asked is within = within
-within_replied d Progress.Transfer (Started id) asked is within = within
-within_replied d (Progress.Data id counter left) (Refused why) asked is within = within
-within_replied d (Progress.Data id counter left) (Synced x) asked is within = within
-within_replied d (Progress.Data id counter left) (Started n) asked is within = within
-within_replied d (Progress.Data id counter left) Done asked is within =
-    within_data d.round (left == 0) (nat_lt (suc (length d.ids)) (length d.steps)) id (counter + 1) (left - block_limit)
-    within
-within_replied d (Progress.Process taken true) Done asked is within =
-    let pending = open_round (is_over d.round d.ids (Progress.Process taken true)) Finding.RoundDone
-    (round_step d (Progress.Process taken true)) asked is in
-    within_process d.round (nat_lt taken (length d.ids)) taken within
-    (λ end. activates_in d.round d.ids taken true within end pending)
-within_replied d (Progress.Process taken true) (Refused why) asked is within = within
-within_replied d (Progress.Process taken true) (Synced x) asked is within = within
-within_replied d (Progress.Process taken true) (Started n) asked is within = within
-within_replied d (Progress.Process taken false) reply asked is within = absurd (cc is)
-within_replied d Progress.Activating reply asked is within = absurd (cc is)
-within_replied d (Progress.Voted finding) reply asked is within = absurd (cc is)
-within_replied d (Progress.Ending commit at) Done asked is within = within
-within_replied d (Progress.Ending commit at) (Started n) asked is within = within
-within_replied d (Progress.Ending commit at) (Synced x) asked is within = within
-within_replied d (Progress.Ending commit at) (Refused why) asked is within = within
+within_replied d x1 x2 asked is within = grind arith
 
 within_worked : (r : Option Round) (p : Progress) (status : Status) → IsWithin r p → IsWithin r (settled_after p status)
-within_worked r Progress.Sync status within = within
-within_worked r Progress.Transfer status within = within
-within_worked r (Progress.Data id counter left) status within = within
-within_worked r (Progress.Process taken settled) status within = within
-within_worked r Progress.Activating Activated within = within
-within_worked r Progress.Activating RolledBack within = within
-within_worked r Progress.Activating Idle within = within
-within_worked r Progress.Activating Ready within = within
-within_worked r Progress.Activating Processing within = within
-within_worked r Progress.Activating Activating within = within
-within_worked r Progress.Activating Verifying within = within
-within_worked r Progress.Activating RollingBack within = within
-within_worked r Progress.Activating CleaningUp within = within
-within_worked r (Progress.Voted finding) status within = within
-within_worked r (Progress.Ending commit at) status within = within
+within_worked r x1 x2 within = grind arith
 
 -- from one round to a later one before the end
 within_next : (r s : Option Round) (p : Progress) → IsBeforeEnd r → IsBeforeEnd s → (r ≡ Some Round.Activate → ⊥)
     → IsWithin r p → IsWithin s p
-within_next r s Progress.Sync rounds later other within = later
-within_next r s Progress.Transfer rounds later other within = later
-within_next r s (Progress.Data id counter left) rounds later other within = later
-within_next r s (Progress.Process taken settled) rounds later other within = later
-within_next r s Progress.Activating rounds later other within = absurd (other within)
-within_next r s (Progress.Voted Finding.Yes) rounds later other within = absurd (other within)
-within_next r s (Progress.Voted Finding.RolledBack) rounds later other within = absurd (other within)
-within_next r s (Progress.Voted (Finding.Refused call_no why)) rounds later other within = later
-within_next r s (Progress.Voted Finding.RoundDone) rounds later other within = within
-within_next r s (Progress.Voted (Finding.Unreached losses faults)) rounds later other within = within
-within_next r s (Progress.Voted (Finding.Ended call_no)) rounds later other within = within
-within_next r s (Progress.Ending commit at) rounds later other within = absurd (subst IsBeforeEnd within rounds)
+within_next r s x2 rounds later other within = grind arith
 
 -- the round that was before
 rounds_before : (round : Round) (d : DriverState) → CanBegin round d → IsBeforeEnd (Some round)
     → IsBeforeEnd d.round × (d.round ≡ Some Round.Activate → ⊥)
-rounds_before Round.Sync d can rounds = (subst IsBeforeEnd (sym can) tt, λ is. cc (sym can ∙ is))
-rounds_before Round.Transfer d can rounds = (subst IsBeforeEnd (sym can.round) tt, λ is. cc (sym can.round ∙ is))
-rounds_before Round.Process d can rounds = (subst IsBeforeEnd (sym can.round) tt, λ is. cc (sym can.round ∙ is))
-rounds_before Round.Activate d can rounds = (subst IsBeforeEnd (sym can.round) tt, λ is. cc (sym can.round ∙ is))
-rounds_before (Round.End commit) d can rounds = absurd rounds
+rounds_before x0 d can rounds = grind arith
 
 within_begun : (round : Round) (d : DriverState) → CanBegin round d → IsWithin d.round d.progress
     → IsWithin (begun round d).round (begun round d).progress
-within_begun Round.Sync d can within =
-    let b = rounds_before Round.Sync d can tt in within_next d.round (Some Round.Sync) d.progress b.0 tt b.1 within
-within_begun Round.Transfer d can within =
-    let b = rounds_before Round.Transfer d can tt in
-    within_next d.round (Some Round.Transfer) d.progress b.0 tt b.1 within
-within_begun Round.Process d can within =
-    let b = rounds_before Round.Process d can tt in within_next d.round (Some Round.Process) d.progress b.0 tt b.1
-    within
-within_begun Round.Activate d can within =
-    let b = rounds_before Round.Activate d can tt in
-    within_next d.round (Some Round.Activate) d.progress b.0 tt b.1 within
-within_begun (Round.End commit) d can within = refl
+within_begun x0 d can within = grind arith
 
 -- the last message, where a driver rests at its end
 
 last_of : (p : Progress) (attempts : List Attempt) → IsLast attempts → LastAt p attempts
-last_of Progress.Sync attempts last = tt
-last_of Progress.Transfer attempts last = tt
-last_of (Progress.Data id counter left) attempts last = tt
-last_of (Progress.Process taken settled) attempts last = tt
-last_of Progress.Activating attempts last = tt
-last_of (Progress.Voted finding) attempts last = tt
-last_of (Progress.Ending commit (EndProgress.Call asked)) attempts last = tt
-last_of (Progress.Ending commit EndProgress.Units) attempts last = tt
-last_of (Progress.Ending commit (EndProgress.Delete listed place)) attempts last = tt
-last_of (Progress.Ending commit (EndProgress.Rest call_no)) attempts last = last
+last_of x0 attempts last = grind arith
 
 -- a driver that asks for something isn't at its end
 last_asked : (d : DriverState) (p : Progress) (attempts : List Attempt)
@@ -344,30 +243,11 @@ last_at_status commit false asked attempts = tt
 
 last_worked : (d : DriverState) (p : Progress) (status : Status) (attempts : List Attempt) → wish_at d p ≡ Wish.Unit
     → LastAt (settled_after p status) attempts
-last_worked d Progress.Sync status attempts is = tt
-last_worked d Progress.Transfer status attempts is = tt
-last_worked d (Progress.Data id counter left) status attempts is = tt
-last_worked d (Progress.Process taken settled) status attempts is = tt
-last_worked d Progress.Activating Activated attempts is = tt
-last_worked d Progress.Activating RolledBack attempts is = tt
-last_worked d Progress.Activating Idle attempts is = tt
-last_worked d Progress.Activating Ready attempts is = tt
-last_worked d Progress.Activating Processing attempts is = tt
-last_worked d Progress.Activating Activating attempts is = tt
-last_worked d Progress.Activating Verifying attempts is = tt
-last_worked d Progress.Activating RollingBack attempts is = tt
-last_worked d Progress.Activating CleaningUp attempts is = tt
-last_worked d (Progress.Voted finding) status attempts is = tt
-last_worked d (Progress.Ending commit at) status attempts is =
-    last_at_status commit (is_working status) (end_step commit status) attempts
+last_worked d x1 x2 attempts is = grind arith
 
 last_begun : (round : Round) (d : DriverState) (attempts : List Attempt) → LastAt d.progress attempts
     → LastAt (begun round d).progress attempts
-last_begun Round.Sync d attempts last = last
-last_begun Round.Transfer d attempts last = last
-last_begun Round.Process d attempts last = last
-last_begun Round.Activate d attempts last = last
-last_begun (Round.End commit) d attempts last = tt
+last_begun x0 d attempts last = grind arith
 
 -- replies fit their calls
 
@@ -397,23 +277,14 @@ same_answers lent SendStep.Revert r = refl
 same_answers lent (SendStep.Delete id) r = refl
 
 sync_fits : (r : Reply) → is_answer SendStep.Sync r ≡ true → is_refusal r ≡ false → Fits AtSync r
-sync_fits Done fits accepted = cc fits
-sync_fits (Started id) fits accepted = cc fits
-sync_fits (Synced x) fits accepted = tt
-sync_fits (Refused why) fits accepted = cc accepted
+sync_fits x0 fits accepted = grind arith
 
 start_fits : (ids : List ℕ) (p : List ℕ) (ps : List (List ℕ)) (r : Reply) → is_answer (SendStep.Start 0) r ≡ true
     → is_refusal r ≡ false → Fits (AtStart ids (p ∷ ps)) r
-start_fits ids p ps Done fits accepted = cc fits
-start_fits ids p ps (Started id) fits accepted = tt
-start_fits ids p ps (Synced x) fits accepted = cc fits
-start_fits ids p ps (Refused why) fits accepted = cc accepted
+start_fits ids p ps x3 fits accepted = grind arith
 
 is_done_only : (r : Reply) → is_answer SendStep.Activate r ≡ true → is_refusal r ≡ false → r ≡ Done
-is_done_only Done fits accepted = refl
-is_done_only (Started id) fits accepted = absurd (cc fits)
-is_done_only (Synced x) fits accepted = absurd (cc fits)
-is_done_only (Refused why) fits accepted = absurd (cc accepted)
+is_done_only x0 fits accepted = grind arith
 
 fits_call : (k : ℕ) (stage : Stage) (r : Reply) (c : Call) → call_at k stage ≡ Some c → call_answers c r ≡ true
     → is_refusal r ≡ false → Fits stage r
@@ -447,12 +318,7 @@ fits_call k RefusedOnce r c is fits accepted = absurd (cc is)
 
 -- the decision of the end phase
 end_round : (r : Option Round) → IsEndRound r → (commit : Bool) × (r ≡ Some (Round.End commit))
-end_round None end = absurd end
-end_round (Some Round.Sync) end = absurd end
-end_round (Some Round.Transfer) end = absurd end
-end_round (Some Round.Process) end = absurd end
-end_round (Some Round.Activate) end = absurd end
-end_round (Some (Round.End commit)) end = (commit, refl)
+end_round x0 end = grind arith
 
 -- the attempt of this message
 record IsNow (task : Task) (m : Message) (is_open : Bool) (attempts : List Attempt) : Type 0 where
@@ -476,10 +342,7 @@ same_send a b is = cc is
 permitted : (commit : Bool) (cause : Cause) (status : Option Status) (shown : Option Shown) (call : Call)
     → (is_sync call || (end_call_at (decision_of commit cause) status call || delete_at shown call)) ≡ true
     → is_permitted (Some commit) call ≡ true
-permitted true cause None shown call is = grind arith
-permitted true cause (Some s) shown call is = grind arith
-permitted false cause None shown call is = grind arith
-permitted false cause (Some s) shown call is = grind arith
+permitted x0 cause x2 shown call is = grind arith
 
 -- before the decision no message is of the end phase
 call_so_far : (k epoch : ℕ) (ps : List (List ℕ)) (b : Bool) (decision : Option Bool) (call : Call)
@@ -761,28 +624,15 @@ module _ (lent : List (List ℕ)) (task : Task) (d : DriverState) (tries : List 
 
 -- the end comes once
 pub no_end : (r : Option Round) → IsBeforeEnd r → IsEndRound r → ⊥
-no_end None rounds end = end
-no_end (Some Round.Sync) rounds end = end
-no_end (Some Round.Transfer) rounds end = end
-no_end (Some Round.Process) rounds end = end
-no_end (Some Round.Activate) rounds end = end
-no_end (Some (Round.End commit)) rounds end = rounds
+no_end x0 rounds end = grind arith
 
 -- a round that isn't the end begins where nothing is open, and after no end
 not_open : (round : Round) (d : DriverState) → CanBegin round d → IsBeforeEnd (Some round)
     → (asked : SendStep) → is_some d.round ≡ true → wish d ≡ Wish.Send asked → ⊥
-not_open Round.Sync d can rounds asked has_begun wishes = cc (sym (ap is_some can) ∙ has_begun)
-not_open Round.Transfer d can rounds asked has_begun wishes = cc (sym (done_of_todo d (wish d) can.done) ∙ wishes)
-not_open Round.Process d can rounds asked has_begun wishes = cc (sym (done_of_todo d (wish d) can.done) ∙ wishes)
-not_open Round.Activate d can rounds asked has_begun wishes = cc (sym (done_of_todo d (wish d) can.done) ∙ wishes)
-not_open (Round.End commit) d can rounds asked has_begun wishes = rounds
+not_open x0 d can rounds asked has_begun wishes = grind arith
 
 not_again : (round : Round) (d : DriverState) → CanBegin round d → IsEndRound d.round → ⊥
-not_again Round.Sync d can end = subst IsEndRound can end
-not_again Round.Transfer d can end = subst IsEndRound can.round end
-not_again Round.Process d can end = subst IsEndRound can.round end
-not_again Round.Activate d can end = subst IsEndRound can.round end
-not_again (Round.End commit) d can end = no_end d.round can end
+not_again x0 d can end = grind arith
 
 module _ (lent : List (List ℕ)) (d : DriverState) (told : List Told) (within : IsWithin d.round d.progress) where
   open_begun : (round : Round) → CanBegin round d → (sent : List Message) → IsOpen lent d sent

@@ -1,23 +1,21 @@
 -- How the end phase goes on.
-use Rattle.std.proofs.Common.{◌≡◌, inl, inr, ℕ, Bool, true, false, if◌then◌else◌, nat_eq, is_some, List, [], ◌∷◌, Option, Some, None, refl, sym, ap, ◌∙◌, arith}
+use Rattle.std.proofs.Common.{◌≡◌, inl, inr, ℕ, Bool, true, false, if◌then◌else◌, is_some, List, [], ◌∷◌, Option, Some, None, refl, ap, ◌∙◌, arith}
 use Rattle.ucm_base.specs.declared.ids.CallNo.{CallNo}
 use Rattle.pm_types.specs.NodeState.{is_working}
 use Rattle.pm_types.specs.declared.replies.Reply.{Reply}
 use Rattle.pm_types.specs.declared.replies.SessionMark.{SessionMark}
 use Rattle.pm_types.specs.declared.replies.Synced.{Synced as Shown}
 use Rattle.pm_types.specs.declared.status.Status.{Status}
-use Rattle.pm_types.specs.declared.status.Status.TheVariants.{Idle, Ready, Processing, Activating, Verifying, Activated, RollingBack, RolledBack, CleaningUp}
 use Rattle.world.specs.Messages.{Message, Told, Answered, Showed}
 use Rattle.world.specs.RoundsBySize.{GoesBySize}
 use Rattle.world.specs.Sends.{is_end_sync, is_masters, last_shown, session_status}
-use Rattle.sub_core.specs.declared.answers.Round.{Round}
 use Rattle.sub_core.specs.declared.answers.SendStep.{SendStep}
 use Rattle.sub_core.specs.declared.answers.Todo.{Todo}
 use Rattle.sub_core.specs.declared.progress.EndProgress.{EndProgress}
 use Rattle.sub_core.specs.Calls.{call_of}
-use Rattle.sub_core.specs.Driving.{at_free, at_session, at_shown, at_status, end_after, end_step, end_wish, is_missed, next_no, todo, todo_for, unreached}
+use Rattle.sub_core.specs.Driving.{at_free, at_session, at_shown, at_status, end_step, end_wish, is_missed, next_no, todo, todo_for, unreached}
 use Rattle.sub_core.specs.Ending.{end_at}
-use Rattle.sub_core.specs.Given.{Given, Task, after, told_of}
+use Rattle.sub_core.specs.Given.{after, told_of}
 use Rattle.sub_core.specs.Onward.{EndGoesOn, GoesOn, IsNextAt, ListedAreDeleted, ShowsNow}
 use Rattle.sub_core.specs.States.{DriverState}
 use Rattle.sub_core.proofs.Ends.{begun_of, end_sync_decided}
@@ -30,15 +28,11 @@ some_shown (Some x) is = (x, refl)
 owned_at : (commit : Bool) (call_no : CallNo) (session : Option SessionMark) (ids : List ℕ) (status : Status)
     → is_masters session ≡ true → session_status session ≡ status
     → at_session commit call_no session ids ≡ at_status commit status
-owned_at commit call_no None ids status masters is = absurd (cc masters)
-owned_at commit call_no (Some mark) ids status masters is =
-    ap (λ b. if b then at_status commit mark.status else at_free call_no ids) masters ∙ ap (at_status commit) is
+owned_at commit call_no x2 ids status masters is = grind arith
 
 free_at : (commit : Bool) (call_no : CallNo) (session : Option SessionMark) (ids : List ℕ)
     → is_masters session ≡ false → at_session commit call_no session ids ≡ at_free call_no ids
-free_at commit call_no None ids free = refl
-free_at commit call_no (Some mark) ids free =
-    ap (λ b. if b then at_status commit mark.status else at_free call_no ids) free
+free_at commit call_no x2 ids free = grind arith
 
 -- a Sync of the end phase leads to what it shows
 synced_at : (k epoch : ℕ) (commit : Bool) (m : Message) (x : Shown) (told : List Told)
@@ -60,19 +54,7 @@ status_at k epoch commit status (Answered m reply ∷ told) now =
 
 next_at : (lent : List (List ℕ)) (commit : Bool) (status : Status) → is_working status ≡ false
     → IsNextAt commit status (call_of lent (end_step commit status))
-next_at lent true Idle idle = inr (refl, λ cause other. grind arith)
-next_at lent true Ready idle = inr (refl, λ cause other. grind arith)
-next_at lent true Activated idle = inl (λ cause. refl)
-next_at lent true RolledBack idle = inr (refl, λ cause other. grind arith)
-next_at lent false Idle idle = inr (refl, λ cause other. grind arith)
-next_at lent false Ready idle = inl (λ cause. refl)
-next_at lent false Activated idle = inl (λ cause. refl)
-next_at lent false RolledBack idle = inl (λ cause. refl)
-next_at lent commit Processing idle = absurd (cc idle)
-next_at lent commit Activating idle = absurd (cc idle)
-next_at lent commit Verifying idle = absurd (cc idle)
-next_at lent commit RollingBack idle = absurd (cc idle)
-next_at lent commit CleaningUp idle = absurd (cc idle)
+next_at lent x1 x2 idle = grind arith
 
 module _ (lent : List (List ℕ)) (d : DriverState) (few : is_missed d ≡ false) where
   send_at : (asked : SendStep) → todo d ≡ todo_for d (end_wish (EndProgress.Call asked))
@@ -83,9 +65,12 @@ module _ (lent : List (List ℕ)) (d : DriverState) (few : is_missed d ≡ false
   goes_at : (commit : Bool) (status : Status) (b : Bool) → is_working status ≡ b
       → todo d ≡ todo_for d (end_wish (at_status commit status)) → GoesOn lent commit status (todo d)
   goes_at commit status true is asks =
-      inl (is, asks
-      ∙ (ap (λ b. todo_for d (end_wish (if b then EndProgress.Units else EndProgress.Call (end_step commit status)))) is
-      ∙ ap (λ b. if b then Todo.Rest (unreached d.misses) else Todo.Unit) few))
+      inl (
+        is,
+        asks
+            ∙ (ap (λ b. todo_for d (end_wish (if b then EndProgress.Units else EndProgress.Call (end_step commit status)))) is
+            ∙ ap (λ b. if b then Todo.Rest (unreached d.misses) else Todo.Unit) few),
+      )
   goes_at commit status false is asks =
       let on : todo d ≡ todo_for d (end_wish (EndProgress.Call (end_step commit status))) =
       asks
@@ -107,7 +92,9 @@ listed_are_deleted by_size lent task gs is given_ commit here few m shown older 
     let at : end_at commit (told_of lent task gs) ≡ EndProgress.Delete (id ∷ ids) 0 =
     ap (end_at commit) told
     ∙ (synced_at task.campaign task.epoch commit m shown older of_end
-    ∙ (free_at commit m.at shown.session shown.transfers free ∙ ap (at_free m.at) listed)) in
-    (next_no d, end_is_asked by_size lent task gs is given_ commit here
-    ∙ (ap (λ at. todo_for d (end_wish at)) at
-    ∙ ap (λ b. if b then Todo.Rest (unreached d.misses) else Todo.Send (next_no d) (SendStep.Delete id)) few))
+    ∙ (free_at commit m.at shown.session shown.transfers free ∙ ap (at_free m.at) listed)) in (
+      next_no d,
+      end_is_asked by_size lent task gs is given_ commit here
+          ∙ (ap (λ at. todo_for d (end_wish at)) at
+          ∙ ap (λ b. if b then Todo.Rest (unreached d.misses) else Todo.Send (next_no d) (SendStep.Delete id)) few),
+    )

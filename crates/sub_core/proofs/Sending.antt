@@ -1,5 +1,5 @@
 -- What a driver asks to be sent is allowed.
-use Rattle.std.proofs.Common.{◌≡◌, ◌⊎◌, inl, inr, ℕ, ◌+◌, Bool, true, false, not, ◌&&◌, ◌||◌, if◌then◌else◌, ◌==◌, nat_eq, nat_lt, nat_le, List, [], ◌∷◌, ◌++◌, length, slice_index_or, Some, None, is_some, refl, sym, ap, subst, ◌∙◌, arith}
+use Rattle.std.proofs.Common.{◌≡◌, ◌⊎◌, inl, inr, ℕ, ◌+◌, Bool, true, false, not, ◌&&◌, ◌||◌, if◌then◌else◌, nat_eq, nat_lt, nat_le, List, [], ◌∷◌, ◌++◌, length, Some, None, is_some, refl, sym, ap, subst, ◌∙◌, arith}
 use Rattle.std.proofs.lemmas.Bool.Decides.{nat_tests}
 use Rattle.std.specs.List.{AllByRecursion}
 use Rattle.ucm_base.specs.declared.ids.CallNo.{CallNo}
@@ -15,17 +15,16 @@ use Rattle.world.specs.Sends.{MaySendBy, Packages, delete_at, end_call_at, is_du
 use Rattle.sub_core.specs.declared.answers.Finding.{Finding}
 use Rattle.sub_core.specs.declared.answers.Round.{Round}
 use Rattle.sub_core.specs.declared.answers.SendStep.{SendStep}
-use Rattle.sub_core.specs.declared.answers.Todo.{Todo}
 use Rattle.sub_core.specs.declared.progress.EndProgress.{EndProgress}
 use Rattle.sub_core.specs.declared.progress.Progress.{Progress}
 use Rattle.sub_core.specs.declared.progress.Wish.{Wish}
 use Rattle.sub_core.specs.Calls.{call_of, step_bytes}
-use Rattle.sub_core.specs.Driving.{at_shown, is_over, next_no, round_step, todo, todo_for, wish, wish_at, IsBeforeEnd}
+use Rattle.sub_core.specs.Driving.{at_shown, is_over, next_no, round_step, todo_for, wish, wish_at, IsBeforeEnd}
 use Rattle.sub_core.specs.Ending.{end_at}
 use Rattle.sub_core.specs.Evidence.{EndIsFound}
 use Rattle.sub_core.specs.Given.{AreGiven, Given, IsTask, Task, after, attempts, message_of, sent_of, told_of}
 use Rattle.sub_core.specs.Sends.{AreEarlier, AreNumbered, CallsAreNext, IsAgain, IsAtEnd, IsInRound, IsMasters, IsNew, RepliesAreRead, SendsAreAllowed, decision_of, phase_of}
-use Rattle.sub_core.specs.States.{DriverState, size_at}
+use Rattle.sub_core.specs.States.{DriverState}
 use Rattle.sub_core.proofs.Allowed.{at_of_todo, early_at, late_told}
 use Rattle.sub_core.proofs.Ends.{end_sync_decided, rest_shown}
 use Rattle.sub_core.proofs.Journeys.{Stands, stands}
@@ -60,42 +59,11 @@ left_of taken n is = grind (arith, nat_tests)
 due_at : (lent : List (List ℕ)) (d : DriverState) (round : Round) (p : Progress) → IsBeforeEnd (Some round) → IsCalling
     p
     → is_over (Some round) d.ids p ≡ false → is_due (phase_of round) (call_of lent (round_step d p)) ≡ true
-due_at lent d round Progress.Sync rounds calling over = refl
-due_at lent d Round.Sync Progress.Transfer rounds calling over = absurd (cc over)
-due_at lent d Round.Sync (Progress.Data id counter left) rounds calling over = absurd (cc over)
-due_at lent d Round.Sync (Progress.Process taken settled) rounds calling over = absurd (cc over)
-due_at lent d Round.Transfer Progress.Transfer rounds calling over = refl
-due_at lent d Round.Process Progress.Transfer rounds calling over = refl
-due_at lent d Round.Activate Progress.Transfer rounds calling over = refl
-due_at lent d Round.Transfer (Progress.Data id counter left) rounds calling over =
-    due_data lent Phase.Transferring (left == 0) (size_at d.steps (length d.ids)).index id counter
-due_at lent d Round.Process (Progress.Data id counter left) rounds calling over =
-    due_data lent Phase.Processing (left == 0) (size_at d.steps (length d.ids)).index id counter
-due_at lent d Round.Activate (Progress.Data id counter left) rounds calling over =
-    due_data lent Phase.Activating (left == 0) (size_at d.steps (length d.ids)).index id counter
-due_at lent d Round.Transfer (Progress.Process taken settled) rounds calling over = absurd (cc over)
-due_at lent d Round.Process (Progress.Process taken settled) rounds calling over =
-    due_before lent (nat_lt taken (length d.ids)) (slice_index_or d.ids taken 0) d.campaign
-    (left_of taken (length d.ids) over)
-due_at lent d Round.Activate (Progress.Process taken settled) rounds calling over =
-    due_process lent (nat_lt taken (length d.ids)) (slice_index_or d.ids taken 0) d.campaign
-due_at lent d (Round.End commit) p rounds calling over = absurd rounds
-due_at lent d round Progress.Activating rounds calling over = absurd calling
-due_at lent d round (Progress.Voted finding) rounds calling over = absurd calling
-due_at lent d round (Progress.Ending commit at) rounds calling over = absurd calling
+due_at lent d x2 x3 rounds calling over = grind arith
 
 over_at : (d : DriverState) (p : Progress) (asked : SendStep) → IsCalling p → wish_at d p ≡ Wish.Send asked
     → is_over d.round d.ids p ≡ false
-over_at d Progress.Sync asked calling is = open_round _ (round_step d Progress.Sync) asked is
-over_at d Progress.Transfer asked calling is = open_round _ (round_step d Progress.Transfer) asked is
-over_at d (Progress.Data id counter left) asked calling is =
-    open_round _ (round_step d (Progress.Data id counter left)) asked is
-over_at d (Progress.Process taken true) asked calling is =
-    open_round _ (round_step d (Progress.Process taken true)) asked is
-over_at d (Progress.Process taken false) asked calling is = absurd (cc is)
-over_at d Progress.Activating asked calling is = absurd calling
-over_at d (Progress.Voted finding) asked calling is = absurd calling
-over_at d (Progress.Ending commit at) asked calling is = absurd calling
+over_at d x1 asked calling is = grind arith
 
 -- what was sent before
 
@@ -154,22 +122,13 @@ replies_are_read by_size got lent task gs is given_ rounds earlier before =
     ∙ got task.campaign (attempts lent task gs) (kept.order rounds)
 
 follow_other : (a b c d : Bool) → (a && b) ≡ false → (not a || (c || (not b || d))) ≡ true
-follow_other true true c d is = absurd (cc is)
-follow_other true false true d is = refl
-follow_other true false false d is = refl
-follow_other false b c d is = refl
+follow_other x0 x1 x2 d is = grind arith
 
 follow_told : (a b c : Bool) → b ≡ true → (a || (b || c)) ≡ true
-follow_told true b c is = refl
-follow_told false true c is = refl
-follow_told false false c is = absurd (cc is)
+follow_told x0 x1 c is = grind arith
 
 follow_decided : (a b c decided : Bool) → decided ≡ false → (a || (b || (c || (not decided && true)))) ≡ true
-follow_decided true b c decided is = refl
-follow_decided false true c decided is = refl
-follow_decided false false true decided is = refl
-follow_decided false false false true is = absurd (cc is)
-follow_decided false false false false is = refl
+follow_decided x0 x1 x2 x3 is = grind arith
 
 module _ (by_size : GoesBySize) (got : RepliesAreGot) (lent : List (List ℕ)) (task : Task) (gs : List Given)
     (is : IsTask lent task) (given_ : AreGiven task gs) (packages : Packages) (n : ℕ)

@@ -18,11 +18,10 @@ use Rattle.sub_core.specs.declared.answers.Finding.{Finding}
 use Rattle.sub_core.specs.declared.answers.Round.{Round}
 use Rattle.sub_core.specs.declared.answers.SendStep.{SendStep}
 use Rattle.sub_core.specs.declared.answers.Todo.{Todo}
-use Rattle.sub_core.specs.declared.progress.EndProgress.{EndProgress}
 use Rattle.sub_core.specs.declared.progress.Progress.{Progress}
 use Rattle.sub_core.specs.declared.progress.Wish.{Wish}
 use Rattle.sub_core.specs.Calls.{step_bytes}
-use Rattle.sub_core.specs.Driving.{decision_given, is_missed, is_over, next_no, round_step, todo, todo_for, wish, wish_at, IsBeforeEnd}
+use Rattle.sub_core.specs.Driving.{decision_given, is_missed, next_no, todo, todo_for, wish, wish_at, IsBeforeEnd}
 use Rattle.sub_core.specs.Given.{AreGiven, Given, IsTask, Task, after, attempts, message_of, replies_to, told_of}
 use Rattle.sub_core.specs.Made.{AreInTurn, AreSentInTurn, Made, ends_at_rest, has_none, ids_given, made_early, made_in, made_late, made_of, sent_early, shows_rest}
 use Rattle.sub_core.specs.States.{DriverState}
@@ -161,21 +160,7 @@ no_round false asked f other is = cc is
 
 voted_of : (d : DriverState) (p : Progress) (f : Finding) → (f ≡ Finding.RoundDone → ⊥)
     → ((call_no : CallNo) → f ≡ Finding.Ended call_no → ⊥) → wish_at d p ≡ Wish.Rest f → p ≡ Progress.Voted f
-voted_of d Progress.Sync f other more is =
-    absurd (no_round (is_over d.round d.ids Progress.Sync) (round_step d Progress.Sync) f other is)
-voted_of d Progress.Transfer f other more is =
-    absurd (no_round (is_over d.round d.ids Progress.Transfer) (round_step d Progress.Transfer) f other is)
-voted_of d (Progress.Data id counter left) f other more is =
-    let p = Progress.Data id counter left in absurd (no_round (is_over d.round d.ids p) (round_step d p) f other is)
-voted_of d (Progress.Process taken true) f other more is =
-    let p = Progress.Process taken true in absurd (no_round (is_over d.round d.ids p) (round_step d p) f other is)
-voted_of d (Progress.Process taken false) f other more is = absurd (cc is)
-voted_of d Progress.Activating f other more is = absurd (cc is)
-voted_of d (Progress.Voted g) f other more is = let same : g ≡ f = cc is in ap Progress.Voted same
-voted_of d (Progress.Ending commit (EndProgress.Call asked)) f other more is = absurd (cc is)
-voted_of d (Progress.Ending commit EndProgress.Units) f other more is = absurd (cc is)
-voted_of d (Progress.Ending commit (EndProgress.Delete listed place)) f other more is = absurd (cc is)
-voted_of d (Progress.Ending commit (EndProgress.Rest call_no)) f other more is = absurd (more call_no (sym (cc is)))
+voted_of d x1 f other more is = grind arith
 
 accepted_all : (made : List Made) → AreAccepted made → list_all (λ m. not (is_refusal m.reply)) made ≡ true
 accepted_all [] all = refl

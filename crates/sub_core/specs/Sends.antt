@@ -10,7 +10,6 @@ use Rattle.campaign_core.specs.declared.events.Decision.TheVariants.{Commit, Abo
 use Rattle.campaign_core.specs.declared.events.Phase.{Phase}
 use Rattle.campaign_core.specs.declared.fold.Current.{Current}
 use Rattle.pm_types.specs.declared.calls.Call.{Call}
-use Rattle.pm_types.specs.declared.replies.Reply.{Reply}
 use Rattle.world.specs.Attempts.{Attempt, Tried, Worked, replies_by, told_by}
 use Rattle.world.specs.Rounds.{AtSync, call_at, stage_of}
 use Rattle.world.specs.Messages.{Message, Told, is_sync, is_told}
