@@ -72,16 +72,6 @@ pub not_unit : (b : Bool) (f : Finding) (asked : SendStep)
 not_unit true f asked is = cc is
 not_unit false f asked is = cc is
 
--- a unit leaves what the last Sync showed
-owned_on : (k epoch : ℕ) (status : Status) (told : List Told) → IsOwned k epoch told
-    → IsOwned k epoch (Showed status ∷ told)
-owned_on k epoch status told owned =
-    record { shown = owned.shown; last = owned.last; session = owned.session }
-
-or_false : (b c : Bool) → c ≡ false → (b || c) ≡ b
-or_false true c is = refl
-or_false false c is = is
-
 -- a unit's status was told
 pub told_worked : (k epoch : ℕ) (d : DriverState) (p : Progress) (status : Status) (told : List Told)
     → wish_at d p ≡ Wish.Unit → ToldAt k epoch p told → ToldAt k epoch (settled_after p status) (Showed status ∷ told)
@@ -374,65 +364,12 @@ module _ (packages : List (List ℕ)) (d : DriverState) (told : List Told) (soun
   told_replied (Progress.Ending commit at) reply asked placed is fits t =
       end_replied packages d told commit at reply asked placed is fits t
 
-  reply_if : (reply : Reply) (asked : SendStep) (b : Bool) → is_answer asked reply ≡ b → wish d ≡ Wish.Send asked
-      → IsTold d told
-      → IsTold (if b then replied reply d else opened d)
-      (told_reply (sent_at d.progress asked) (if b then Some reply else None) told)
-  reply_if reply asked true fits is t = told_replied d.progress reply asked sound.placed is fits t
-  reply_if reply asked false fits is t = t
-
-  told_send : (asked : SendStep) (got : Got) → wish d ≡ Wish.Send asked → IsTold d told
-      → IsTold (after_send asked got d) (told_reply (sent_at d.progress asked) (reply_got asked got) told)
-  told_send asked (Got.Replied reply) is t = reply_if reply asked (is_answer asked reply) refl is t
-  told_send asked (Got.UnitOf unit) is t = t
-  told_send asked (Got.Miss losses faults) is t = t
-
-  told_unit_after : (got : Got) → wish d ≡ Wish.Unit → IsTold d told → IsTold (after_unit got d) (told_unit got told)
-  told_unit_after (Got.Replied reply) is t = t
-  told_unit_after (Got.UnitOf unit) is t =
-      told_worked d.campaign d.epoch d d.progress (status_of unit) told is t
-  told_unit_after (Got.Miss losses faults) is t = t
-
-at_if : (b : Bool) (f : Finding) (n at : CallNo) (other asked : SendStep)
-    → (if b then Todo.Rest f else Todo.Send n other) ≡ Todo.Send at asked → n ≡ at
-at_if true f n at other asked is = absurd (cc is)
-at_if false f n at other asked is = cc is
-
-unit_at_if : (b : Bool) (f : Finding) (at : CallNo) (asked : SendStep)
-    → (if b then Todo.Rest f else Todo.Unit) ≡ Todo.Send at asked → ⊥
-unit_at_if true f at asked is = cc is
-unit_at_if false f at asked is = cc is
-
 pub at_of_todo : (d : DriverState) (w : Wish) (at : CallNo) (asked : SendStep) → todo_for d w ≡ Todo.Send at asked
     → next_no d ≡ at
 at_of_todo d x1 at asked is = grind arith
 
-send_unit_if : (b : Bool) (f : Finding) (n : CallNo) (other : SendStep)
-    → (if b then Todo.Rest f else Todo.Send n other) ≡ Todo.Unit → ⊥
-send_unit_if true f n other is = cc is
-send_unit_if false f n other is = cc is
-
 pub unit_of_todo : (d : DriverState) (w : Wish) → todo_for d w ≡ Todo.Unit → w ≡ Wish.Unit
 unit_of_todo d x1 is = grind arith
-
-told_todo : (packages : List (List ℕ)) (d : DriverState) (told : List Told) (t : Todo) (got : Got) → IsSound d
-    → IsTold d told → todo d ≡ t → IsTold (after_todo t got d) (told_after packages d t got told)
-told_todo packages d told (Todo.Send at asked) got sound is_told is =
-    subst
-    (λ n. IsTold (after_send asked got d) (told_reply (message_of packages d n asked) (reply_got asked got) told))
-    (at_of_todo d (wish d) at asked is)
-    (told_send packages d told sound asked got (wish_of_todo d (wish d) at asked is) is_told)
-told_todo packages d told Todo.Unit got sound is_told is =
-    told_unit_after packages d told sound got (unit_of_todo d (wish d) is) is_told
-told_todo packages d told (Todo.Rest finding) got sound is_told is = is_told
-
-pub told_step : (packages : List (List ℕ)) (d : DriverState) (told : List Told) (got : Got) → IsSound d → IsTold d told
-    → has_number d ≡ true → IsTold (step got d) (told_after packages d (todo d) got told)
-told_step packages d told got sound is_told has =
-    subst
-    (λ b. IsTold (if b then after_todo (todo d) got d else d) (told_after packages d (todo d) got told))
-    (sym has)
-    (told_todo packages d told (todo d) got sound is_told refl)
 
 pub told_begun : (d : DriverState) (told : List Told) (round : Round) → IsTold d told → IsTold (begun round d) told
 told_begun d told x2 t = grind arith
@@ -475,16 +412,7 @@ module _ (packages : List (List ℕ)) (k epoch : ℕ) (commit : Bool) (cause : C
 
   late_call : (a : SendStep) → IsPlacedEnd (EndProgress.Call a) → EndTold k epoch commit (EndProgress.Call a) told
       → IsLate a
-  late_call SendStep.Sync placed t = refl
-  late_call (SendStep.Start p) placed t = absurd placed
-  late_call (SendStep.Data p id counter) placed t = absurd placed
-  late_call (SendStep.Exit id) placed t = late_by (SendStep.Exit id) (t.allowed cause)
-  late_call (SendStep.Process id tag) placed t = late_by (SendStep.Process id tag) (t.allowed cause)
-  late_call SendStep.Activate placed t = late_by SendStep.Activate (t.allowed cause)
-  late_call SendStep.Finish placed t = late_by SendStep.Finish (t.allowed cause)
-  late_call SendStep.Rollback placed t = late_by SendStep.Rollback (t.allowed cause)
-  late_call SendStep.Revert placed t = late_by SendStep.Revert (t.allowed cause)
-  late_call (SendStep.Delete id) placed t = late_by (SendStep.Delete id) (t.allowed cause)
+  late_call x0 placed t = grind arith
 
   late_delete : (listed : List ℕ) (place : ℕ) → place < length listed
       → EndTold k epoch commit (EndProgress.Delete listed place) told
@@ -519,39 +447,7 @@ late_told packages d told commit end here sound is_told asked is cause =
     (subst (λ p. wish_at d p ≡ Wish.Send asked) here is)
 
 module _ (k epoch : ℕ) (told : List Told) where
-  found_if : (b : Bool) (g f : Finding) (t : Todo) → Found k epoch g told → (t ≡ Todo.Rest f → ⊥)
-      → (if b then Todo.Rest g else t) ≡ Todo.Rest f → Found k epoch f told
-  found_if true g f t has other is = let same : g ≡ f = cc is in subst (λ h. Found k epoch h told) same has
-  found_if false g f t has other is = absurd (other is)
-
-  found_call : (b : Bool) (f : Finding) (asked : SendStep)
-      → (if b then Wish.Rest Finding.RoundDone else Wish.Send asked) ≡ Wish.Rest f → Found k epoch f told
-  found_call true f asked is =
-      let same : Finding.RoundDone ≡ f = cc is in subst (λ h. Found k epoch h told) same tt
-  found_call false f asked is = absurd (cc is)
-
-  found_at : (d : DriverState) (p : Progress) (f : Finding) → ToldAt k epoch p told → wish_at d p ≡ Wish.Rest f
-      → Found k epoch f told
-  found_at d Progress.Sync f t is = found_call (is_over d.round d.ids Progress.Sync) f (round_step d Progress.Sync) is
-  found_at d Progress.Transfer f t is =
-      found_call (is_over d.round d.ids Progress.Transfer) f (round_step d Progress.Transfer) is
-  found_at d (Progress.Data id counter left) f t is =
-      let p = Progress.Data id counter left in found_call (is_over d.round d.ids p) f (round_step d p) is
-  found_at d (Progress.Process taken true) f t is =
-      let p = Progress.Process taken true in found_call (is_over d.round d.ids p) f (round_step d p) is
-  found_at d (Progress.Process taken false) f t is = absurd (cc is)
-  found_at d Progress.Activating f t is = absurd (cc is)
-  found_at d (Progress.Voted g) f t is = let same : g ≡ f = cc is in subst (λ h. Found k epoch h told) same t
-  found_at d (Progress.Ending commit (EndProgress.Call a)) f t is = absurd (cc is)
-  found_at d (Progress.Ending commit EndProgress.Units) f t is = absurd (cc is)
-  found_at d (Progress.Ending commit (EndProgress.Delete listed place)) f t is = absurd (cc is)
-  found_at d (Progress.Ending commit (EndProgress.Rest call_no)) f t is =
-      let same : Finding.Ended call_no ≡ f = cc is in subst (λ h. Found k epoch h told) same t
 
   pub found_for : (d : DriverState) (p : Progress) (w : Wish) (f : Finding) → wish_at d p ≡ w → ToldAt k epoch p told
       → todo_for d w ≡ Todo.Rest f → Found k epoch f told
-  found_for d p (Wish.Rest g) f here t is =
-      let same : g ≡ f = cc is in found_at d p f t (here ∙ ap Wish.Rest same)
-  found_for d p (Wish.Send a) f here t is =
-      found_if (is_missed d) (unreached d.misses) f (Todo.Send (next_no d) a) tt (λ e. cc e) is
-  found_for d p Wish.Unit f here t is = found_if (is_missed d) (unreached d.misses) f Todo.Unit tt (λ e. cc e) is
+  found_for d p x2 f here t is = grind arith

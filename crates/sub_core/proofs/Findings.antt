@@ -46,14 +46,6 @@ over_of : (b : Bool) (asked : SendStep)
 over_of true asked is = refl
 over_of false asked is = absurd (cc is)
 
-prepares_over : (round : Round) (ids : List ℕ) (p : Progress) → is_over (Some round) ids p ≡ true
-    → is_preparing round ≡ true
-prepares_over x0 ids x2 is = grind arith
-
--- a finding that no vote is of
-not_voted : (r : Option Round) (f : Finding) → IsWithin r (Progress.Voted f) → f ≡ Finding.RoundDone → ⊥
-not_voted r x1 within is = grind arith
-
 -- what a round that is found done was told
 done_told : (k epoch : ℕ) (d : DriverState) (round : Round) (p : Progress) (told : List Told) → d.round ≡ Some round
     → IsWithin d.round p → ToldAt k epoch p told → wish_at d p ≡ Wish.Rest Finding.RoundDone
@@ -186,15 +178,6 @@ pub rests_if : (d : DriverState) (w : Wish) (b : Bool) (finding : Finding) → w
     → todo_for d w ≡ Todo.Rest finding → RestsBy d finding
 rests_if d x1 x2 finding here is rests = grind arith
 
-not_unreached : (b : Bool) (asked : SendStep) (losses faults : ℕ)
-    → (if b then Wish.Rest Finding.RoundDone else Wish.Send asked) ≡ Wish.Rest (Finding.Unreached losses faults) → ⊥
-not_unreached true asked losses faults is = cc is
-not_unreached false asked losses faults is = cc is
-
-voted_only : (r : Option Round) (f : Finding) (losses faults : ℕ) → IsWithin r (Progress.Voted f)
-    → f ≡ Finding.Unreached losses faults → ⊥
-voted_only r x1 losses faults within is = grind arith
-
 -- no wish is Unreached
 reached_wish : (d : DriverState) (p : Progress) (losses faults : ℕ) → IsWithin d.round p
     → wish_at d p ≡ Wish.Rest (Finding.Unreached losses faults) → ⊥
@@ -204,10 +187,6 @@ not_ended : (b : Bool) (asked : SendStep) (call_no : CallNo)
     → (if b then Wish.Rest Finding.RoundDone else Wish.Send asked) ≡ Wish.Rest (Finding.Ended call_no) → ⊥
 not_ended true asked call_no is = cc is
 not_ended false asked call_no is = cc is
-
-voted_end : (r : Option Round) (f : Finding) (call_no : CallNo) → IsWithin r (Progress.Voted f)
-    → f ≡ Finding.Ended call_no → ⊥
-voted_end r x1 call_no within is = grind arith
 
 -- where it rests at its end, the newest message is the last that was answered
 last_found : (d : DriverState) (p : Progress) (tries : List Attempt) (call_no : CallNo) → IsWithin d.round p
@@ -248,18 +227,6 @@ IsOfRound round Finding.RolledBack = round ≡ Round.Activate
 IsOfRound round (Finding.Refused call_no why) = IsBeforeEnd (Some round)
 IsOfRound round (Finding.Ended call_no) = (commit : Bool) × (round ≡ Round.End commit)
 IsOfRound round _ = Unit {0}
-
-done_round : (round : Round) (b : Bool) (asked : SendStep) (finding : Finding)
-    → (if b then Wish.Rest Finding.RoundDone else Wish.Send asked) ≡ Wish.Rest finding → IsOfRound round finding
-done_round round x1 asked finding is = grind arith
-
-voted_round : (round : Round) (finding : Finding) → IsWithin (Some round) (Progress.Voted finding)
-    → IsOfRound round finding
-voted_round round x1 within = grind arith
-
-ended_round : (round : Round) (commit : Bool) (at : EndProgress) (finding : Finding)
-    → Some round ≡ Some (Round.End commit) → end_wish at ≡ Wish.Rest finding → IsOfRound round finding
-ended_round round commit x2 finding within is = grind arith
 
 -- where a driver rests by what it was answered, that is in a round of the finding
 round_of : (d : DriverState) (round : Round) (p : Progress) (finding : Finding) → IsWithin (Some round) p
@@ -368,11 +335,7 @@ module _ (by_size : GoesBySize) (ends : RoundsEnd) (lent : List (List ℕ)) (tas
 
     refused : (call_no : CallNo) (why : Refusal) (told : List Told) → IsNewest call_no (Refused why) told
         → VoteEvidence (Vote.Refused call_no why) told
-    refused call_no why told newest = (
-      newest.message,
-      newest.at,
-      subst (λ l. Contains l (Answered newest.message (Refused why))) (sym newest.is) (0, omega arith, refl),
-    )
+    refused call_no why told newest = grind arith
 
     shown : (finding : Finding) → todo d ≡ Todo.Rest finding → IsShown lent task round gs finding
     shown Finding.RoundDone rests =

@@ -75,11 +75,7 @@ module _ (by_size : GoesBySize) (lent : List (List ℕ)) (task : Task) (is : IsT
   -- one more in the row
   vain_more : (g : Given) → todo d ≡ plain d (wish d) → IsVain (plain d (wish d)) g
       → AreVain task so_far.row.older (todo (after task so_far.row.older)) (g ∷ so_far.row.row)
-  vain_more g asks vain = (
-    subst (λ t. IsVain t g) (sym so_far.row.asked) vain,
-    ap (λ l. todo (after task l)) (sym so_far.row.split) ∙ (asks ∙ sym so_far.row.asked),
-    so_far.row.vain,
-  )
+  vain_more g asks vain = grind arith
 
   -- no answer, and no miss
   row_same : (g : Given) (e : DriverState) → plain e (wish e) ≡ plain d (wish d) → todo d ≡ plain d (wish d)

@@ -175,26 +175,10 @@ early_at_round r x1 rounds within = grind arith
 pub not_ending : (p : Progress) → is_ending p ≡ false → IsEnding p → ⊥
 not_ending x0 is ending = grind arith
 
--- Activate is asked for in its round alone
-activates_in : (r : Option Round) (ids : List ℕ) (taken : ℕ) (settled : Bool) → IsBeforeEnd r
-    → nat_lt taken (length ids) ≡ false → is_over r ids (Progress.Process taken settled) ≡ false → r ≡ Some
-    Round.Activate
-activates_in x0 ids taken settled rounds end pending = grind arith
-
 open_round : (b : Bool) (f : Finding) (other asked : SendStep)
     → (if b then Wish.Rest f else Wish.Send other) ≡ Wish.Send asked → b ≡ false
 open_round true f other asked is = absurd (cc is)
 open_round false f other asked is = refl
-
-within_data : (r : Option Round) (b c : Bool) (id counter left : ℕ) → IsBeforeEnd r
-    → IsWithin r (if b then (if c then Progress.Transfer else Progress.Process 0 true)
-    else Progress.Data id counter left)
-within_data r x1 x2 id counter left rounds = grind arith
-
-within_process : (r : Option Round) (b : Bool) (taken : ℕ) → IsBeforeEnd r → (b ≡ false → r ≡ Some Round.Activate)
-    → IsWithin r (if b then Progress.Process (suc taken) false else Progress.Activating)
-within_process r true taken rounds last = rounds
-within_process r false taken rounds last = last refl
 
 within_replied : (d : DriverState) (p : Progress) (reply : Reply) (asked : SendStep) → wish_at d p ≡ Wish.Send asked
     → IsWithin d.round p → IsWithin d.round (progress_after d p reply)
@@ -202,11 +186,6 @@ within_replied d x1 x2 asked is within = grind arith
 
 within_worked : (r : Option Round) (p : Progress) (status : Status) → IsWithin r p → IsWithin r (settled_after p status)
 within_worked r x1 x2 within = grind arith
-
--- from one round to a later one before the end
-within_next : (r s : Option Round) (p : Progress) → IsBeforeEnd r → IsBeforeEnd s → (r ≡ Some Round.Activate → ⊥)
-    → IsWithin r p → IsWithin s p
-within_next r s x2 rounds later other within = grind arith
 
 -- the round that was before
 rounds_before : (round : Round) (d : DriverState) → CanBegin round d → IsBeforeEnd (Some round)
@@ -235,11 +214,6 @@ last_asked d (Progress.Ending commit (EndProgress.Call asked)) attempts asks = t
 last_asked d (Progress.Ending commit EndProgress.Units) attempts asks = tt
 last_asked d (Progress.Ending commit (EndProgress.Delete listed place)) attempts asks = tt
 last_asked d (Progress.Ending commit (EndProgress.Rest call_no)) attempts asks = absurd (asks call_no refl)
-
-last_at_status : (commit b : Bool) (asked : SendStep) (attempts : List Attempt)
-    → LastAt (Progress.Ending commit (if b then EndProgress.Units else EndProgress.Call asked)) attempts
-last_at_status commit true asked attempts = tt
-last_at_status commit false asked attempts = tt
 
 last_worked : (d : DriverState) (p : Progress) (status : Status) (attempts : List Attempt) → wish_at d p ≡ Wish.Unit
     → LastAt (settled_after p status) attempts
@@ -637,13 +611,7 @@ not_again x0 d can end = grind arith
 module _ (lent : List (List ℕ)) (d : DriverState) (told : List Told) (within : IsWithin d.round d.progress) where
   open_begun : (round : Round) → CanBegin round d → (sent : List Message) → IsOpen lent d sent
       → FollowsAt false (Some round) told sent
-  open_begun (Round.End commit) can sent is =
-      subst (FollowsAt false (Some (Round.End commit)) told) (sym is.newest)
-      (inr (early_at_round d.round d.progress can within, tt))
-  open_begun Round.Sync can sent is = absurd (not_open Round.Sync d can tt is.asked is.begun is.wish)
-  open_begun Round.Transfer can sent is = absurd (not_open Round.Transfer d can tt is.asked is.begun is.wish)
-  open_begun Round.Process can sent is = absurd (not_open Round.Process d can tt is.asked is.begun is.wish)
-  open_begun Round.Activate can sent is = absurd (not_open Round.Activate d can tt is.asked is.begun is.wish)
+  open_begun x0 can sent is = grind arith
 
   closed_begun : (round : Round) → CanBegin round d → (sent : List Message)
       → FollowsAt false d.round told sent → FollowsAt false (Some round) told sent

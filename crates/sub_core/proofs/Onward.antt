@@ -52,31 +52,11 @@ status_at k epoch commit status (Answered m reply ∷ told) now =
     ap (λ r. end_at commit (Answered m r ∷ told)) now.1
     ∙ (synced_at k epoch commit m x told now.2 ∙ owned_at commit m.at x.session x.transfers status now.3 now.4)
 
-next_at : (lent : List (List ℕ)) (commit : Bool) (status : Status) → is_working status ≡ false
-    → IsNextAt commit status (call_of lent (end_step commit status))
-next_at lent x1 x2 idle = grind arith
-
 module _ (lent : List (List ℕ)) (d : DriverState) (few : is_missed d ≡ false) where
-  send_at : (asked : SendStep) → todo d ≡ todo_for d (end_wish (EndProgress.Call asked))
-      → todo d ≡ Todo.Send (next_no d) asked
-  send_at asked asks =
-      asks ∙ ap (λ b. if b then Todo.Rest (unreached d.misses) else Todo.Send (next_no d) asked) few
 
   goes_at : (commit : Bool) (status : Status) (b : Bool) → is_working status ≡ b
       → todo d ≡ todo_for d (end_wish (at_status commit status)) → GoesOn lent commit status (todo d)
-  goes_at commit status true is asks =
-      inl (
-        is,
-        asks
-            ∙ (ap (λ b. todo_for d (end_wish (if b then EndProgress.Units else EndProgress.Call (end_step commit status)))) is
-            ∙ ap (λ b. if b then Todo.Rest (unreached d.misses) else Todo.Unit) few),
-      )
-  goes_at commit status false is asks =
-      let on : todo d ≡ todo_for d (end_wish (EndProgress.Call (end_step commit status))) =
-      asks
-      ∙ ap (λ b. todo_for d (end_wish (if b then EndProgress.Units else EndProgress.Call (end_step commit status)))) is
-      in
-      inr (is, (next_no d, end_step commit status, send_at (end_step commit status) on, next_at lent commit status is))
+  goes_at commit status x2 is asks = grind arith
 
 -- behind a status
 pub end_goes_on : GoesBySize → EndGoesOn

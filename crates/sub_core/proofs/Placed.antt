@@ -15,19 +15,9 @@ use Rattle.sub_core.specs.declared.progress.Progress.{Progress}
 use Rattle.sub_core.specs.Driving.{at_free, at_session, at_status, begun, end_after, end_step, is_missed, missed, next_no, next_transfer, opened, progress_after, replied, settled_after, whole_by, with_whole, worked}
 use Rattle.sub_core.specs.States.{DriverState, IsPlaced, IsPlacedEnd, IsSound, NeedsNone, number_limit, size_at}
 
-bare_step : (commit : Bool) (status : Status) → NeedsNone (end_step commit status)
-bare_step x0 x1 = grind arith
-
 end_if : (b : Bool) (p q : EndProgress) → IsPlacedEnd p → IsPlacedEnd q → IsPlacedEnd (if b then p else q)
 end_if true p q one other = one
 end_if false p q one other = other
-
-end_status : (commit : Bool) (status : Status) → IsPlacedEnd (at_status commit status)
-end_status commit status = grind arith
-
-end_free : (call_no : CallNo) (ids : List ℕ) → IsPlacedEnd (at_free call_no ids)
-end_free call_no [] = tt
-end_free call_no (id ∷ ids) = omega arith
 
 end_session : (commit : Bool) (call_no : CallNo) (session : Option SessionMark) (ids : List ℕ)
     → IsPlacedEnd (at_session commit call_no session ids)
@@ -72,14 +62,7 @@ module _ (steps : List PackageSize) (ids : List ℕ) where
       → (left ≡ 0 → IsPlaced steps (ids ++ id ∷ []) next)
       → IsPlaced steps (with_whole ids (if b then Some id else None))
       (if b then next else Progress.Data id (counter + 1) (left - block_limit))
-  block_placed id counter left true next is placed end = end (grind (arith, nat_tests))
-  block_placed id counter left false next is placed end =
-      let some : 0 < left = grind (arith, nat_tests) in (
-        placed.0,
-        omega arith,
-        omega (arith, placed.2, some),
-        omega (arith, placed.1, placed.3, some),
-      )
+  block_placed id counter left x3 next is placed end = grind arith
 
   process_placed : (taken : ℕ) (b : Bool) → nat_lt taken (length ids) ≡ b → length ids ≡ length steps
       → IsPlaced steps ids (if b then Progress.Process (suc taken) false else Progress.Activating)

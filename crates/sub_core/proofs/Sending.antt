@@ -38,24 +38,6 @@ open_round : (b : Bool) (other asked : SendStep)
 open_round true other asked is = absurd (cc is)
 open_round false other asked is = refl
 
-due_data : (lent : List (List ℕ)) (phase : Phase) (b : Bool) (p id counter : ℕ)
-    → is_due (Some phase) (call_of lent (if b then SendStep.Exit id else SendStep.Data p id counter)) ≡ true
-due_data lent phase true p id counter = refl
-due_data lent phase false p id counter = refl
-
-due_process : (lent : List (List ℕ)) (b : Bool) (id tag : ℕ)
-    → is_due (Some Phase.Activating) (call_of lent (if b then SendStep.Process id tag else SendStep.Activate)) ≡ true
-due_process lent true id tag = refl
-due_process lent false id tag = refl
-
-due_before : (lent : List (List ℕ)) (b : Bool) (id tag : ℕ) → b ≡ true
-    → is_due (Some Phase.Processing) (call_of lent (if b then SendStep.Process id tag else SendStep.Activate)) ≡ true
-due_before lent true id tag is = refl
-due_before lent false id tag is = absurd (cc is)
-
-left_of : (taken n : ℕ) → nat_le n taken ≡ false → nat_lt taken n ≡ true
-left_of taken n is = grind (arith, nat_tests)
-
 due_at : (lent : List (List ℕ)) (d : DriverState) (round : Round) (p : Progress) → IsBeforeEnd (Some round) → IsCalling
     p
     → is_over (Some round) d.ids p ≡ false → is_due (phase_of round) (call_of lent (round_step d p)) ≡ true

@@ -175,25 +175,9 @@ stage_snoc : (sizes : List ℕ) (stage : StageOf ℕ) (rs : List Reply) (r : Rep
 stage_snoc sizes stage [] r = refl
 stage_snoc sizes stage (x ∷ rs) r = stage_snoc sizes (onward_by_size sizes stage x) rs r
 
--- what a wish to send says of a driver in the rounds
-send_of : (b : Bool) (f : Finding) (asked other : SendStep)
-    → (if b then Wish.Rest f else Wish.Send other) ≡ Wish.Send asked → (b ≡ false) × (other ≡ asked)
-send_of true f asked other is = absurd (cc is)
-send_of false f asked other is = (refl, cc is)
-
 pub calls_of_wish : (d : DriverState) (p : Progress) (asked : SendStep) → wish_at d p ≡ Wish.Send asked
     → (IsEnding p → ⊥) → IsCalling p × (round_step d p ≡ asked)
 calls_of_wish d x1 asked is early = grind arith
-
-sent_if : (b : Bool) (f : Finding) (at n : CallNo) (asked other : SendStep)
-    → (if b then Todo.Rest f else Todo.Send n other) ≡ Todo.Send at asked → other ≡ asked
-sent_if true f at n asked other is = absurd (cc is)
-sent_if false f at n asked other is = cc is
-
-unit_if : (b : Bool) (f : Finding) (at : CallNo) (asked : SendStep)
-    → (if b then Todo.Rest f else Todo.Unit) ≡ Todo.Send at asked → ⊥
-unit_if true f at asked is = cc is
-unit_if false f at asked is = cc is
 
 pub wish_of_todo : (d : DriverState) (w : Wish) (at : CallNo) (asked : SendStep) → todo_for d w ≡ Todo.Send at asked
     → w ≡ Wish.Send asked
@@ -245,49 +229,6 @@ module _ (d : DriverState) (replies : List Reply) (sound : IsSound d) where
 pub stands_worked : (steps : List PackageSize) (ids : List ℕ) (p : Progress) (status : Status) (replies : List Reply)
     → StandsAt steps ids p replies → StandsAt steps ids (settled_after p status) replies
 stands_worked steps ids x2 x3 replies stands = grind arith
-
-no_more : (d : DriverState) (replies : List Reply) → StandsFor d replies → StandsFor d (replies ++ [])
-no_more d replies stands = subst (StandsFor d) (sym (append-nil replies)) stands
-
-stands_unit : (d : DriverState) (replies : List Reply) (got : Got) → StandsFor d replies
-    → StandsFor (after_unit got d) (replies ++ [])
-stands_unit d replies (Got.Replied reply) stands = no_more d replies stands
-stands_unit d replies (Got.UnitOf unit) stands =
-    no_more (after_unit (Got.UnitOf unit) d) replies
-    (stands_worked d.steps d.ids d.progress (status_of unit) replies stands)
-stands_unit d replies (Got.Miss losses faults) stands =
-    no_more (after_unit (Got.Miss losses faults) d) replies stands
-
-stands_if : (d : DriverState) (replies : List Reply) (reply : Reply) (b : Bool)
-    → (b ≡ true → StandsFor (replied reply d) (replies ++ reply ∷ [])) → StandsFor d replies
-    → StandsFor (if b then replied reply d else opened d) (replies ++ one_if (if b then Some reply else None))
-stands_if d replies reply true counts stands = counts refl
-stands_if d replies reply false counts stands = no_more (opened d) replies stands
-
-stands_send : (d : DriverState) (replies : List Reply) (asked : SendStep) (got : Got) → IsSound d → StandsFor d replies
-    → wish d ≡ Wish.Send asked → StandsFor (after_send asked got d) (replies ++ one_if (reply_got asked got))
-stands_send d replies asked (Got.Replied reply) sound stands is =
-    stands_if d replies reply (is_answer asked reply)
-    (λ fits. stands_replied d replies sound d.progress reply asked sound.placed stands is fits)
-    stands
-stands_send d replies asked (Got.UnitOf unit) sound stands is = no_more (opened d) replies stands
-stands_send d replies asked (Got.Miss losses faults) sound stands is =
-    no_more (after_send asked (Got.Miss losses faults) d) replies stands
-
-stands_todo : (d : DriverState) (replies : List Reply) (t : Todo) (got : Got) → IsSound d → StandsFor d replies
-    → todo d ≡ t → StandsFor (after_todo t got d) (replies ++ one_if (reply_to t got))
-stands_todo d replies (Todo.Send at asked) got sound stands is =
-    stands_send d replies asked got sound stands (wish_of_todo d (wish d) at asked is)
-stands_todo d replies Todo.Unit got sound stands is = stands_unit d replies got stands
-stands_todo d replies (Todo.Rest finding) got sound stands is = no_more d replies stands
-
-pub stands_step : (d : DriverState) (replies : List Reply) (got : Got) → IsSound d → StandsFor d replies
-    → has_number d ≡ true → StandsFor (step got d) (replies ++ one_if (reply_to (todo d) got))
-stands_step d replies got sound stands has =
-    subst
-    (λ b. StandsFor (if b then after_todo (todo d) got d else d) (replies ++ one_if (reply_to (todo d) got)))
-    (sym has)
-    (stands_todo d replies (todo d) got sound stands refl)
 
 pub stands_begun : (d : DriverState) (replies : List Reply) (round : Round) → StandsFor d replies
     → StandsFor (begun round d) replies

@@ -51,10 +51,7 @@ module _ (by_size : GoesBySize) (lent : List (List ℕ)) (task : Task) (gs : Lis
   open_newest : IsBeforeEnd d.round → (m : Message) (older : List Message) → sent_by tries ≡ m ∷ older
       → is_told (told_by tries) m.at ≡ false → (b : Bool) → OpenAt lent b d (sent_by tries)
       → FollowsAt b d.round (told_by tries) (sent_by tries) → IsOpen lent d (sent_by tries)
-  open_newest rounds m older newest untold true pending follows = pending
-  open_newest rounds m older newest untold false pending follows =
-      elim (subst (FollowsAt false d.round (told_by tries)) newest follows)
-      [ inl answered ↦ absurd (cc (sym answered ∙ untold)) | inr end ↦ absurd (no_end d.round rounds end.1) ]
+  open_newest rounds m older newest untold x5 pending follows = grind arith
 
   with_newest : IsBeforeEnd d.round → (m : Message) (older : List Message) → sent_by tries ≡ m ∷ older
       → is_told (told_by tries) m.at ≡ false → (reply : Reply)
@@ -152,11 +149,6 @@ pub calls_are_in_turn : GoesBySize → CallsAreInTurn
 calls_are_in_turn by_size lent task gs is given_ = in_turn by_size lent task gs is given_ (after task gs).round refl
 
 -- votes
-
-no_round : (b : Bool) (asked : SendStep) (f : Finding) → (f ≡ Finding.RoundDone → ⊥)
-    → (if b then Wish.Rest Finding.RoundDone else Wish.Send asked) ≡ Wish.Rest f → ⊥
-no_round true asked f other is = let same : Finding.RoundDone ≡ f = cc is in other (sym same)
-no_round false asked f other is = cc is
 
 voted_of : (d : DriverState) (p : Progress) (f : Finding) → (f ≡ Finding.RoundDone → ⊥)
     → ((call_no : CallNo) → f ≡ Finding.Ended call_no → ⊥) → wish_at d p ≡ Wish.Rest f → p ≡ Progress.Voted f
