@@ -17,7 +17,6 @@ use Rattle.pm_types.specs.declared.status.Status.TheVariants.{Idle, Ready, Proce
 use Rattle.world.specs.Messages.{Message, Told, Answered, Showed, is_activate, is_done, is_process, is_status, is_sync}
 use Rattle.world.specs.Sends.{activate_done, delete_at, end_call_at, has_refusal, is_end_sync, is_masters, is_settled, last_shown, last_status, session_status, lists_free, showed_after_activate, shown_if, status_of_shown}
 use Rattle.sub_core.specs.declared.answers.Finding.{Finding}
-use Rattle.sub_core.specs.declared.answers.Got.{Got}
 use Rattle.sub_core.specs.declared.answers.Round.{Round}
 use Rattle.sub_core.specs.declared.answers.SendStep.{SendStep}
 use Rattle.sub_core.specs.declared.answers.Todo.{Todo}
@@ -25,12 +24,12 @@ use Rattle.sub_core.specs.declared.progress.EndProgress.{EndProgress}
 use Rattle.sub_core.specs.declared.progress.Progress.{Progress}
 use Rattle.sub_core.specs.declared.progress.Wish.{Wish}
 use Rattle.sub_core.specs.Calls.{call_of}
-use Rattle.sub_core.specs.Driving.{after_send, after_todo, after_unit, at_free, at_session, at_shown, at_status, begun, end_after, end_wish, has_number, is_answer, is_missed, is_over, next_no, next_transfer, opened, progress_after, replied, round_after, round_step, settled_after, status_of, step, todo, todo_for, unreached, wish, wish_at, IsEnding}
-use Rattle.sub_core.specs.Given.{is_ending, message_of, reply_got}
+use Rattle.sub_core.specs.Driving.{at_free, at_session, at_shown, at_status, begun, end_after, end_wish, is_answer, next_no, next_transfer, progress_after, round_after, round_step, settled_after, todo_for, wish, wish_at, IsEnding}
+use Rattle.sub_core.specs.Given.{is_ending}
 use Rattle.sub_core.specs.Sends.{IsEndCall, decision_of}
 use Rattle.sub_core.specs.States.{DriverState, IsPlaced, IsPlacedEnd, IsSound, size_at}
-use Rattle.sub_core.proofs.Told.{EndTold, Found, IsOwned, IsTold, ToldAt, told_after, told_reply, told_unit}
-use Rattle.sub_core.proofs.Stages.{calls_of_wish, not_process, wish_of_todo, IsCalling}
+use Rattle.sub_core.proofs.Told.{EndTold, Found, IsOwned, IsTold, ToldAt}
+use Rattle.sub_core.proofs.Stages.{calls_of_wish, not_process, IsCalling}
 
 -- either progress was told enough
 told_if : (k epoch : ℕ) (b : Bool) (p q : Progress) (told : List Told) → ToldAt k epoch p told → ToldAt k epoch q told
@@ -447,7 +446,6 @@ late_told packages d told commit end here sound is_told asked is cause =
     (subst (λ p. wish_at d p ≡ Wish.Send asked) here is)
 
 module _ (k epoch : ℕ) (told : List Told) where
-
   pub found_for : (d : DriverState) (p : Progress) (w : Wish) (f : Finding) → wish_at d p ≡ w → ToldAt k epoch p told
       → todo_for d w ≡ Todo.Rest f → Found k epoch f told
   found_for d p x2 f here t is = grind arith

@@ -21,11 +21,10 @@ use Rattle.sub_core.specs.declared.answers.PackageSize.{PackageSize}
 use Rattle.sub_core.specs.declared.answers.Round.{Round}
 use Rattle.sub_core.specs.declared.answers.SendStep.{SendStep}
 use Rattle.sub_core.specs.declared.answers.Todo.{Todo}
-use Rattle.sub_core.specs.declared.progress.EndProgress.{EndProgress}
 use Rattle.sub_core.specs.declared.progress.Progress.{Progress}
 use Rattle.sub_core.specs.declared.progress.Wish.{Wish}
 use Rattle.sub_core.specs.Calls.{step_bytes}
-use Rattle.sub_core.specs.Driving.{end_wish, is_missed, is_over, round_step, todo, todo_for, unreached, wish, wish_at, IsBeforeEnd}
+use Rattle.sub_core.specs.Driving.{is_missed, is_over, round_step, todo, todo_for, unreached, wish, wish_at, IsBeforeEnd}
 use Rattle.sub_core.specs.Evidence.{AreEight, AreMissed, DoneIsFound, FindingsAreShown, IsEnded, IsRoundDone, IsShown, MissesAreKept, RepliesFit, is_preparing}
 use Rattle.sub_core.specs.Given.{AreGiven, Given, IsTask, Task, after, attempts, is_asked}
 use Rattle.sub_core.specs.Sends.{SendsAreNumbered, phase_of}

@@ -13,7 +13,9 @@ use Rattle.sub_core.specs.Driving.{after_send, after_todo, after_unit, begun, fr
 use Rattle.sub_core.specs.Evidence.{AreVain, IsVain, misses_in}
 use Rattle.sub_core.specs.Given.{AreGiven, Begun, Gave, GaveNothing, Given, IsTask, MayBe, Task, after, attempts, given, is_asked, message_of, reply_got, status_got, with_answer, with_given, with_none}
 use Rattle.sub_core.specs.States.{DriverState, IsSound, number_limit}
-use Rattle.sub_core.proofs.Kept.{HasRow, IsKept, kept_begun, kept_fresh, kept_idle, kept_missed, kept_opened, kept_replied, kept_worked, plain}
+use Rattle.sub_core.proofs.Kept.{HasRow, IsKept, plain}
+use Rattle.sub_core.proofs.Attempted.{kept_opened, kept_replied}
+use Rattle.sub_core.proofs.Begins.{kept_begun, kept_fresh, kept_idle, kept_missed, kept_worked}
 
 -- what a driver asks for, by what it wishes
 

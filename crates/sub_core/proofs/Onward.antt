@@ -1,5 +1,5 @@
 -- How the end phase goes on.
-use Rattle.std.proofs.Common.{◌≡◌, inl, inr, ℕ, Bool, true, false, if◌then◌else◌, is_some, List, [], ◌∷◌, Option, Some, None, refl, ap, ◌∙◌, arith}
+use Rattle.std.proofs.Common.{◌≡◌, ℕ, Bool, true, false, if◌then◌else◌, is_some, List, [], ◌∷◌, Option, Some, None, refl, ap, ◌∙◌, arith}
 use Rattle.ucm_base.specs.declared.ids.CallNo.{CallNo}
 use Rattle.pm_types.specs.NodeState.{is_working}
 use Rattle.pm_types.specs.declared.replies.Reply.{Reply}
@@ -12,11 +12,10 @@ use Rattle.world.specs.Sends.{is_end_sync, is_masters, last_shown, session_statu
 use Rattle.sub_core.specs.declared.answers.SendStep.{SendStep}
 use Rattle.sub_core.specs.declared.answers.Todo.{Todo}
 use Rattle.sub_core.specs.declared.progress.EndProgress.{EndProgress}
-use Rattle.sub_core.specs.Calls.{call_of}
-use Rattle.sub_core.specs.Driving.{at_free, at_session, at_shown, at_status, end_step, end_wish, is_missed, next_no, todo, todo_for, unreached}
+use Rattle.sub_core.specs.Driving.{at_free, at_session, at_shown, at_status, end_wish, is_missed, next_no, todo, todo_for, unreached}
 use Rattle.sub_core.specs.Ending.{end_at}
 use Rattle.sub_core.specs.Given.{after, told_of}
-use Rattle.sub_core.specs.Onward.{EndGoesOn, GoesOn, IsNextAt, ListedAreDeleted, ShowsNow}
+use Rattle.sub_core.specs.Onward.{EndGoesOn, GoesOn, ListedAreDeleted, ShowsNow}
 use Rattle.sub_core.specs.States.{DriverState}
 use Rattle.sub_core.proofs.Ends.{begun_of, end_sync_decided}
 use Rattle.sub_core.proofs.Turns.{end_is_asked}
@@ -53,7 +52,6 @@ status_at k epoch commit status (Answered m reply ∷ told) now =
     ∙ (synced_at k epoch commit m x told now.2 ∙ owned_at commit m.at x.session x.transfers status now.3 now.4)
 
 module _ (lent : List (List ℕ)) (d : DriverState) (few : is_missed d ≡ false) where
-
   goes_at : (commit : Bool) (status : Status) (b : Bool) → is_working status ≡ b
       → todo d ≡ todo_for d (end_wish (at_status commit status)) → GoesOn lent commit status (todo d)
   goes_at commit status x2 is asks = grind arith

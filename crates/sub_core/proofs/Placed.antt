@@ -12,8 +12,8 @@ use Rattle.sub_core.specs.declared.answers.Round.{Round}
 use Rattle.sub_core.specs.declared.answers.SendStep.{SendStep}
 use Rattle.sub_core.specs.declared.progress.EndProgress.{EndProgress}
 use Rattle.sub_core.specs.declared.progress.Progress.{Progress}
-use Rattle.sub_core.specs.Driving.{at_free, at_session, at_status, begun, end_after, end_step, is_missed, missed, next_no, next_transfer, opened, progress_after, replied, settled_after, whole_by, with_whole, worked}
-use Rattle.sub_core.specs.States.{DriverState, IsPlaced, IsPlacedEnd, IsSound, NeedsNone, number_limit, size_at}
+use Rattle.sub_core.specs.Driving.{at_session, begun, end_after, is_missed, missed, next_no, next_transfer, opened, progress_after, replied, settled_after, whole_by, with_whole, worked}
+use Rattle.sub_core.specs.States.{DriverState, IsPlaced, IsPlacedEnd, IsSound, number_limit, size_at}
 
 end_if : (b : Bool) (p q : EndProgress) → IsPlacedEnd p → IsPlacedEnd q → IsPlacedEnd (if b then p else q)
 end_if true p q one other = one

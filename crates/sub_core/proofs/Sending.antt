@@ -1,11 +1,10 @@
 -- What a driver asks to be sent is allowed.
-use Rattle.std.proofs.Common.{◌≡◌, ◌⊎◌, inl, inr, ℕ, ◌+◌, Bool, true, false, not, ◌&&◌, ◌||◌, if◌then◌else◌, nat_eq, nat_lt, nat_le, List, [], ◌∷◌, ◌++◌, length, Some, None, is_some, refl, sym, ap, subst, ◌∙◌, arith}
+use Rattle.std.proofs.Common.{◌≡◌, ◌⊎◌, inl, inr, ℕ, ◌+◌, Bool, true, false, not, ◌&&◌, ◌||◌, if◌then◌else◌, nat_eq, List, [], ◌∷◌, ◌++◌, length, Some, None, is_some, refl, sym, ap, subst, ◌∙◌, arith}
 use Rattle.std.proofs.lemmas.Bool.Decides.{nat_tests}
 use Rattle.std.specs.List.{AllByRecursion}
 use Rattle.ucm_base.specs.declared.ids.CallNo.{CallNo}
 use Rattle.pm_types.specs.declared.replies.Reply.{Reply}
 use Rattle.campaign_core.specs.Nodes.{flag_of}
-use Rattle.campaign_core.specs.declared.events.Phase.{Phase}
 use Rattle.campaign_core.specs.declared.fold.Current.{Current}
 use Rattle.world.specs.Attempts.{Attempt, told_by, sent_by, replies_by, RepliesAreGot}
 use Rattle.world.specs.Messages.{Message, Told, Answered, Showed, is_sync, is_told, told_reply}
@@ -28,7 +27,8 @@ use Rattle.sub_core.specs.States.{DriverState}
 use Rattle.sub_core.proofs.Allowed.{at_of_todo, early_at, late_told}
 use Rattle.sub_core.proofs.Ends.{end_sync_decided, rest_shown}
 use Rattle.sub_core.proofs.Journeys.{Stands, stands}
-use Rattle.sub_core.proofs.Kept.{FollowsAt, IsEndRound, IsKept, IsOpen, OpenAt, ToldBelow, early_at_round, early_call, not_ending, not_epoch, untold, no_end}
+use Rattle.sub_core.proofs.Kept.{FollowsAt, IsEndRound, IsKept, IsOpen, OpenAt, ToldBelow, early_at_round, early_call, not_ending, not_epoch, untold}
+use Rattle.sub_core.proofs.Begins.{no_end}
 use Rattle.sub_core.proofs.Stages.{IsCalling, calls_of_wish, wish_of_todo}
 
 -- the round of a call has come

@@ -1,5 +1,5 @@
 -- A driver goes by the stages of the rounds.
-use Rattle.std.proofs.Common.{◌≡◌, ℕ, zero, suc, ◌+◌, ◌-◌, ◌<◌, ◌≤◌, Bool, true, false, if◌then◌else◌, ◌==◌, nat_lt, nat_le, List, [], ◌∷◌, ◌++◌, length, map, drop, slice_index_or, Some, None, refl, sym, ap, subst, ◌∙◌, arith, append-nil, length-append}
+use Rattle.std.proofs.Common.{◌≡◌, ℕ, zero, suc, ◌+◌, ◌-◌, ◌<◌, ◌≤◌, Bool, true, false, if◌then◌else◌, ◌==◌, nat_lt, nat_le, List, [], ◌∷◌, ◌++◌, length, map, drop, slice_index_or, Some, None, refl, sym, ap, subst, ◌∙◌, arith, length-append}
 use Rattle.std.proofs.Math.ListN.{drop_of_length-le}
 use Rattle.std.proofs.lemmas.Bool.Decides.{nat_tests}
 use Rattle.std.specs.Prelude.{option_map}
@@ -14,9 +14,7 @@ use Rattle.world.specs.RoundCalls.{is_past}
 use Rattle.world.specs.Rounds.{StageOf, AtSync, AtStart, AtData, AtProcess, call_at, next_package, next_processed, stage_of}
 use Rattle.world.specs.RoundsBySize.{GoesBySize, block_of, onward_by_size, stage_by_size, step_at}
 use Rattle.world.specs.RoundsBySize.{call_of as world_call}
-use Rattle.world.specs.Sends.{one_if}
 use Rattle.sub_core.specs.declared.answers.Finding.{Finding}
-use Rattle.sub_core.specs.declared.answers.Got.{Got}
 use Rattle.sub_core.specs.declared.answers.PackageSize.{PackageSize}
 use Rattle.sub_core.specs.declared.answers.Round.{Round}
 use Rattle.sub_core.specs.declared.answers.SendStep.{SendStep}
@@ -26,10 +24,9 @@ use Rattle.sub_core.specs.declared.progress.Progress.{Progress}
 use Rattle.sub_core.specs.declared.progress.Wish.{Wish}
 use Rattle.sub_core.specs.Calls.{AreThere, bytes_at, call_of, step_bytes}
 use Rattle.sub_core.specs.States.{DriverState, IsPlaced, IsSound, size_at}
-use Rattle.sub_core.specs.Driving.{after_send, after_todo, after_unit, begun, call_wish, end_wish, has_number, is_answer, is_over, next_transfer, opened, progress_after, replied, round_after, round_step, settled_after, status_of, step, todo, todo_for, whole_by, wish, wish_at, with_whole, IsEnding}
-use Rattle.sub_core.specs.Given.{reply_got}
+use Rattle.sub_core.specs.Driving.{begun, call_wish, end_wish, is_answer, is_over, next_transfer, progress_after, round_after, round_step, settled_after, todo_for, whole_by, wish, wish_at, with_whole, IsEnding}
 use Rattle.sub_core.specs.Sends.{phase_of}
-use Rattle.sub_core.proofs.Rounds.{StandsAt, StandsFor, reply_to, sizes_of, stage_seen}
+use Rattle.sub_core.proofs.Rounds.{StandsAt, StandsFor, sizes_of, stage_seen}
 
 -- the package that comes next, and those behind it
 first_left : (steps : List PackageSize) (n : ℕ) → n < length steps

@@ -1,5 +1,5 @@
 -- What the answered calls are, and what is asked for at the end.
-use Rattle.std.proofs.Common.{◌≡◌, inl, inr, ℕ, ◌+◌, ◌≤◌, Bool, true, false, not, ◌&&◌, if◌then◌else◌, nat_eq, nat_le, take, append-nil, List, [], ◌∷◌, ◌++◌, length, arith, Option, Some, None, refl, sym, ap, subst, ◌∙◌}
+use Rattle.std.proofs.Common.{◌≡◌, ℕ, ◌+◌, ◌≤◌, Bool, true, false, not, ◌&&◌, if◌then◌else◌, nat_eq, nat_le, take, append-nil, List, [], ◌∷◌, ◌++◌, length, arith, Option, Some, None, refl, sym, ap, subst, ◌∙◌}
 use Rattle.std.proofs.lemmas.List.{length-map, take_all}
 use Rattle.std.specs.List.{list_all}
 use Rattle.ucm_base.specs.declared.ids.CallNo.{CallNo}
@@ -16,7 +16,6 @@ use Rattle.world.specs.RoundsBySize.{GoesBySize, sized, stage_by_size}
 use Rattle.world.specs.Sends.{has_refusal, is_masters}
 use Rattle.sub_core.specs.declared.answers.Finding.{Finding}
 use Rattle.sub_core.specs.declared.answers.Round.{Round}
-use Rattle.sub_core.specs.declared.answers.SendStep.{SendStep}
 use Rattle.sub_core.specs.declared.answers.Todo.{Todo}
 use Rattle.sub_core.specs.declared.progress.Progress.{Progress}
 use Rattle.sub_core.specs.declared.progress.Wish.{Wish}
@@ -28,7 +27,8 @@ use Rattle.sub_core.specs.States.{DriverState}
 use Rattle.sub_core.specs.Turns.{AreAllOfRounds, AreOfRounds, CallsAreInTurn, EndIsAsked, EndIsMade, IsLastRefused, MessagesAreInTurn, RoundsAreMade, VoteIsMade, VotesAreMade}
 use Rattle.sub_core.proofs.Allowed.{early_at, found_for}
 use Rattle.sub_core.proofs.Journeys.{stands}
-use Rattle.sub_core.proofs.Kept.{FollowsAt, IsEndRound, IsKept, IsOpen, OpenAt, early_at_round, early_call, no_end, not_ending, sent_in_rounds}
+use Rattle.sub_core.proofs.Kept.{FollowsAt, IsEndRound, IsKept, IsOpen, OpenAt, early_at_round, early_call, not_ending}
+use Rattle.sub_core.proofs.Begins.{sent_in_rounds}
 use Rattle.sub_core.proofs.Findings.{RestsBy, ByMisses, ByWish, past_sized, rests_if}
 use Rattle.sub_core.proofs.Ends.{not_begun}
 use Rattle.sub_core.proofs.Making.{AreAccepted, AreTurned, all_sent_early, are_accepted, of_rounds, one_more, some_bytes, turned}
