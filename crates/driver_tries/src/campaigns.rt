@@ -4,6 +4,7 @@ ghost use Rattle.sub_core.specs.Driving.{todo, IsBeforeEnd};
 ghost use Rattle.sub_core.specs.declared.answers.Finding.{Finding as AnyFinding};
 ghost use Rattle.sub_core.specs.declared.answers.Round.{Round as AnyRound};
 ghost use Rattle.sub_core.specs.declared.answers.Todo.{Todo as AnyTodo};
+ghost use Rattle.sub_workers.specs.Runs.{IsReady, MayBegin};
 ghost use Rattle.driver_tries.specs.Nodes.{Begins, GoesOn};
 
 use crate::linked::{LinkedNode, Trouble};
@@ -14,8 +15,8 @@ use report::EntryList;
 use std::alloc::Global;
 use std::sync::Wait;
 use std::thread::Threads;
-use sub_core::{Finding, Round, Todo};
-use sub_workers::{Worker, prepare_all};
+use sub_core::{Finding, Round, Subordinate, Todo};
+use sub_workers::{Worker, end_all, prepare_all};
 use ucm_base::CallNo;
 
 /// A campaign on one node: which cluster fails there, what the link does, up to which round it goes, and the decision.
@@ -38,30 +39,32 @@ pub struct Outcome {
 }
 
 /// A round of each worker.
-fn go_round<R: Threads + Wait + Sync>(
+pub fn go_round<R: Threads + Wait + Sync, U: Subordinate + Send>(
     rt: &R,
     alloc: Global,
-    workers: &mut [Worker<'_, LinkedNode>],
+    workers: &mut [Worker<'_, U>],
     round: Round,
 )
-    requires begins { All (Begins round) workers.old }
-    ensures ready { All GoesOn workers.new }
+    requires begins { All (MayBegin U.ready U.last round) workers.old }
+    ensures ready { All (IsReady U.ready U.last) workers.new }
     ensures round { All (λ w. w.driver.round ≡ Some round) workers.new }
 {
     prepare_all(rt, alloc, workers, round);
 }
 
-/// Whether there is one worker, and its round is done.
-fn is_done(workers: &[Worker<'_, LinkedNode>]) -> bool
+/// Whether a worker's round is done.
+pub fn is_done<U>(worker: &Worker<'_, U>) -> bool
+    ensures { IsTrue result → todo worker.now.driver ≡ AnyTodo.Rest AnyFinding.RoundDone }
+{
+    worker.driver.has_number() && matches!(worker.driver.next(), Todo::Rest(Finding::RoundDone))
+}
+
+/// Whether the round of each worker is done.
+pub fn are_done<U>(workers: &[Worker<'_, U>]) -> bool
     ensures { IsTrue result
         → All (λ w. todo w.driver ≡ AnyTodo.Rest AnyFinding.RoundDone) workers.now }
 {
-    match workers {
-        [worker] if worker.driver.has_number() => {
-            matches!(worker.driver.next(), Todo::Rest(Finding::RoundDone))
-        }
-        _ => false,
-    }
+    workers.iter().all(is_done)
 }
 
 /// The rounds in their order, up to the last one or the first that isn't done.
@@ -76,15 +79,15 @@ fn prepare<R: Threads + Wait + Sync>(
     ensures rounds { All (λ w. IsBeforeEnd w.driver.round) workers.new }
 {
     go_round(rt, alloc, workers, Round::Sync);
-    if last == Round::Sync || !is_done(workers) {
+    if last == Round::Sync || !are_done(workers) {
         return;
     }
     go_round(rt, alloc, workers, Round::Transfer);
-    if last == Round::Transfer || !is_done(workers) {
+    if last == Round::Transfer || !are_done(workers) {
         return;
     }
     go_round(rt, alloc, workers, Round::Process);
-    if last != Round::Process && is_done(workers) {
+    if last != Round::Process && are_done(workers) {
         go_round(rt, alloc, workers, Round::Activate);
     }
 }
@@ -100,10 +103,7 @@ fn go<R: Threads + Wait + Sync>(
 {
     prepare(rt, alloc, workers, campaign.last);
     let vote = workers.first().and_then(|worker| worker.found);
-    let end = Round::End {
-        commit: campaign.commit,
-    };
-    go_round(rt, alloc, workers, end);
+    end_all(rt, alloc, workers, campaign.commit);
     vote
 }
 

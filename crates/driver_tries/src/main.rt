@@ -1,7 +1,8 @@
 //! Shows what drivers and workers do. Without words it prints tables: a driver whose Sync is missed, what the end phase
 //! does with each status, answers of other kinds, whether two workers meet, and what nodes in memory did under drivers.
-//! `driver_tries blocks N` prints the microseconds of `next` and `on` for the first and the N-th block; `driver_tries
-//! round N` those of a round over N workers whose nodes wait.
+//! `driver_tries blocks N` prints the nanoseconds of `next` and `on` for the first blocks of a package and for those
+//! behind the N-th; `driver_tries round N` the microseconds of a round over N workers whose nodes wait; `driver_tries
+//! transfer N` those in which N workers transfer one package of 16 MB.
 //!
 //! Layer: stands on `sub_workers`, `node_core` and `report`; nothing stands on it. It promises no time.
 #![tactic(auto)]
@@ -18,27 +19,46 @@ mod times;
 use anyhow::Result;
 use std::env;
 
+/// What is timed.
+#[derive(Clone, Copy)]
+enum Timed {
+    Blocks,
+    Round,
+    Transfer,
+}
+
 fn main(rt: HostRuntime) -> Result<()> {
-    let mut is_round = false;
+    let mut timed = Timed::Blocks;
     let mut count = 0u32;
     for word in env::args(&rt)?.skip(1) {
         match word.as_str().parse::<u32>() {
             Ok(number) => count = number,
-            Err(_) => is_round = word.as_str() == "round",
+            Err(_) if word.as_str() == "round" => timed = Timed::Round,
+            Err(_) if word.as_str() == "transfer" => timed = Timed::Transfer,
+            Err(_) => timed = Timed::Blocks,
         }
     }
     if count == 0 {
         tables::print(&rt, rt.alloc())?;
         let met = meeting::meet(&rt, rt.alloc());
-        println!(rt; "two workers met: {met:?}")?;
+        println!(rt; "calls of a round and its end in which two workers met: {met:?}")?;
         return node_rows::print(&rt, rt.alloc());
     }
-    if is_round {
-        let took = times::round(&rt, rt.alloc(), count);
-        println!(rt; "a round over {count} workers: {took:?} us")?;
-    } else {
-        let took = times::blocks(&rt, rt.alloc(), count);
-        println!(rt; "next and on, 1,000 times at the first and at block {count}: {took:?} us")?;
+    match timed {
+        Timed::Blocks => {
+            let took = times::blocks(&rt, rt.alloc(), count);
+            println!(rt; "next and on, nanoseconds and the last block: {took:?}")?;
+        }
+        Timed::Round => {
+            let took = times::round(&rt, rt.alloc(), count, [100, 100]);
+            println!(rt; "a round over {count} workers, 100 ms each: {took:?} us")?;
+            let took = times::round(&rt, rt.alloc(), count, [100, 300]);
+            println!(rt; "a round over {count} workers, of which one takes 300 ms: {took:?} us")?;
+        }
+        Timed::Transfer => {
+            let took = times::transfer(&rt, rt.alloc(), count, 16_000_000);
+            println!(rt; "a transfer of one package by {count} workers: {took:?} us")?;
+        }
     }
     Ok(())
 }

@@ -1,7 +1,10 @@
-//! Two workers whose first calls wait for each other: one worker after another would never meet.
-ghost use Rattle.std.specs.Prelude.{◌≡◌, IfSome};
+//! Two workers whose calls wait for each other, in a round and at the end: one worker after another would never meet.
+ghost use Rattle.std.specs.Prelude.{◌≡◌, All, IfSome, ⊤};
 ghost use Rattle.sub_core.specs.Calls.{bytes_of, AreThere};
+ghost use Rattle.sub_core.specs.declared.answers.Round.{Round as AnyRound};
+ghost use Rattle.sub_workers.specs.Runs.{MayBegin};
 
+use crate::campaigns::go_round;
 use crate::packing::{driver_for, packages, removal};
 use package_reader::Packages;
 use pm_types::{IdList, Reply, Status, Synced, Worked};
@@ -11,24 +14,25 @@ use std::sync::atomic::AtomicU64;
 use std::sync::atomic::Ordering::SeqCst;
 use std::thread::Threads;
 use sub_core::{Round, Sent, Subordinate, UnitSent};
-use sub_workers::{Worker, prepare_all};
+use sub_workers::{Worker, end_all};
 use ucm_base::CallNo;
 
-/// How often a flag is looked at before its call goes on.
+/// How often a count is looked at before its call goes on.
 const LOOKS: u32 = 200_000_000;
 
-/// A node whose first call sets its flag, and then waits for the other's.
+/// A node whose calls raise its count, and then wait for the other's.
 #[derive(Drop)]
 pub struct Meeting<'a> {
     own: &'a AtomicU64,
     other: &'a AtomicU64,
     last: Option<CallNo>,
-    met: bool,
+    calls: u64,
+    met: u64,
 }
 
-fn wait_for(flag: &AtomicU64) -> bool {
+fn wait_for(count: &AtomicU64, calls: u64) -> bool {
     for _ in 0..LOOKS {
-        if flag.load(SeqCst) == 1 {
+        if calls <= count.load(SeqCst) {
             return true;
         }
     }
@@ -58,9 +62,10 @@ impl<'a> Subordinate for Meeting<'a> {
     ghost works = { λ s answer t. ⊤ };
 
     fn send(&mut self, no: CallNo, _call: pm_types::Call) -> Sent {
-        if self.last.is_none() {
-            self.own.store(1, SeqCst);
-            self.met = wait_for(self.other);
+        self.calls = self.calls.saturating_add(1);
+        self.own.store(self.calls, SeqCst);
+        if wait_for(self.other, self.calls) {
+            self.met = self.met.saturating_add(1);
         }
         self.last = Some(no);
         Sent::Answered(at_rest())
@@ -97,30 +102,43 @@ fn worker<'a>(
         own,
         other,
         last: None,
-        met: false,
+        calls: 0,
+        met: 0,
     };
     Some(Worker::new(driver, node, packages))
 }
 
-/// Whether each of two workers met the other in its first call.
+/// A round of the workers, and their end.
+fn begin_and_end<R: Threads + Wait + Sync>(
+    rt: &R,
+    alloc: Global,
+    workers: &mut [Worker<'_, Meeting<'_>>],
+)
+    requires { All (MayBegin (λ n. ⊤) (λ n. n.last) AnyRound.Sync) workers.old }
+{
+    go_round(rt, alloc, workers, Round::Sync);
+    end_all(rt, alloc, workers, true);
+}
+
+/// In how many calls each of two workers met the other: the one of their round, and the one of their end.
 fn meet_at<R: Threads + Wait + Sync>(
     rt: &R,
     alloc: Global,
     packages: &Packages,
     first: &AtomicU64,
     second: &AtomicU64,
-) -> Option<[bool; 2]> {
+) -> Option<[u64; 2]> {
     let mut workers = Vec::new(alloc);
     workers.push(worker(alloc, packages, first, second)?).ok()?;
     workers.push(worker(alloc, packages, second, first)?).ok()?;
-    prepare_all(rt, alloc, workers.as_mut_slice(), Round::Sync);
+    begin_and_end(rt, alloc, workers.as_mut_slice());
     let last = workers.pop()?.into_subordinate();
     let before = workers.pop()?.into_subordinate();
     Some([before.met, last.met])
 }
 
-/// Whether each of two workers met the other in its first call.
-pub fn meet<R: Threads + Wait + Sync>(rt: &R, alloc: Global) -> Option<[bool; 2]> {
+/// In how many calls each of two workers met the other.
+pub fn meet<R: Threads + Wait + Sync>(rt: &R, alloc: Global) -> Option<[u64; 2]> {
     let packages = packages(alloc, &[&[removal("core")]])?;
     let first = AtomicU64::new(0);
     let second = AtomicU64::new(0);

@@ -1,5 +1,5 @@
 -- What was told to a driver, as answers are added.
-use Rattle.std.proofs.Common.{◌≡◌, ℕ, zero, suc, ◌+◌, ◌-◌, ◌<◌, Bool, true, false, not, ◌&&◌, ◌||◌, if◌then◌else◌, ◌==◌, nat_eq, nat_lt, List, [], ◌∷◌, length, slice_index_or, Option, Some, None, is_some, refl, sym, ap, subst, ◌∙◌, arith}
+use Rattle.std.proofs.Common.{◌≡◌, ℕ, zero, suc, ◌+◌, ◌-◌, ◌<◌, Bool, true, false, not, ◌&&◌, ◌||◌, if◌then◌else◌, ◌==◌, nat_eq, nat_lt, List, [], ◌∷◌, length, slice_index_or, Option, Some, None, refl, sym, ap, subst, ◌∙◌, arith}
 use Rattle.std.specs.Option.{option_or}
 use Rattle.std.specs.List.{list_any}
 use Rattle.std.proofs.lemmas.Bool.Decides.{nat_tests}
@@ -7,7 +7,6 @@ use Rattle.ucm_base.specs.Limits.{block_limit}
 use Rattle.ucm_base.specs.declared.ids.CallNo.{CallNo}
 use Rattle.campaign_core.specs.declared.events.Cause.{Cause}
 use Rattle.campaign_core.specs.declared.events.Decision.TheVariants.{Commit, Abort}
-use Rattle.pm_types.specs.NodeState.{is_working}
 use Rattle.pm_types.specs.declared.calls.Call.{Call}
 use Rattle.pm_types.specs.declared.replies.Reply.{Reply}
 use Rattle.pm_types.specs.declared.replies.Reply.TheVariants.{Done, Started, Synced, Refused}
@@ -16,9 +15,8 @@ use Rattle.pm_types.specs.declared.replies.Synced.{Synced as Shown}
 use Rattle.pm_types.specs.declared.status.Status.{Status}
 use Rattle.pm_types.specs.declared.status.Status.TheVariants.{Idle, Ready, Processing, Activating, Verifying, Activated, RollingBack, RolledBack, CleaningUp}
 use Rattle.world.specs.Messages.{Message, Told, Answered, Showed, is_activate, is_done, is_process, is_status, is_sync}
-use Rattle.world.specs.Sends.{activate_done, delete_at, end_call_at, has_refusal, is_end_sync, is_masters, is_settled, last_shown, last_status, session_status, lists_free, showed_after_activate, shown_if, status_if, status_of_shown}
+use Rattle.world.specs.Sends.{activate_done, delete_at, end_call_at, has_refusal, is_end_sync, is_masters, is_settled, last_shown, last_status, session_status, lists_free, showed_after_activate, shown_if, status_of_shown}
 use Rattle.sub_core.specs.declared.answers.Finding.{Finding}
-use Rattle.sub_core.specs.declared.answers.Got.{Got}
 use Rattle.sub_core.specs.declared.answers.Round.{Round}
 use Rattle.sub_core.specs.declared.answers.SendStep.{SendStep}
 use Rattle.sub_core.specs.declared.answers.Todo.{Todo}
@@ -26,12 +24,12 @@ use Rattle.sub_core.specs.declared.progress.EndProgress.{EndProgress}
 use Rattle.sub_core.specs.declared.progress.Progress.{Progress}
 use Rattle.sub_core.specs.declared.progress.Wish.{Wish}
 use Rattle.sub_core.specs.Calls.{call_of}
-use Rattle.sub_core.specs.Driving.{after_send, after_todo, after_unit, at_free, at_session, at_shown, at_status, begun, end_after, end_wish, has_number, is_answer, is_missed, is_over, next_no, next_transfer, opened, progress_after, replied, round_after, round_step, settled_after, status_of, step, todo, todo_for, unreached, wish, wish_at, IsEnding}
-use Rattle.sub_core.specs.Given.{is_ending, message_of, reply_got}
-use Rattle.sub_core.specs.Sends.{decision_of}
+use Rattle.sub_core.specs.Driving.{at_free, at_session, at_shown, at_status, begun, end_after, end_wish, is_answer, next_no, next_transfer, progress_after, round_after, round_step, settled_after, todo_for, wish, wish_at, IsEnding}
+use Rattle.sub_core.specs.Given.{is_ending}
+use Rattle.sub_core.specs.Sends.{IsEndCall, decision_of}
 use Rattle.sub_core.specs.States.{DriverState, IsPlaced, IsPlacedEnd, IsSound, size_at}
-use Rattle.sub_core.proofs.Told.{EndTold, Found, IsOwned, IsTold, ToldAt, told_after, told_reply, told_unit}
-use Rattle.sub_core.proofs.Stages.{calls_of_wish, not_process, wish_of_todo, IsCalling}
+use Rattle.sub_core.proofs.Told.{EndTold, Found, IsOwned, IsTold, ToldAt}
+use Rattle.sub_core.proofs.Stages.{calls_of_wish, not_process, IsCalling}
 
 -- either progress was told enough
 told_if : (k epoch : ℕ) (b : Bool) (p q : Progress) (told : List Told) → ToldAt k epoch p told → ToldAt k epoch q told
@@ -73,49 +71,10 @@ pub not_unit : (b : Bool) (f : Finding) (asked : SendStep)
 not_unit true f asked is = cc is
 not_unit false f asked is = cc is
 
--- a unit leaves what the last Sync showed
-owned_on : (k epoch : ℕ) (status : Status) (told : List Told) → IsOwned k epoch told
-    → IsOwned k epoch (Showed status ∷ told)
-owned_on k epoch status told owned =
-    record { shown = owned.shown; last = owned.last; session = owned.session }
-
-or_false : (b c : Bool) → c ≡ false → (b || c) ≡ b
-or_false true c is = refl
-or_false false c is = is
-
 -- a unit's status was told
 pub told_worked : (k epoch : ℕ) (d : DriverState) (p : Progress) (status : Status) (told : List Told)
     → wish_at d p ≡ Wish.Unit → ToldAt k epoch p told → ToldAt k epoch (settled_after p status) (Showed status ∷ told)
-told_worked k epoch d Progress.Sync status told is t =
-    absurd (not_unit (is_over d.round d.ids Progress.Sync) Finding.RoundDone (round_step d Progress.Sync) is)
-told_worked k epoch d Progress.Transfer status told is t =
-    absurd (not_unit (is_over d.round d.ids Progress.Transfer) Finding.RoundDone (round_step d Progress.Transfer) is)
-told_worked k epoch d (Progress.Data id counter left) status told is t =
-    let p = Progress.Data id counter left in
-    absurd (not_unit (is_over d.round d.ids p) Finding.RoundDone (round_step d p) is)
-told_worked k epoch d (Progress.Process taken true) status told is t =
-    let p = Progress.Process taken true in
-    absurd (not_unit (is_over d.round d.ids p) Finding.RoundDone (round_step d p) is)
-told_worked k epoch d (Progress.Process taken false) status told is t =
-    (t.0, or_false (not (is_working status)) (is_settled told) t.1, t.2)
-told_worked k epoch d Progress.Activating Idle told is t = t
-told_worked k epoch d Progress.Activating Ready told is t = t
-told_worked k epoch d Progress.Activating Processing told is t = t
-told_worked k epoch d Progress.Activating Activating told is t = t
-told_worked k epoch d Progress.Activating Verifying told is t = t
-told_worked k epoch d Progress.Activating Activated told is t =
-    (ap (λ a. a || showed_after_activate Activated told) t.0, t.1, t.3)
-told_worked k epoch d Progress.Activating RollingBack told is t = t
-told_worked k epoch d Progress.Activating RolledBack told is t =
-    (ap (λ a. a || showed_after_activate RolledBack told) t.0, t.1, t.2)
-told_worked k epoch d Progress.Activating CleaningUp told is t = t
-told_worked k epoch d (Progress.Voted finding) status told is t = absurd (cc is)
-told_worked k epoch d (Progress.Ending commit (EndProgress.Call asked)) status told is t = absurd (cc is)
-told_worked k epoch d (Progress.Ending commit EndProgress.Units) status told is t =
-    told_status k epoch commit status (Showed status ∷ told) (owned_on k epoch status told t)
-    (ap (λ o. option_or (status_if (is_some o) status) (last_status k epoch told)) t.last)
-told_worked k epoch d (Progress.Ending commit (EndProgress.Delete listed place)) status told is t = absurd (cc is)
-told_worked k epoch d (Progress.Ending commit (EndProgress.Rest call_no)) status told is t = absurd (cc is)
+told_worked k epoch d x3 x4 told is t = grind arith
 
 module _ (k epoch : ℕ) (commit : Bool) (call_no : CallNo) (m : Message) (x : Shown) (told : List Told)
     (of_end : is_end_sync k epoch m ≡ true) (at_no : m.at ≡ call_no) where
@@ -157,40 +116,13 @@ module _ (k epoch : ℕ) (commit : Bool) (call_no : CallNo) (m : Message) (x : S
 -- before a call of the end phase that is done the last Sync showed a session of the master
 owned_of : (k epoch : ℕ) (commit : Bool) (a : SendStep) (told : List Told) → is_answer a Done ≡ true
     → EndTold k epoch commit (EndProgress.Call a) told → IsOwned k epoch told
-owned_of k epoch commit SendStep.Sync told fits t = absurd (cc fits)
-owned_of k epoch commit (SendStep.Start p) told fits t = absurd (cc fits)
-owned_of k epoch commit (SendStep.Data p id counter) told fits t = t.owned
-owned_of k epoch commit (SendStep.Exit id) told fits t = t.owned
-owned_of k epoch commit (SendStep.Process id tag) told fits t = t.owned
-owned_of k epoch commit SendStep.Activate told fits t = t.owned
-owned_of k epoch commit SendStep.Finish told fits t = t.owned
-owned_of k epoch commit SendStep.Rollback told fits t = t.owned
-owned_of k epoch commit SendStep.Revert told fits t = t.owned
-owned_of k epoch commit (SendStep.Delete id) told fits t = t.owned
+owned_of k epoch commit x3 told fits t = grind arith
 
 sync_only : (a : SendStep) (x : Shown) → is_answer a (Synced x) ≡ true → a ≡ SendStep.Sync
-sync_only SendStep.Sync x fits = refl
-sync_only (SendStep.Start p) x fits = absurd (cc fits)
-sync_only (SendStep.Data p id counter) x fits = absurd (cc fits)
-sync_only (SendStep.Exit id) x fits = absurd (cc fits)
-sync_only (SendStep.Process id tag) x fits = absurd (cc fits)
-sync_only SendStep.Activate x fits = absurd (cc fits)
-sync_only SendStep.Finish x fits = absurd (cc fits)
-sync_only SendStep.Rollback x fits = absurd (cc fits)
-sync_only SendStep.Revert x fits = absurd (cc fits)
-sync_only (SendStep.Delete id) x fits = absurd (cc fits)
+sync_only x0 x fits = grind arith
 
 none_starts : (a : SendStep) (n : ℕ) → IsPlacedEnd (EndProgress.Call a) → is_answer a (Started n) ≡ true → ⊥
-none_starts SendStep.Sync n placed fits = cc fits
-none_starts (SendStep.Start p) n placed fits = placed
-none_starts (SendStep.Data p id counter) n placed fits = cc fits
-none_starts (SendStep.Exit id) n placed fits = cc fits
-none_starts (SendStep.Process id tag) n placed fits = cc fits
-none_starts SendStep.Activate n placed fits = cc fits
-none_starts SendStep.Finish n placed fits = cc fits
-none_starts SendStep.Rollback n placed fits = cc fits
-none_starts SendStep.Revert n placed fits = cc fits
-none_starts (SendStep.Delete id) n placed fits = cc fits
+none_starts x0 n placed fits = grind arith
 
 shown_done : (b : Bool) (o : Option Shown) → option_or (shown_if b Done) o ≡ o
 shown_done true o = refl
@@ -431,100 +363,26 @@ module _ (packages : List (List ℕ)) (d : DriverState) (told : List Told) (soun
   told_replied (Progress.Ending commit at) reply asked placed is fits t =
       end_replied packages d told commit at reply asked placed is fits t
 
-  reply_if : (reply : Reply) (asked : SendStep) (b : Bool) → is_answer asked reply ≡ b → wish d ≡ Wish.Send asked
-      → IsTold d told
-      → IsTold (if b then replied reply d else opened d)
-      (told_reply (sent_at d.progress asked) (if b then Some reply else None) told)
-  reply_if reply asked true fits is t = told_replied d.progress reply asked sound.placed is fits t
-  reply_if reply asked false fits is t = t
-
-  told_send : (asked : SendStep) (got : Got) → wish d ≡ Wish.Send asked → IsTold d told
-      → IsTold (after_send asked got d) (told_reply (sent_at d.progress asked) (reply_got asked got) told)
-  told_send asked (Got.Replied reply) is t = reply_if reply asked (is_answer asked reply) refl is t
-  told_send asked (Got.UnitOf unit) is t = t
-  told_send asked (Got.Miss losses faults) is t = t
-
-  told_unit_after : (got : Got) → wish d ≡ Wish.Unit → IsTold d told → IsTold (after_unit got d) (told_unit got told)
-  told_unit_after (Got.Replied reply) is t = t
-  told_unit_after (Got.UnitOf unit) is t =
-      told_worked d.campaign d.epoch d d.progress (status_of unit) told is t
-  told_unit_after (Got.Miss losses faults) is t = t
-
-at_if : (b : Bool) (f : Finding) (n at : CallNo) (other asked : SendStep)
-    → (if b then Todo.Rest f else Todo.Send n other) ≡ Todo.Send at asked → n ≡ at
-at_if true f n at other asked is = absurd (cc is)
-at_if false f n at other asked is = cc is
-
-unit_at_if : (b : Bool) (f : Finding) (at : CallNo) (asked : SendStep)
-    → (if b then Todo.Rest f else Todo.Unit) ≡ Todo.Send at asked → ⊥
-unit_at_if true f at asked is = cc is
-unit_at_if false f at asked is = cc is
-
 pub at_of_todo : (d : DriverState) (w : Wish) (at : CallNo) (asked : SendStep) → todo_for d w ≡ Todo.Send at asked
     → next_no d ≡ at
-at_of_todo d (Wish.Rest finding) at asked is = absurd (cc is)
-at_of_todo d (Wish.Send other) at asked is =
-    at_if (is_missed d) (unreached d.misses) (next_no d) at other asked is
-at_of_todo d Wish.Unit at asked is = absurd (unit_at_if (is_missed d) (unreached d.misses) at asked is)
-
-send_unit_if : (b : Bool) (f : Finding) (n : CallNo) (other : SendStep)
-    → (if b then Todo.Rest f else Todo.Send n other) ≡ Todo.Unit → ⊥
-send_unit_if true f n other is = cc is
-send_unit_if false f n other is = cc is
+at_of_todo d x1 at asked is = grind arith
 
 pub unit_of_todo : (d : DriverState) (w : Wish) → todo_for d w ≡ Todo.Unit → w ≡ Wish.Unit
-unit_of_todo d (Wish.Rest finding) is = absurd (cc is)
-unit_of_todo d (Wish.Send other) is =
-    absurd (send_unit_if (is_missed d) (unreached d.misses) (next_no d) other is)
-unit_of_todo d Wish.Unit is = refl
-
-told_todo : (packages : List (List ℕ)) (d : DriverState) (told : List Told) (t : Todo) (got : Got) → IsSound d
-    → IsTold d told → todo d ≡ t → IsTold (after_todo t got d) (told_after packages d t got told)
-told_todo packages d told (Todo.Send at asked) got sound is_told is =
-    subst
-    (λ n. IsTold (after_send asked got d) (told_reply (message_of packages d n asked) (reply_got asked got) told))
-    (at_of_todo d (wish d) at asked is)
-    (told_send packages d told sound asked got (wish_of_todo d (wish d) at asked is) is_told)
-told_todo packages d told Todo.Unit got sound is_told is =
-    told_unit_after packages d told sound got (unit_of_todo d (wish d) is) is_told
-told_todo packages d told (Todo.Rest finding) got sound is_told is = is_told
-
-pub told_step : (packages : List (List ℕ)) (d : DriverState) (told : List Told) (got : Got) → IsSound d → IsTold d told
-    → has_number d ≡ true → IsTold (step got d) (told_after packages d (todo d) got told)
-told_step packages d told got sound is_told has =
-    subst
-    (λ b. IsTold (if b then after_todo (todo d) got d else d) (told_after packages d (todo d) got told))
-    (sym has)
-    (told_todo packages d told (todo d) got sound is_told refl)
+unit_of_todo d x1 is = grind arith
 
 pub told_begun : (d : DriverState) (told : List Told) (round : Round) → IsTold d told → IsTold (begun round d) told
-told_begun d told Round.Sync t = t
-told_begun d told Round.Transfer t = t
-told_begun d told Round.Process t = t
-told_begun d told Round.Activate t = t
-told_begun d told (Round.End commit) t = tt
+told_begun d told x2 t = grind arith
 
 pub early_at : (k epoch : ℕ) (d : DriverState) (p : Progress) (told : List Told) (asked : SendStep) → ToldAt k epoch p
     told
     → (IsEnding p → ⊥) → wish_at d p ≡ Wish.Send asked → (has_refusal told ≡ false) × (is_settled told ≡ true)
-early_at k epoch d Progress.Sync told asked t early is = (t.0, t.1)
-early_at k epoch d Progress.Transfer told asked t early is = (t.0, t.1)
-early_at k epoch d (Progress.Data id counter left) told asked t early is = (t.0, t.1)
-early_at k epoch d (Progress.Process taken true) told asked t early is = (t.0, t.1)
-early_at k epoch d (Progress.Process taken false) told asked t early is = absurd (cc is)
-early_at k epoch d Progress.Activating told asked t early is = absurd (cc is)
-early_at k epoch d (Progress.Voted finding) told asked t early is = absurd (cc is)
-early_at k epoch d (Progress.Ending commit at) told asked t early is = absurd (early tt)
+early_at k epoch d x3 told asked t early is = grind arith
 
 or_second : (a b c : Bool) → b ≡ true → (a || (b || c)) ≡ true
-or_second true b c is = refl
-or_second false true c is = refl
-or_second false false c is = absurd (cc is)
+or_second x0 x1 c is = grind arith
 
 or_third : (a b c : Bool) → c ≡ true → (a || (b || c)) ≡ true
-or_third true b c is = refl
-or_third false true c is = refl
-or_third false false c is = is
+or_third x0 x1 c is = grind arith
 
 has_place : (ids : List ℕ) (place : ℕ) → place < length ids
     → list_any (λ there. nat_eq (slice_index_or ids place 0) there) ids ≡ true
@@ -553,16 +411,7 @@ module _ (packages : List (List ℕ)) (k epoch : ℕ) (commit : Bool) (cause : C
 
   late_call : (a : SendStep) → IsPlacedEnd (EndProgress.Call a) → EndTold k epoch commit (EndProgress.Call a) told
       → IsLate a
-  late_call SendStep.Sync placed t = refl
-  late_call (SendStep.Start p) placed t = absurd placed
-  late_call (SendStep.Data p id counter) placed t = absurd placed
-  late_call (SendStep.Exit id) placed t = late_by (SendStep.Exit id) (t.allowed cause)
-  late_call (SendStep.Process id tag) placed t = late_by (SendStep.Process id tag) (t.allowed cause)
-  late_call SendStep.Activate placed t = late_by SendStep.Activate (t.allowed cause)
-  late_call SendStep.Finish placed t = late_by SendStep.Finish (t.allowed cause)
-  late_call SendStep.Rollback placed t = late_by SendStep.Rollback (t.allowed cause)
-  late_call SendStep.Revert placed t = late_by SendStep.Revert (t.allowed cause)
-  late_call (SendStep.Delete id) placed t = late_by (SendStep.Delete id) (t.allowed cause)
+  late_call x0 placed t = grind arith
 
   late_delete : (listed : List ℕ) (place : ℕ) → place < length listed
       → EndTold k epoch commit (EndProgress.Delete listed place) told
@@ -588,48 +437,15 @@ module _ (packages : List (List ℕ)) (k epoch : ℕ) (commit : Bool) (cause : C
 
 pub late_told : (packages : List (List ℕ)) (d : DriverState) (told : List Told) (commit : Bool) (end : EndProgress)
     → d.progress ≡ Progress.Ending commit end → IsSound d → IsTold d told
-    → (at : CallNo) (asked : SendStep) → todo d ≡ Todo.Send at asked → (cause : Cause)
-    → IsLate packages d.campaign d.epoch commit cause told asked
-late_told packages d told commit end here sound is_told at asked is cause =
+    → (asked : SendStep) → wish d ≡ Wish.Send asked
+    → IsEndCall commit d.campaign d.epoch told (call_of packages asked)
+late_told packages d told commit end here sound is_told asked is cause =
     late_at packages d.campaign d.epoch commit cause told end asked
     (subst (IsPlaced d.steps d.ids) here sound.placed)
     (subst (λ p. ToldAt d.campaign d.epoch p told) here is_told)
-    (subst (λ p. wish_at d p ≡ Wish.Send asked) here (wish_of_todo d (wish d) at asked is))
+    (subst (λ p. wish_at d p ≡ Wish.Send asked) here is)
 
 module _ (k epoch : ℕ) (told : List Told) where
-  found_if : (b : Bool) (g f : Finding) (t : Todo) → Found k epoch g told → (t ≡ Todo.Rest f → ⊥)
-      → (if b then Todo.Rest g else t) ≡ Todo.Rest f → Found k epoch f told
-  found_if true g f t has other is = let same : g ≡ f = cc is in subst (λ h. Found k epoch h told) same has
-  found_if false g f t has other is = absurd (other is)
-
-  found_call : (b : Bool) (f : Finding) (asked : SendStep)
-      → (if b then Wish.Rest Finding.RoundDone else Wish.Send asked) ≡ Wish.Rest f → Found k epoch f told
-  found_call true f asked is =
-      let same : Finding.RoundDone ≡ f = cc is in subst (λ h. Found k epoch h told) same tt
-  found_call false f asked is = absurd (cc is)
-
-  found_at : (d : DriverState) (p : Progress) (f : Finding) → ToldAt k epoch p told → wish_at d p ≡ Wish.Rest f
-      → Found k epoch f told
-  found_at d Progress.Sync f t is = found_call (is_over d.round d.ids Progress.Sync) f (round_step d Progress.Sync) is
-  found_at d Progress.Transfer f t is =
-      found_call (is_over d.round d.ids Progress.Transfer) f (round_step d Progress.Transfer) is
-  found_at d (Progress.Data id counter left) f t is =
-      let p = Progress.Data id counter left in found_call (is_over d.round d.ids p) f (round_step d p) is
-  found_at d (Progress.Process taken true) f t is =
-      let p = Progress.Process taken true in found_call (is_over d.round d.ids p) f (round_step d p) is
-  found_at d (Progress.Process taken false) f t is = absurd (cc is)
-  found_at d Progress.Activating f t is = absurd (cc is)
-  found_at d (Progress.Voted g) f t is = let same : g ≡ f = cc is in subst (λ h. Found k epoch h told) same t
-  found_at d (Progress.Ending commit (EndProgress.Call a)) f t is = absurd (cc is)
-  found_at d (Progress.Ending commit EndProgress.Units) f t is = absurd (cc is)
-  found_at d (Progress.Ending commit (EndProgress.Delete listed place)) f t is = absurd (cc is)
-  found_at d (Progress.Ending commit (EndProgress.Rest call_no)) f t is =
-      let same : Finding.Ended call_no ≡ f = cc is in subst (λ h. Found k epoch h told) same t
-
   pub found_for : (d : DriverState) (p : Progress) (w : Wish) (f : Finding) → wish_at d p ≡ w → ToldAt k epoch p told
       → todo_for d w ≡ Todo.Rest f → Found k epoch f told
-  found_for d p (Wish.Rest g) f here t is =
-      let same : g ≡ f = cc is in found_at d p f t (here ∙ ap Wish.Rest same)
-  found_for d p (Wish.Send a) f here t is =
-      found_if (is_missed d) (unreached d.misses) f (Todo.Send (next_no d) a) tt (λ e. cc e) is
-  found_for d p Wish.Unit f here t is = found_if (is_missed d) (unreached d.misses) f Todo.Unit tt (λ e. cc e) is
+  found_for d p x2 f here t is = grind arith

@@ -1,5 +1,5 @@
 -- All messages that were sent: those of the rounds, and then those of the end phase.
-use Rattle.std.proofs.Common.{◌≡◌, ℕ, suc, Bool, true, false, if◌then◌else◌, take, List, [], ◌∷◌, ◌++◌, map, length, refl, sym, ap, ◌∙◌}
+use Rattle.std.proofs.Common.{◌≡◌, ℕ, suc, Bool, true, false, if◌then◌else◌, take, List, [], ◌∷◌, ◌++◌, map, length, Option, refl, sym, ap, ◌∙◌}
 use Rattle.std.proofs.lemmas.List.{map-append}
 use Rattle.std.specs.List.{AllByRecursion}
 use Rattle.std.specs.Ordering.{is_eq}
@@ -9,7 +9,7 @@ use Rattle.pm_types.specs.declared.status.Status.{Status}
 use Rattle.world.specs.Attempts.{Attempt, Tried, Worked, AreInOrder, sent_by, with_sent}
 use Rattle.world.specs.Messages.{Message, Told, Answered, Showed}
 use Rattle.world.specs.RoundCalls.{round_calls}
-use Rattle.sub_core.specs.Made.{AreSentInTurn, calls_in, ids_given, is_end_call, made_early, made_in, made_of}
+use Rattle.sub_core.specs.Made.{AreSentInTurn, calls_in, ids_given, is_permitted, made_early, made_in, made_of}
 use Rattle.sub_core.proofs.Making.{length_snoc}
 
 -- the messages that were answered, the newest first
@@ -60,9 +60,9 @@ all_undecided k (Worked status ∷ attempts) order = all_undecided k attempts or
 
 -- messages of the end phase
 
-module _ (k : ℕ) (ps : List (List ℕ)) (told : List Told) (m : Message) (decided : m.decided ≡ true)
-    (is : is_end_call m.call ≡ true) where
-  one_late : (sent : List Message) → AreSentInTurn k ps told sent → AreSentInTurn k ps told (m ∷ sent)
+module _ (decision : Option Bool) (k : ℕ) (ps : List (List ℕ)) (told : List Told) (m : Message)
+    (decided : m.decided ≡ true) (is : is_permitted decision m.call ≡ true) where
+  one_late : (sent : List Message) → AreSentInTurn decision k ps told sent → AreSentInTurn decision k ps told (m ∷ sent)
   one_late sent turn = record {
     early = turn.early;
     late = m ∷ turn.late;
@@ -72,19 +72,20 @@ module _ (k : ℕ) (ps : List (List ℕ)) (told : List Told) (m : Message) (deci
     of_end = ((decided, is), turn.of_end);
   }
 
-  late_if : (newest : Message) (sent : List Message) (b : Bool) → AreSentInTurn k ps told (newest ∷ sent)
-      → AreSentInTurn k ps told (if b then newest ∷ sent else m ∷ newest ∷ sent)
+  late_if : (newest : Message) (sent : List Message) (b : Bool) → AreSentInTurn decision k ps told (newest ∷ sent)
+      → AreSentInTurn decision k ps told (if b then newest ∷ sent else m ∷ newest ∷ sent)
   late_if newest sent true turn = turn
   late_if newest sent false turn = one_late (newest ∷ sent) turn
 
   -- one more of them was sent, or the newest one again
-  pub sent_late : (sent : List Message) → AreSentInTurn k ps told sent → AreSentInTurn k ps told (with_sent m sent)
+  pub sent_late : (sent : List Message) → AreSentInTurn decision k ps told sent → AreSentInTurn decision k ps told
+      (with_sent m sent)
   sent_late [] turn = one_late [] turn
   sent_late (newest ∷ sent) turn = late_if newest sent (is_eq (call_no_cmp newest.at m.at)) turn
 
   -- and answered
-  pub answered_late : (reply : Reply) (sent : List Message) → AreSentInTurn k ps told sent
-      → AreSentInTurn k ps (Answered m reply ∷ told) (with_sent m sent)
+  pub answered_late : (reply : Reply) (sent : List Message) → AreSentInTurn decision k ps told sent
+      → AreSentInTurn decision k ps (Answered m reply ∷ told) (with_sent m sent)
   answered_late reply sent turn =
       let now = sent_late sent turn in
       let same : made_early (Answered m reply ∷ told) ≡ made_early told =
@@ -100,9 +101,10 @@ module _ (k : ℕ) (ps : List (List ℕ)) (told : List Told) (m : Message) (deci
       }
 
 -- a status is no message
-pub shown_late : (k : ℕ) (ps : List (List ℕ)) (told : List Told) (sent : List Message) (status : Status)
-    → AreSentInTurn k ps told sent → AreSentInTurn k ps (Showed status ∷ told) sent
-shown_late k ps told sent status turn = record {
+pub shown_late : (decision : Option Bool) (k : ℕ) (ps : List (List ℕ)) (told : List Told) (sent : List Message) (status
+    : Status)
+    → AreSentInTurn decision k ps told sent → AreSentInTurn decision k ps (Showed status ∷ told) sent
+shown_late decision k ps told sent status turn = record {
   early = turn.early;
   late = turn.late;
   split = turn.split;

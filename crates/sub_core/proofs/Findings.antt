@@ -1,5 +1,5 @@
 -- What a driver finds has its evidence.
-use Rattle.std.proofs.Common.{◌≡◌, ℕ, ◌≤◌, Bool, true, false, if◌then◌else◌, nat_le, List, [], ◌∷◌, length, drop, Option, Some, None, refl, sym, ap, subst, ◌∙◌, arith, length-drop}
+use Rattle.std.proofs.Common.{◌≡◌, ℕ, ◌≤◌, Bool, true, false, if◌then◌else◌, nat_le, List, [], ◌∷◌, length, drop, Option, Some, refl, sym, ap, subst, ◌∙◌, arith, length-drop}
 use Rattle.std.proofs.lemmas.Bool.Decides.{nat_tests}
 use Rattle.ucm_base.specs.Limits.{attempt_limit}
 use Rattle.ucm_base.specs.declared.ids.CallNo.{CallNo}
@@ -13,7 +13,7 @@ use Rattle.pm_types.specs.declared.replies.Refusal.{Refusal}
 use Rattle.world.specs.Attempts.{Attempt, told_by, sent_by, replies_by}
 use Rattle.world.specs.Messages.{Message, Told, Answered}
 use Rattle.world.specs.RoundCalls.{AllFit, RoundsEnd, calls_until, ids_of, is_past}
-use Rattle.world.specs.Rounds.{Stage, AtSync, AtStart, AtData, AtProcess, AtActivate, Over, RefusedOnce, next_processed, stage_of}
+use Rattle.world.specs.Rounds.{Stage, AtSync, next_processed, stage_of}
 use Rattle.world.specs.RoundsBySize.{GoesBySize, sized, stage_by_size}
 use Rattle.world.specs.Sends.{has_refusal, is_end_sync, is_settled}
 use Rattle.sub_core.specs.declared.answers.Finding.{Finding}
@@ -21,11 +21,10 @@ use Rattle.sub_core.specs.declared.answers.PackageSize.{PackageSize}
 use Rattle.sub_core.specs.declared.answers.Round.{Round}
 use Rattle.sub_core.specs.declared.answers.SendStep.{SendStep}
 use Rattle.sub_core.specs.declared.answers.Todo.{Todo}
-use Rattle.sub_core.specs.declared.progress.EndProgress.{EndProgress}
 use Rattle.sub_core.specs.declared.progress.Progress.{Progress}
 use Rattle.sub_core.specs.declared.progress.Wish.{Wish}
 use Rattle.sub_core.specs.Calls.{step_bytes}
-use Rattle.sub_core.specs.Driving.{end_wish, is_missed, is_over, next_no, round_step, todo, todo_for, unreached, wish, wish_at, IsBeforeEnd}
+use Rattle.sub_core.specs.Driving.{is_missed, is_over, round_step, todo, todo_for, unreached, wish, wish_at, IsBeforeEnd}
 use Rattle.sub_core.specs.Evidence.{AreEight, AreMissed, DoneIsFound, FindingsAreShown, IsEnded, IsRoundDone, IsShown, MissesAreKept, RepliesFit, is_preparing}
 use Rattle.sub_core.specs.Given.{AreGiven, Given, IsTask, Task, after, attempts, is_asked}
 use Rattle.sub_core.specs.Sends.{SendsAreNumbered, phase_of}
@@ -39,98 +38,22 @@ use Rattle.sub_core.proofs.Stages.{done_at, done_of_todo, le_true, sizes_same, s
 use Rattle.sub_core.proofs.Told.{Found, IsAtRest, IsNewest, ToldAt}
 
 rounds_of : (round : Round) → is_preparing round ≡ true → IsBeforeEnd (Some round)
-rounds_of Round.Sync is = tt
-rounds_of Round.Transfer is = tt
-rounds_of Round.Process is = tt
-rounds_of Round.Activate is = tt
-rounds_of (Round.End commit) is = cc is
+rounds_of x0 is = grind arith
 
 over_of : (b : Bool) (asked : SendStep)
     → (if b then Wish.Rest Finding.RoundDone else Wish.Send asked) ≡ Wish.Rest Finding.RoundDone → b ≡ true
 over_of true asked is = refl
 over_of false asked is = absurd (cc is)
 
-prepares_over : (round : Round) (ids : List ℕ) (p : Progress) → is_over (Some round) ids p ≡ true
-    → is_preparing round ≡ true
-prepares_over Round.Sync ids p is = refl
-prepares_over Round.Transfer ids p is = refl
-prepares_over Round.Process ids p is = refl
-prepares_over Round.Activate ids Progress.Sync is = cc is
-prepares_over Round.Activate ids Progress.Transfer is = cc is
-prepares_over Round.Activate ids (Progress.Data id counter left) is = cc is
-prepares_over Round.Activate ids (Progress.Process taken settled) is = cc is
-prepares_over Round.Activate ids Progress.Activating is = cc is
-prepares_over Round.Activate ids (Progress.Voted finding) is = cc is
-prepares_over Round.Activate ids (Progress.Ending commit at) is = cc is
-prepares_over (Round.End c) ids Progress.Sync is = cc is
-prepares_over (Round.End c) ids Progress.Transfer is = cc is
-prepares_over (Round.End c) ids (Progress.Data id counter left) is = cc is
-prepares_over (Round.End c) ids (Progress.Process taken settled) is = cc is
-prepares_over (Round.End c) ids Progress.Activating is = cc is
-prepares_over (Round.End c) ids (Progress.Voted finding) is = cc is
-prepares_over (Round.End c) ids (Progress.Ending commit at) is = cc is
-
--- a finding that no vote is of
-not_voted : (r : Option Round) (f : Finding) → IsWithin r (Progress.Voted f) → f ≡ Finding.RoundDone → ⊥
-not_voted r Finding.RoundDone within is = within
-not_voted r Finding.Yes within is = cc is
-not_voted r Finding.RolledBack within is = cc is
-not_voted r (Finding.Refused call_no why) within is = cc is
-not_voted r (Finding.Unreached losses faults) within is = cc is
-not_voted r (Finding.Ended call_no) within is = cc is
-
 -- what a round that is found done was told
 done_told : (k epoch : ℕ) (d : DriverState) (round : Round) (p : Progress) (told : List Told) → d.round ≡ Some round
     → IsWithin d.round p → ToldAt k epoch p told → wish_at d p ≡ Wish.Rest Finding.RoundDone
     → (is_preparing round ≡ true) × (has_refusal told ≡ false) × (is_settled told ≡ true)
-done_told k epoch d round Progress.Sync told here within t is = (
-  prepares_over round d.ids Progress.Sync
-      (subst (λ r. is_over r d.ids Progress.Sync ≡ true) here (over_of _ _ is)),
-  t.0,
-  t.1,
-)
-done_told k epoch d round Progress.Transfer told here within t is = (
-  prepares_over round d.ids Progress.Transfer
-      (subst (λ r. is_over r d.ids Progress.Transfer ≡ true) here (over_of _ _ is)),
-  t.0,
-  t.1,
-)
-done_told k epoch d round (Progress.Data id counter left) told here within t is =
-    let p = Progress.Data id counter left in
-    (prepares_over round d.ids p (subst (λ r. is_over r d.ids p ≡ true) here (over_of _ (round_step d p) is)), t.0, t.1)
-done_told k epoch d round (Progress.Process taken true) told here within t is =
-    let p = Progress.Process taken true in
-    (prepares_over round d.ids p (subst (λ r. is_over r d.ids p ≡ true) here (over_of _ (round_step d p) is)), t.0, t.1)
-done_told k epoch d round (Progress.Process taken false) told here within t is = absurd (cc is)
-done_told k epoch d round Progress.Activating told here within t is = absurd (cc is)
-done_told k epoch d round (Progress.Voted f) told here within t is = absurd (not_voted d.round f within (cc is))
-done_told k epoch d round (Progress.Ending commit (EndProgress.Call asked)) told here within t is = absurd (cc is)
-done_told k epoch d round (Progress.Ending commit EndProgress.Units) told here within t is = absurd (cc is)
-done_told k epoch d round (Progress.Ending commit (EndProgress.Delete listed place)) told here within t is =
-    absurd (cc is)
-done_told k epoch d round (Progress.Ending commit (EndProgress.Rest call_no)) told here within t is = absurd (cc is)
+done_told k epoch d round x4 told here within t is = grind arith
 
 -- a stage is past a round over lengths as over bytes
 pub past_sized : (phase : Option Phase) (stage : Stage) → is_past phase (sized stage) ≡ is_past phase stage
-past_sized phase Over = refl
-past_sized phase RefusedOnce = refl
-past_sized phase AtSync = refl
-past_sized None (AtStart ids left) = refl
-past_sized None (AtData ids id counter bytes left) = refl
-past_sized None (AtProcess ids taken) = refl
-past_sized None AtActivate = refl
-past_sized (Some Phase.Transferring) (AtStart ids left) = refl
-past_sized (Some Phase.Transferring) (AtData ids id counter bytes left) = refl
-past_sized (Some Phase.Transferring) (AtProcess ids taken) = refl
-past_sized (Some Phase.Transferring) AtActivate = refl
-past_sized (Some Phase.Processing) (AtStart ids left) = refl
-past_sized (Some Phase.Processing) (AtData ids id counter bytes left) = refl
-past_sized (Some Phase.Processing) (AtProcess ids taken) = refl
-past_sized (Some Phase.Processing) AtActivate = refl
-past_sized (Some Phase.Activating) (AtStart ids left) = refl
-past_sized (Some Phase.Activating) (AtData ids id counter bytes left) = refl
-past_sized (Some Phase.Activating) (AtProcess ids taken) = refl
-past_sized (Some Phase.Activating) AtActivate = refl
+past_sized x0 x1 = grind arith
 
 -- where the process stage of these ids is past its round, all are taken
 taken_all : (ids : List ℕ) (taken : ℕ) → is_past {B = ℕ} (Some Phase.Processing) (next_processed ids taken) ≡ true
@@ -252,90 +175,22 @@ pub data RestsBy (d : DriverState) (finding : Finding) : Type 0 where
 
 pub rests_if : (d : DriverState) (w : Wish) (b : Bool) (finding : Finding) → wish d ≡ w → is_missed d ≡ b
     → todo_for d w ≡ Todo.Rest finding → RestsBy d finding
-rests_if d (Wish.Rest f) b finding here is rests =
-    ByWish (here ∙ (let same : f ≡ finding = cc rests in ap Wish.Rest same))
-rests_if d (Wish.Send asked) true finding here is rests =
-    let same : Todo.Rest (unreached d.misses) ≡ Todo.Rest finding =
-    sym (ap (λ b. if b then Todo.Rest (unreached d.misses) else Todo.Send (next_no d) asked) is) ∙ rests in
-    ByMisses (asks_of d (Wish.Send asked) here refl) is (cc same)
-rests_if d (Wish.Send asked) false finding here is rests =
-    let no : Todo.Send (next_no d) asked ≡ Todo.Rest finding =
-    sym (ap (λ b. if b then Todo.Rest (unreached d.misses) else Todo.Send (next_no d) asked) is) ∙ rests in
-    absurd (cc no)
-rests_if d Wish.Unit true finding here is rests =
-    let same : Todo.Rest (unreached d.misses) ≡ Todo.Rest finding =
-    sym (ap (λ b. if b then Todo.Rest (unreached d.misses) else Todo.Unit) is) ∙ rests in
-    ByMisses (asks_of d Wish.Unit here refl) is (cc same)
-rests_if d Wish.Unit false finding here is rests =
-    let no : Todo.Unit ≡ Todo.Rest finding =
-    sym (ap (λ b. if b then Todo.Rest (unreached d.misses) else Todo.Unit) is) ∙ rests in
-    absurd (cc no)
-
-not_unreached : (b : Bool) (asked : SendStep) (losses faults : ℕ)
-    → (if b then Wish.Rest Finding.RoundDone else Wish.Send asked) ≡ Wish.Rest (Finding.Unreached losses faults) → ⊥
-not_unreached true asked losses faults is = cc is
-not_unreached false asked losses faults is = cc is
-
-voted_only : (r : Option Round) (f : Finding) (losses faults : ℕ) → IsWithin r (Progress.Voted f)
-    → f ≡ Finding.Unreached losses faults → ⊥
-voted_only r Finding.RoundDone losses faults within is = cc is
-voted_only r Finding.Yes losses faults within is = cc is
-voted_only r Finding.RolledBack losses faults within is = cc is
-voted_only r (Finding.Refused call_no why) losses faults within is = cc is
-voted_only r (Finding.Unreached l f) losses faults within is = within
-voted_only r (Finding.Ended call_no) losses faults within is = cc is
+rests_if d x1 x2 finding here is rests = grind arith
 
 -- no wish is Unreached
 reached_wish : (d : DriverState) (p : Progress) (losses faults : ℕ) → IsWithin d.round p
     → wish_at d p ≡ Wish.Rest (Finding.Unreached losses faults) → ⊥
-reached_wish d Progress.Sync losses faults within is =
-    not_unreached (is_over d.round d.ids Progress.Sync) (round_step d Progress.Sync) losses faults is
-reached_wish d Progress.Transfer losses faults within is =
-    not_unreached (is_over d.round d.ids Progress.Transfer) (round_step d Progress.Transfer) losses faults is
-reached_wish d (Progress.Data id counter left) losses faults within is =
-    let p = Progress.Data id counter left in not_unreached (is_over d.round d.ids p) (round_step d p) losses faults is
-reached_wish d (Progress.Process taken true) losses faults within is =
-    let p = Progress.Process taken true in not_unreached (is_over d.round d.ids p) (round_step d p) losses faults is
-reached_wish d (Progress.Process taken false) losses faults within is = cc is
-reached_wish d Progress.Activating losses faults within is = cc is
-reached_wish d (Progress.Voted f) losses faults within is = voted_only d.round f losses faults within (cc is)
-reached_wish d (Progress.Ending commit (EndProgress.Call asked)) losses faults within is = cc is
-reached_wish d (Progress.Ending commit EndProgress.Units) losses faults within is = cc is
-reached_wish d (Progress.Ending commit (EndProgress.Delete listed place)) losses faults within is = cc is
-reached_wish d (Progress.Ending commit (EndProgress.Rest call_no)) losses faults within is = cc is
+reached_wish d x1 losses faults within is = grind arith
 
 not_ended : (b : Bool) (asked : SendStep) (call_no : CallNo)
     → (if b then Wish.Rest Finding.RoundDone else Wish.Send asked) ≡ Wish.Rest (Finding.Ended call_no) → ⊥
 not_ended true asked call_no is = cc is
 not_ended false asked call_no is = cc is
 
-voted_end : (r : Option Round) (f : Finding) (call_no : CallNo) → IsWithin r (Progress.Voted f)
-    → f ≡ Finding.Ended call_no → ⊥
-voted_end r Finding.RoundDone call_no within is = cc is
-voted_end r Finding.Yes call_no within is = cc is
-voted_end r Finding.RolledBack call_no within is = cc is
-voted_end r (Finding.Refused n why) call_no within is = cc is
-voted_end r (Finding.Unreached l f) call_no within is = cc is
-voted_end r (Finding.Ended n) call_no within is = within
-
 -- where it rests at its end, the newest message is the last that was answered
 last_found : (d : DriverState) (p : Progress) (tries : List Attempt) (call_no : CallNo) → IsWithin d.round p
     → LastAt p tries → wish_at d p ≡ Wish.Rest (Finding.Ended call_no) → IsLast tries
-last_found d Progress.Sync tries call_no within last is =
-    absurd (not_ended (is_over d.round d.ids Progress.Sync) (round_step d Progress.Sync) call_no is)
-last_found d Progress.Transfer tries call_no within last is =
-    absurd (not_ended (is_over d.round d.ids Progress.Transfer) (round_step d Progress.Transfer) call_no is)
-last_found d (Progress.Data id counter left) tries call_no within last is =
-    let p = Progress.Data id counter left in absurd (not_ended (is_over d.round d.ids p) (round_step d p) call_no is)
-last_found d (Progress.Process taken true) tries call_no within last is =
-    let p = Progress.Process taken true in absurd (not_ended (is_over d.round d.ids p) (round_step d p) call_no is)
-last_found d (Progress.Process taken false) tries call_no within last is = absurd (cc is)
-last_found d Progress.Activating tries call_no within last is = absurd (cc is)
-last_found d (Progress.Voted f) tries call_no within last is = absurd (voted_end d.round f call_no within (cc is))
-last_found d (Progress.Ending commit (EndProgress.Call asked)) tries call_no within last is = absurd (cc is)
-last_found d (Progress.Ending commit EndProgress.Units) tries call_no within last is = absurd (cc is)
-last_found d (Progress.Ending commit (EndProgress.Delete listed place)) tries call_no within last is = absurd (cc is)
-last_found d (Progress.Ending commit (EndProgress.Rest n)) tries call_no within last is = last
+last_found d x1 tries call_no within last is = grind arith
 
 -- the newest message and what was told of it
 ended_by : (k epoch : ℕ) (task : Task) (tries : List Attempt) (call_no : CallNo) → k ≡ task.campaign
@@ -372,47 +227,10 @@ IsOfRound round (Finding.Refused call_no why) = IsBeforeEnd (Some round)
 IsOfRound round (Finding.Ended call_no) = (commit : Bool) × (round ≡ Round.End commit)
 IsOfRound round _ = Unit {0}
 
-done_round : (round : Round) (b : Bool) (asked : SendStep) (finding : Finding)
-    → (if b then Wish.Rest Finding.RoundDone else Wish.Send asked) ≡ Wish.Rest finding → IsOfRound round finding
-done_round round true asked finding is =
-    let same : Finding.RoundDone ≡ finding = cc is in subst (IsOfRound round) same tt
-done_round round false asked finding is = absurd (cc is)
-
-voted_round : (round : Round) (finding : Finding) → IsWithin (Some round) (Progress.Voted finding)
-    → IsOfRound round finding
-voted_round round Finding.RoundDone within = tt
-voted_round round Finding.Yes within = cc within
-voted_round round Finding.RolledBack within = cc within
-voted_round round (Finding.Refused call_no why) within = within
-voted_round round (Finding.Unreached losses faults) within = tt
-voted_round round (Finding.Ended call_no) within = absurd within
-
-ended_round : (round : Round) (commit : Bool) (at : EndProgress) (finding : Finding)
-    → Some round ≡ Some (Round.End commit) → end_wish at ≡ Wish.Rest finding → IsOfRound round finding
-ended_round round commit (EndProgress.Call asked) finding within is = absurd (cc is)
-ended_round round commit EndProgress.Units finding within is = absurd (cc is)
-ended_round round commit (EndProgress.Delete listed place) finding within is = absurd (cc is)
-ended_round round commit (EndProgress.Rest call_no) finding within is =
-    let same : Finding.Ended call_no ≡ finding = cc is in
-    let here : round ≡ Round.End commit = cc within in
-    subst (IsOfRound round) same (commit, here)
-
 -- where a driver rests by what it was answered, that is in a round of the finding
 round_of : (d : DriverState) (round : Round) (p : Progress) (finding : Finding) → IsWithin (Some round) p
     → wish_at d p ≡ Wish.Rest finding → IsOfRound round finding
-round_of d round Progress.Sync finding within is =
-    done_round round (is_over d.round d.ids Progress.Sync) (round_step d Progress.Sync) finding is
-round_of d round Progress.Transfer finding within is =
-    done_round round (is_over d.round d.ids Progress.Transfer) (round_step d Progress.Transfer) finding is
-round_of d round (Progress.Data id counter left) finding within is =
-    let p = Progress.Data id counter left in done_round round (is_over d.round d.ids p) (round_step d p) finding is
-round_of d round (Progress.Process taken true) finding within is =
-    let p = Progress.Process taken true in done_round round (is_over d.round d.ids p) (round_step d p) finding is
-round_of d round (Progress.Process taken false) finding within is = absurd (cc is)
-round_of d round Progress.Activating finding within is = absurd (cc is)
-round_of d round (Progress.Voted f) finding within is =
-    let same : f ≡ finding = cc is in subst (IsOfRound round) same (voted_round round f within)
-round_of d round (Progress.Ending commit at) finding within is = ended_round round commit at finding within is
+round_of d round x2 finding within is = grind arith
 
 module _ (by_size : GoesBySize) (ends : RoundsEnd) (lent : List (List ℕ)) (task : Task) (gs : List Given)
     (is : IsTask lent task) (given_ : AreGiven task gs) where
@@ -516,11 +334,7 @@ module _ (by_size : GoesBySize) (ends : RoundsEnd) (lent : List (List ℕ)) (tas
 
     refused : (call_no : CallNo) (why : Refusal) (told : List Told) → IsNewest call_no (Refused why) told
         → VoteEvidence (Vote.Refused call_no why) told
-    refused call_no why told newest = (
-      newest.message,
-      newest.at,
-      subst (λ l. Contains l (Answered newest.message (Refused why))) (sym newest.is) (0, omega arith, refl),
-    )
+    refused call_no why told newest = grind arith
 
     shown : (finding : Finding) → todo d ≡ Todo.Rest finding → IsShown lent task round gs finding
     shown Finding.RoundDone rests =

@@ -1,7 +1,6 @@
 -- The laws of drivers, over whatever they are given.
-use Rattle.std.proofs.Common.{◌≡◌, ℕ, ◌<◌, Bool, true, false, if◌then◌else◌, nat_le, List, [], ◌∷◌, ◌++◌, length, Some, None, is_some, refl, sym, ap, subst, ◌∙◌, arith}
+use Rattle.std.proofs.Common.{◌≡◌, ℕ, ◌<◌, Bool, true, false, if◌then◌else◌, List, [], ◌∷◌, ◌++◌, Some, None, is_some, refl, sym, ap, subst, ◌∙◌, arith}
 use Rattle.std.proofs.lemmas.Bool.Decides.{nat_tests}
-use Rattle.ucm_base.specs.Limits.{attempt_limit}
 use Rattle.world.specs.Attempts.{Attempt, Tried, Worked}
 use Rattle.world.specs.Messages.{Message}
 use Rattle.world.specs.RoundsBySize.{GoesBySize}
@@ -14,7 +13,9 @@ use Rattle.sub_core.specs.Driving.{after_send, after_todo, after_unit, begun, fr
 use Rattle.sub_core.specs.Evidence.{AreVain, IsVain, misses_in}
 use Rattle.sub_core.specs.Given.{AreGiven, Begun, Gave, GaveNothing, Given, IsTask, MayBe, Task, after, attempts, given, is_asked, message_of, reply_got, status_got, with_answer, with_given, with_none}
 use Rattle.sub_core.specs.States.{DriverState, IsSound, number_limit}
-use Rattle.sub_core.proofs.Kept.{HasRow, IsKept, kept_begun, kept_fresh, kept_idle, kept_missed, kept_opened, kept_replied, kept_worked, plain}
+use Rattle.sub_core.proofs.Kept.{HasRow, IsKept, plain}
+use Rattle.sub_core.proofs.Attempted.{kept_opened, kept_replied}
+use Rattle.sub_core.proofs.Begins.{kept_begun, kept_fresh, kept_idle, kept_missed, kept_worked}
 
 -- what a driver asks for, by what it wishes
 
@@ -42,11 +43,7 @@ pub wishes_of : (d : DriverState) → is_asked (todo d) ≡ true → Wishes d (t
 wishes_of d asks = wishes_if d (wish d) (is_missed d) refl refl asks
 
 plain_clean : (d : DriverState) (w : Wish) → d.misses ≡ [] → todo_for d w ≡ plain d w
-plain_clean d (Wish.Rest finding) clean = refl
-plain_clean d (Wish.Send asked) clean =
-    ap (λ ms. if nat_le attempt_limit (length ms) then Todo.Rest (unreached ms) else Todo.Send (next_no d) asked) clean
-plain_clean d Wish.Unit clean =
-    ap (λ ms. if nat_le attempt_limit (length ms) then Todo.Rest (unreached ms) else Todo.Unit) clean
+plain_clean d x1 clean = grind arith
 
 -- where the misses are emptied, a row begins
 clean_row : (task : Task) (d : DriverState) (gs : List Given) → after task gs ≡ d → d.misses ≡ [] → HasRow task d gs
@@ -80,11 +77,7 @@ module _ (by_size : GoesBySize) (lent : List (List ℕ)) (task : Task) (is : IsT
   -- one more in the row
   vain_more : (g : Given) → todo d ≡ plain d (wish d) → IsVain (plain d (wish d)) g
       → AreVain task so_far.row.older (todo (after task so_far.row.older)) (g ∷ so_far.row.row)
-  vain_more g asks vain = (
-    subst (λ t. IsVain t g) (sym so_far.row.asked) vain,
-    ap (λ l. todo (after task l)) (sym so_far.row.split) ∙ (asks ∙ sym so_far.row.asked),
-    so_far.row.vain,
-  )
+  vain_more g asks vain = grind arith
 
   -- no answer, and no miss
   row_same : (g : Given) (e : DriverState) → plain e (wish e) ≡ plain d (wish d) → todo d ≡ plain d (wish d)
@@ -231,9 +224,6 @@ fresh_sound : (lent : List (List ℕ)) (task : Task) → IsTask lent task
     → IsSound (fresh task.epoch task.first task.campaign task.steps)
 fresh_sound lent task is = record {
   some = is.some;
-  epoch = is.epoch;
-  campaign = is.campaign;
-  first = is.first;
   numbers = omega (arith, is.numbers);
   misses = omega arith;
   placed = refl;

@@ -7,6 +7,8 @@ pub mod Ends
 pub mod Making
 pub mod Asked
 pub mod Kept
+pub mod Attempted
+pub mod Begins
 pub mod Journeys
 pub mod Findings
 pub mod Misses
@@ -14,3 +16,4 @@ pub mod Units
 pub mod Votes
 pub mod Turns
 pub mod Sending
+pub mod Onward

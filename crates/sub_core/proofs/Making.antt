@@ -1,5 +1,5 @@
 -- The calls that were answered: first those of the rounds, then those of the end phase.
-use Rattle.std.proofs.Common.{◌≡◌, ◌≢◌, ℕ, zero, suc, ◌+◌, ◌<◌, ◌≤◌, Bool, true, false, not, ◌&&◌, ◌||◌, if◌then◌else◌, IsTrue, List, [], ◌∷◌, ◌++◌, map, length, take, Some, refl, sym, ap, subst, ◌∙◌, arith, append-nil}
+use Rattle.std.proofs.Common.{◌≡◌, ◌≢◌, ℕ, zero, suc, ◌+◌, ◌<◌, ◌≤◌, Bool, true, false, not, ◌&&◌, ◌||◌, if◌then◌else◌, IsTrue, List, [], ◌∷◌, ◌++◌, map, length, take, Option, Some, refl, sym, ap, subst, ◌∙◌, arith, append-nil}
 use Rattle.std.proofs.lemmas.List.{length-map, map-append}
 use Rattle.std.specs.List.{AllByRecursion, slice_get}
 use Rattle.pm_types.specs.declared.calls.Call.{Call}
@@ -17,7 +17,7 @@ use Rattle.world.proofs.RoundList.{IsReached, one-on, processed-is, reached-on, 
 use Rattle.sub_core.specs.declared.answers.PackageSize.{PackageSize}
 use Rattle.sub_core.specs.Calls.{step_bytes}
 use Rattle.sub_core.specs.Ending.{has_end_answer}
-use Rattle.sub_core.specs.Made.{IsOfEnd, IsOfRounds, Made, ids_given, is_end_call, made_early, made_in, made_late, made_of, numbers_from, only_last_refused, sent_early}
+use Rattle.sub_core.specs.Made.{IsOfEnd, IsOfRounds, Made, ids_given, is_permitted, made_early, made_in, made_late, made_of, numbers_from, only_last_refused, sent_early}
 
 -- lists that grow at their end
 
@@ -92,9 +92,7 @@ early_if : (m newest : Message) (sent : List Message) (b : Bool) → m.decided �
     → sent_early (newest ∷ sent) ≡ suc (length sent)
     → sent_early (if b then newest ∷ sent else m ∷ newest ∷ sent) ≡ length
     (if b then newest ∷ sent else m ∷ newest ∷ sent)
-early_if m newest sent true early all = all
-early_if m newest sent false early all =
-    ap (λ b. if b then sent_early (newest ∷ sent) else suc (sent_early (newest ∷ sent))) early ∙ ap suc all
+early_if m newest sent x3 early all = grind arith
 
 with_early : (m : Message) (sent : List Message) → m.decided ≡ false → sent_early sent ≡ length sent
     → sent_early (with_sent m sent) ≡ length (with_sent m sent)
@@ -110,9 +108,7 @@ all_sent_early k (Worked status ∷ attempts) order = all_sent_early k attempts 
 
 late_if : (m newest : Message) (sent : List Message) (b : Bool) → m.decided ≡ true
     → sent_early (if b then newest ∷ sent else m ∷ newest ∷ sent) ≡ sent_early (newest ∷ sent)
-late_if m newest sent true late = refl
-late_if m newest sent false late =
-    ap (λ b. if b then sent_early (newest ∷ sent) else suc (sent_early (newest ∷ sent))) late
+late_if m newest sent x3 late = grind arith
 
 -- one after it is no message of the rounds
 pub with_late : (m : Message) (sent : List Message) → m.decided ≡ true
@@ -244,34 +240,35 @@ module _ (k epoch first : ℕ) (ps : List (List ℕ)) where
       }
 
   -- in the end phase the calls of the rounds are those that there were
-  pub record AreTurned (number : ℕ) (all early late : List Made) (sent : ℕ) : Type 0 where
+  pub record AreTurned (decision : Option Bool) (number : ℕ) (all early late : List Made) (sent : ℕ) : Type 0 where
     pub split : all ≡ early ++ late
     pub of_rounds : IsOfRounds k epoch first ps early
     pub within : length early ≤ sent
-    pub of_end : AllByRecursion (IsOfEnd epoch (first + sent)) late
+    pub of_end : AllByRecursion (IsOfEnd decision epoch (first + sent)) late
     pub below : first + sent ≤ number
 
-  pub turned : (number sent : ℕ) (told : List Told) (replies : List Reply) → AreRounds number (made_in told) replies
+  pub turned : (decision : Option Bool) (number sent : ℕ) (told : List Told) (replies : List Reply) → AreRounds number
+      (made_in told) replies
       → has_end_answer told ≡ false → length (made_in told) ≤ sent → (now : ℕ) → first + sent ≤ now
-      → AreTurned now (made_in told) (made_early told) (made_late told) sent
-  turned number sent told replies are early within now below =
+      → AreTurned decision now (made_in told) (made_early told) (made_late told) sent
+  turned decision number sent told replies are early within now below =
       let before = all_early told early in
       record {
         split = sym (append-nil (made_in told))
             ∙ (ap (λ l. made_in told ++ l) (sym before.1) ∙ ap (λ l. l ++ made_late told) (sym before.0));
         of_rounds = subst (IsOfRounds k epoch first ps) (sym before.0) (of_rounds number (made_in told) replies are);
         within = subst (λ l. length l ≤ sent) (sym before.0) within;
-        of_end = subst (AllByRecursion (IsOfEnd epoch (first + sent))) (sym before.1) tt;
+        of_end = subst (AllByRecursion (IsOfEnd decision epoch (first + sent))) (sym before.1) tt;
         below = below;
       }
 
-  pub end_more : (number sent : ℕ) (told : List Told)
-      → AreTurned number (made_in told) (made_early told) (made_late told) sent
+  pub end_more : (decision : Option Bool) (number sent : ℕ) (told : List Told)
+      → AreTurned decision number (made_in told) (made_early told) (made_late told) sent
       → (m : Message) → m.decided ≡ true → m.at ≡ record { epoch = epoch; number = number }
-      → is_end_call m.call ≡ true → (reply : Reply)
-      → AreTurned (number + 1) (made_in (Answered m reply ∷ told)) (made_early (Answered m reply ∷ told))
+      → is_permitted decision m.call ≡ true → (reply : Reply)
+      → AreTurned decision (number + 1) (made_in (Answered m reply ∷ told)) (made_early (Answered m reply ∷ told))
       (made_late (Answered m reply ∷ told)) sent
-  end_more number sent told are m decided at is reply =
+  end_more decision number sent told are m decided at is reply =
       let x = made_of m reply in
       let early : made_early (Answered m reply ∷ told) ≡ made_early told =
       ap (λ b. if b then made_early told else made_early told ++ x ∷ []) decided in
@@ -284,8 +281,8 @@ module _ (k epoch first : ℕ) (ps : List (List ℕ)) where
             ∙ ap (λ l. l ++ made_late (Answered m reply ∷ told)) (sym early)));
         of_rounds = subst (IsOfRounds k epoch first ps) (sym early) are.of_rounds;
         within = subst (λ l. length l ≤ sent) (sym early) are.within;
-        of_end = subst (AllByRecursion (IsOfEnd epoch (first + sent))) (sym late)
-            (all_snoc (IsOfEnd epoch (first + sent)) (made_late told) x are.of_end (record {
+        of_end = subst (AllByRecursion (IsOfEnd decision epoch (first + sent))) (sym late)
+            (all_snoc (IsOfEnd decision epoch (first + sent)) (made_late told) x are.of_end (record {
               call = is;
               of_epoch = ap (λ a. a.epoch) at;
               later = subst (λ n. first + sent ≤ n) (sym (ap (λ a. a.number) at)) are.below;

@@ -8,12 +8,12 @@ use Rattle.sub_core.specs.declared.answers.Got.{Got}
 use Rattle.sub_core.specs.declared.answers.Rises.{Rises}
 use Rattle.sub_core.specs.declared.answers.SendStep.{SendStep}
 use Rattle.sub_core.specs.declared.answers.Todo.{Todo}
-use Rattle.sub_core.specs.Driving.{after_todo, is_answer, is_missed, next_no, opened, replied, todo, todo_for, unanswered_at, unreached, wish}
+use Rattle.sub_core.specs.Driving.{after_todo, is_answer, is_missed, opened, replied, todo, unanswered_at, unreached, wish}
 use Rattle.sub_core.specs.Evidence.{AreVain, IsVain, UnreachedIsFound, is_answer_to, misses_in}
 use Rattle.sub_core.specs.Failures.{faults_in, last_count}
 use Rattle.sub_core.specs.Given.{AreGiven, Begun, Gave, GaveNothing, Given, MayBe, Task, after, given, is_asked}
 use Rattle.sub_core.specs.States.{DriverState}
-use Rattle.sub_core.proofs.Journeys.{Wishes, ToSend, ToWork, stands, wishes_of}
+use Rattle.sub_core.proofs.Journeys.{Wishes, stands, wishes_of}
 
 -- no answer leaves what is asked, and a miss is kept
 record Waits (d e : DriverState) (ms : List Rises) : Type 0 where
@@ -86,11 +86,7 @@ missed_eight misses rises same eight =
 
 rests_missed : (d : DriverState) (t : Todo) (e : DriverState) → Wishes e t → wish d ≡ wish e → is_missed d ≡ true
     → todo d ≡ Todo.Rest (unreached d.misses)
-rests_missed d t e (ToSend asked wishes few) same missed =
-    ap (todo_for d) (same ∙ wishes)
-    ∙ ap (λ b. if b then Todo.Rest (unreached d.misses) else Todo.Send (next_no d) asked) missed
-rests_missed d t e (ToWork wishes few) same missed =
-    ap (todo_for d) (same ∙ wishes) ∙ ap (λ b. if b then Todo.Rest (unreached d.misses) else Todo.Unit) missed
+rests_missed d t e x3 same missed = grind arith
 
 -- where eight misses came in a row, it rests
 pub unreached_is_found : GoesBySize → UnreachedIsFound

@@ -1,61 +1,27 @@
 -- What holds of every driver is kept by what it is given.
-use Rattle.std.proofs.Common.{◌≡◌, ℕ, suc, ◌+◌, ◌-◌, ◌<◌, ◌≤◌, Bool, true, false, if◌then◌else◌, ◌==◌, nat_eq, nat_lt, List, [], ◌∷◌, ◌++◌, length, Option, Some, None, refl, ap, arith, length-append}
+use Rattle.std.proofs.Common.{◌≡◌, ℕ, suc, ◌+◌, ◌-◌, ◌<◌, ◌≤◌, Bool, true, false, if◌then◌else◌, ◌==◌, nat_lt, List, [], ◌∷◌, ◌++◌, length, Option, Some, None, refl, ap, arith, length-append}
 use Rattle.std.proofs.lemmas.Bool.Decides.{nat_tests}
 use Rattle.ucm_base.specs.Limits.{block_limit}
 use Rattle.ucm_base.specs.declared.ids.CallNo.{CallNo}
-use Rattle.pm_types.specs.NodeState.{is_working}
 use Rattle.pm_types.specs.declared.replies.Reply.{Reply}
 use Rattle.pm_types.specs.declared.replies.Reply.TheVariants.{Done, Started, Synced, Refused}
 use Rattle.pm_types.specs.declared.replies.SessionMark.{SessionMark}
 use Rattle.pm_types.specs.declared.status.Status.{Status}
-use Rattle.pm_types.specs.declared.status.Status.TheVariants.{Idle, Ready, Processing, Activating, Verifying, Activated, RollingBack, RolledBack, CleaningUp}
 use Rattle.sub_core.specs.declared.answers.PackageSize.{PackageSize}
 use Rattle.sub_core.specs.declared.answers.Round.{Round}
 use Rattle.sub_core.specs.declared.answers.SendStep.{SendStep}
 use Rattle.sub_core.specs.declared.progress.EndProgress.{EndProgress}
 use Rattle.sub_core.specs.declared.progress.Progress.{Progress}
-use Rattle.sub_core.specs.Driving.{at_free, at_session, at_status, begun, end_after, end_step, is_missed, missed, next_no, next_transfer, opened, progress_after, replied, settled_after, whole_by, with_whole, worked}
-use Rattle.sub_core.specs.States.{DriverState, IsPlaced, IsPlacedEnd, IsSound, NeedsNone, number_limit, size_at}
-
-bare_step : (commit : Bool) (status : Status) → NeedsNone (end_step commit status)
-bare_step true Activated = tt
-bare_step true Idle = tt
-bare_step true Ready = tt
-bare_step true Processing = tt
-bare_step true Activating = tt
-bare_step true Verifying = tt
-bare_step true RollingBack = tt
-bare_step true RolledBack = tt
-bare_step true CleaningUp = tt
-bare_step false Activated = tt
-bare_step false Idle = tt
-bare_step false Ready = tt
-bare_step false Processing = tt
-bare_step false Activating = tt
-bare_step false Verifying = tt
-bare_step false RollingBack = tt
-bare_step false RolledBack = tt
-bare_step false CleaningUp = tt
+use Rattle.sub_core.specs.Driving.{at_session, begun, end_after, is_missed, missed, next_no, next_transfer, opened, progress_after, replied, settled_after, whole_by, with_whole, worked}
+use Rattle.sub_core.specs.States.{DriverState, IsPlaced, IsPlacedEnd, IsSound, number_limit, size_at}
 
 end_if : (b : Bool) (p q : EndProgress) → IsPlacedEnd p → IsPlacedEnd q → IsPlacedEnd (if b then p else q)
 end_if true p q one other = one
 end_if false p q one other = other
 
-end_status : (commit : Bool) (status : Status) → IsPlacedEnd (at_status commit status)
-end_status commit status =
-    end_if (is_working status) EndProgress.Units (EndProgress.Call (end_step commit status)) tt
-    (bare_step commit status)
-
-end_free : (call_no : CallNo) (ids : List ℕ) → IsPlacedEnd (at_free call_no ids)
-end_free call_no [] = tt
-end_free call_no (id ∷ ids) = omega arith
-
 end_session : (commit : Bool) (call_no : CallNo) (session : Option SessionMark) (ids : List ℕ)
     → IsPlacedEnd (at_session commit call_no session ids)
-end_session commit call_no None ids = end_free call_no ids
-end_session commit call_no (Some mark) ids =
-    end_if (nat_eq mark.owner 0) (at_status commit mark.status) (at_free call_no ids) (end_status commit mark.status)
-    (end_free call_no ids)
+end_session commit call_no x2 ids = grind arith
 
 end_deleted : (listed : List ℕ) (place : ℕ) (b : Bool) → nat_lt (suc place) (length listed) ≡ b
     → IsPlacedEnd (if b then EndProgress.Delete listed (suc place) else EndProgress.Call SendStep.Sync)
@@ -96,14 +62,7 @@ module _ (steps : List PackageSize) (ids : List ℕ) where
       → (left ≡ 0 → IsPlaced steps (ids ++ id ∷ []) next)
       → IsPlaced steps (with_whole ids (if b then Some id else None))
       (if b then next else Progress.Data id (counter + 1) (left - block_limit))
-  block_placed id counter left true next is placed end = end (grind (arith, nat_tests))
-  block_placed id counter left false next is placed end =
-      let some : 0 < left = grind (arith, nat_tests) in (
-        placed.0,
-        omega arith,
-        omega (arith, placed.2, some),
-        omega (arith, placed.1, placed.3, some),
-      )
+  block_placed id counter left x3 next is placed end = grind arith
 
   process_placed : (taken : ℕ) (b : Bool) → nat_lt taken (length ids) ≡ b → length ids ≡ length steps
       → IsPlaced steps ids (if b then Progress.Process (suc taken) false else Progress.Activating)
@@ -150,43 +109,22 @@ placed_after d (Progress.Ending commit at) (Refused why) some placed =
 -- a status
 pub placed_worked : (steps : List PackageSize) (ids : List ℕ) (p : Progress) (status : Status) → IsPlaced steps ids p
     → IsPlaced steps ids (settled_after p status)
-placed_worked steps ids Progress.Sync status placed = placed
-placed_worked steps ids Progress.Transfer status placed = placed
-placed_worked steps ids (Progress.Data id counter left) status placed = placed
-placed_worked steps ids (Progress.Process taken settled) status placed = placed
-placed_worked steps ids Progress.Activating Activated placed = tt
-placed_worked steps ids Progress.Activating RolledBack placed = tt
-placed_worked steps ids Progress.Activating Idle placed = tt
-placed_worked steps ids Progress.Activating Ready placed = tt
-placed_worked steps ids Progress.Activating Processing placed = tt
-placed_worked steps ids Progress.Activating Activating placed = tt
-placed_worked steps ids Progress.Activating Verifying placed = tt
-placed_worked steps ids Progress.Activating RollingBack placed = tt
-placed_worked steps ids Progress.Activating CleaningUp placed = tt
-placed_worked steps ids (Progress.Voted finding) status placed = tt
-placed_worked steps ids (Progress.Ending commit at) status placed = end_status commit status
+placed_worked steps ids x2 x3 placed = grind arith
 
 -- a round
 placed_begun : (round : Round) (d : DriverState) → IsPlaced d.steps d.ids d.progress
     → IsPlaced (begun round d).steps (begun round d).ids (begun round d).progress
-placed_begun Round.Sync d placed = placed
-placed_begun Round.Transfer d placed = placed
-placed_begun Round.Process d placed = placed
-placed_begun Round.Activate d placed = placed
-placed_begun (Round.End commit) d placed = tt
+placed_begun x0 d placed = grind arith
 
-number_begun : (b : Bool) (n : ℕ) → 1 ≤ n → n + (if b then 1 else 0) ≤ number_limit
-    → (1 ≤ (if b then n + 1 else n)) × ((if b then n + 1 else n) + 0 ≤ number_limit)
-number_begun true n first below = (omega (arith, first), omega (arith, below))
-number_begun false n first below = (first, below)
+number_begun : (b : Bool) (n : ℕ) → n + (if b then 1 else 0) ≤ number_limit
+    → (if b then n + 1 else n) + 0 ≤ number_limit
+number_begun true n below = omega (arith, below)
+number_begun false n below = below
 
 module _ (d : DriverState) (sound : IsSound d) where
   pub sound_replied : (reply : Reply) → d.number < number_limit → IsSound (replied reply d)
   sound_replied reply left = record {
     some = sound.some;
-    epoch = sound.epoch;
-    campaign = sound.campaign;
-    first = omega (arith, sound.first);
     numbers = omega (arith, left);
     misses = omega arith;
     placed = placed_after d d.progress reply sound.some sound.placed;
@@ -195,9 +133,6 @@ module _ (d : DriverState) (sound : IsSound d) where
   pub sound_opened : d.number < number_limit → IsSound (opened d)
   sound_opened left = record {
     some = sound.some;
-    epoch = sound.epoch;
-    campaign = sound.campaign;
-    first = sound.first;
     numbers = omega (arith, left);
     misses = sound.misses;
     placed = sound.placed;
@@ -206,9 +141,6 @@ module _ (d : DriverState) (sound : IsSound d) where
   pub sound_missed : (losses faults : ℕ) → is_missed d ≡ false → IsSound (missed losses faults d)
   sound_missed losses faults few = record {
     some = sound.some;
-    epoch = sound.epoch;
-    campaign = sound.campaign;
-    first = sound.first;
     numbers = sound.numbers;
     misses =
         let less : length d.misses < 8 = grind (arith, nat_tests, few) in
@@ -219,23 +151,15 @@ module _ (d : DriverState) (sound : IsSound d) where
   pub sound_worked : (status : Status) → IsSound (worked status d)
   sound_worked status = record {
     some = sound.some;
-    epoch = sound.epoch;
-    campaign = sound.campaign;
-    first = sound.first;
     numbers = sound.numbers;
     misses = omega arith;
     placed = placed_worked d.steps d.ids d.progress status sound.placed;
   }
 
   pub sound_begun : (round : Round) → IsSound (begun round d)
-  sound_begun round =
-      let n = number_begun d.is_open d.number sound.first sound.numbers in
-      record {
-        some = sound.some;
-        epoch = sound.epoch;
-        campaign = sound.campaign;
-        first = n.0;
-        numbers = n.1;
-        misses = omega arith;
-        placed = placed_begun round d sound.placed;
-      }
+  sound_begun round = record {
+    some = sound.some;
+    numbers = number_begun d.is_open d.number sound.numbers;
+    misses = omega arith;
+    placed = placed_begun round d sound.placed;
+  }

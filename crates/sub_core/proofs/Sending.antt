@@ -1,11 +1,10 @@
 -- What a driver asks to be sent is allowed.
-use Rattle.std.proofs.Common.{◌≡◌, ◌⊎◌, inl, inr, ℕ, ◌+◌, Bool, true, false, not, ◌&&◌, ◌||◌, if◌then◌else◌, ◌==◌, nat_eq, nat_lt, nat_le, List, [], ◌∷◌, ◌++◌, length, slice_index_or, Some, None, is_some, refl, sym, ap, subst, ◌∙◌, arith}
+use Rattle.std.proofs.Common.{◌≡◌, ◌⊎◌, inl, inr, ℕ, ◌+◌, Bool, true, false, not, ◌&&◌, ◌||◌, if◌then◌else◌, nat_eq, List, [], ◌∷◌, ◌++◌, length, Some, None, is_some, refl, sym, ap, subst, ◌∙◌, arith}
 use Rattle.std.proofs.lemmas.Bool.Decides.{nat_tests}
 use Rattle.std.specs.List.{AllByRecursion}
 use Rattle.ucm_base.specs.declared.ids.CallNo.{CallNo}
 use Rattle.pm_types.specs.declared.replies.Reply.{Reply}
 use Rattle.campaign_core.specs.Nodes.{flag_of}
-use Rattle.campaign_core.specs.declared.events.Phase.{Phase}
 use Rattle.campaign_core.specs.declared.fold.Current.{Current}
 use Rattle.world.specs.Attempts.{Attempt, told_by, sent_by, replies_by, RepliesAreGot}
 use Rattle.world.specs.Messages.{Message, Told, Answered, Showed, is_sync, is_told, told_reply}
@@ -15,21 +14,21 @@ use Rattle.world.specs.Sends.{MaySendBy, Packages, delete_at, end_call_at, is_du
 use Rattle.sub_core.specs.declared.answers.Finding.{Finding}
 use Rattle.sub_core.specs.declared.answers.Round.{Round}
 use Rattle.sub_core.specs.declared.answers.SendStep.{SendStep}
-use Rattle.sub_core.specs.declared.answers.Todo.{Todo}
 use Rattle.sub_core.specs.declared.progress.EndProgress.{EndProgress}
 use Rattle.sub_core.specs.declared.progress.Progress.{Progress}
 use Rattle.sub_core.specs.declared.progress.Wish.{Wish}
 use Rattle.sub_core.specs.Calls.{call_of, step_bytes}
-use Rattle.sub_core.specs.Driving.{at_shown, is_over, next_no, round_step, todo, todo_for, wish, wish_at, IsBeforeEnd}
+use Rattle.sub_core.specs.Driving.{at_shown, is_over, next_no, round_step, todo_for, wish, wish_at, IsBeforeEnd}
 use Rattle.sub_core.specs.Ending.{end_at}
 use Rattle.sub_core.specs.Evidence.{EndIsFound}
 use Rattle.sub_core.specs.Given.{AreGiven, Given, IsTask, Task, after, attempts, message_of, sent_of, told_of}
 use Rattle.sub_core.specs.Sends.{AreEarlier, AreNumbered, CallsAreNext, IsAgain, IsAtEnd, IsInRound, IsMasters, IsNew, RepliesAreRead, SendsAreAllowed, decision_of, phase_of}
-use Rattle.sub_core.specs.States.{DriverState, size_at}
+use Rattle.sub_core.specs.States.{DriverState}
 use Rattle.sub_core.proofs.Allowed.{at_of_todo, early_at, late_told}
 use Rattle.sub_core.proofs.Ends.{end_sync_decided, rest_shown}
 use Rattle.sub_core.proofs.Journeys.{Stands, stands}
-use Rattle.sub_core.proofs.Kept.{FollowsAt, IsEndRound, IsKept, IsOpen, OpenAt, ToldBelow, early_at_round, early_call, not_ending, not_epoch, untold, no_end}
+use Rattle.sub_core.proofs.Kept.{FollowsAt, IsEndRound, IsKept, IsOpen, OpenAt, ToldBelow, early_at_round, early_call, not_ending, not_epoch, untold}
+use Rattle.sub_core.proofs.Begins.{no_end}
 use Rattle.sub_core.proofs.Stages.{IsCalling, calls_of_wish, wish_of_todo}
 
 -- the round of a call has come
@@ -39,63 +38,14 @@ open_round : (b : Bool) (other asked : SendStep)
 open_round true other asked is = absurd (cc is)
 open_round false other asked is = refl
 
-due_data : (lent : List (List ℕ)) (phase : Phase) (b : Bool) (p id counter : ℕ)
-    → is_due (Some phase) (call_of lent (if b then SendStep.Exit id else SendStep.Data p id counter)) ≡ true
-due_data lent phase true p id counter = refl
-due_data lent phase false p id counter = refl
-
-due_process : (lent : List (List ℕ)) (b : Bool) (id tag : ℕ)
-    → is_due (Some Phase.Activating) (call_of lent (if b then SendStep.Process id tag else SendStep.Activate)) ≡ true
-due_process lent true id tag = refl
-due_process lent false id tag = refl
-
-due_before : (lent : List (List ℕ)) (b : Bool) (id tag : ℕ) → b ≡ true
-    → is_due (Some Phase.Processing) (call_of lent (if b then SendStep.Process id tag else SendStep.Activate)) ≡ true
-due_before lent true id tag is = refl
-due_before lent false id tag is = absurd (cc is)
-
-left_of : (taken n : ℕ) → nat_le n taken ≡ false → nat_lt taken n ≡ true
-left_of taken n is = grind (arith, nat_tests)
-
 due_at : (lent : List (List ℕ)) (d : DriverState) (round : Round) (p : Progress) → IsBeforeEnd (Some round) → IsCalling
     p
     → is_over (Some round) d.ids p ≡ false → is_due (phase_of round) (call_of lent (round_step d p)) ≡ true
-due_at lent d round Progress.Sync rounds calling over = refl
-due_at lent d Round.Sync Progress.Transfer rounds calling over = absurd (cc over)
-due_at lent d Round.Sync (Progress.Data id counter left) rounds calling over = absurd (cc over)
-due_at lent d Round.Sync (Progress.Process taken settled) rounds calling over = absurd (cc over)
-due_at lent d Round.Transfer Progress.Transfer rounds calling over = refl
-due_at lent d Round.Process Progress.Transfer rounds calling over = refl
-due_at lent d Round.Activate Progress.Transfer rounds calling over = refl
-due_at lent d Round.Transfer (Progress.Data id counter left) rounds calling over =
-    due_data lent Phase.Transferring (left == 0) (size_at d.steps (length d.ids)).index id counter
-due_at lent d Round.Process (Progress.Data id counter left) rounds calling over =
-    due_data lent Phase.Processing (left == 0) (size_at d.steps (length d.ids)).index id counter
-due_at lent d Round.Activate (Progress.Data id counter left) rounds calling over =
-    due_data lent Phase.Activating (left == 0) (size_at d.steps (length d.ids)).index id counter
-due_at lent d Round.Transfer (Progress.Process taken settled) rounds calling over = absurd (cc over)
-due_at lent d Round.Process (Progress.Process taken settled) rounds calling over =
-    due_before lent (nat_lt taken (length d.ids)) (slice_index_or d.ids taken 0) d.campaign
-    (left_of taken (length d.ids) over)
-due_at lent d Round.Activate (Progress.Process taken settled) rounds calling over =
-    due_process lent (nat_lt taken (length d.ids)) (slice_index_or d.ids taken 0) d.campaign
-due_at lent d (Round.End commit) p rounds calling over = absurd rounds
-due_at lent d round Progress.Activating rounds calling over = absurd calling
-due_at lent d round (Progress.Voted finding) rounds calling over = absurd calling
-due_at lent d round (Progress.Ending commit at) rounds calling over = absurd calling
+due_at lent d x2 x3 rounds calling over = grind arith
 
 over_at : (d : DriverState) (p : Progress) (asked : SendStep) → IsCalling p → wish_at d p ≡ Wish.Send asked
     → is_over d.round d.ids p ≡ false
-over_at d Progress.Sync asked calling is = open_round _ (round_step d Progress.Sync) asked is
-over_at d Progress.Transfer asked calling is = open_round _ (round_step d Progress.Transfer) asked is
-over_at d (Progress.Data id counter left) asked calling is =
-    open_round _ (round_step d (Progress.Data id counter left)) asked is
-over_at d (Progress.Process taken true) asked calling is =
-    open_round _ (round_step d (Progress.Process taken true)) asked is
-over_at d (Progress.Process taken false) asked calling is = absurd (cc is)
-over_at d Progress.Activating asked calling is = absurd calling
-over_at d (Progress.Voted finding) asked calling is = absurd calling
-over_at d (Progress.Ending commit at) asked calling is = absurd calling
+over_at d x1 asked calling is = grind arith
 
 -- what was sent before
 
@@ -154,22 +104,13 @@ replies_are_read by_size got lent task gs is given_ rounds earlier before =
     ∙ got task.campaign (attempts lent task gs) (kept.order rounds)
 
 follow_other : (a b c d : Bool) → (a && b) ≡ false → (not a || (c || (not b || d))) ≡ true
-follow_other true true c d is = absurd (cc is)
-follow_other true false true d is = refl
-follow_other true false false d is = refl
-follow_other false b c d is = refl
+follow_other x0 x1 x2 d is = grind arith
 
 follow_told : (a b c : Bool) → b ≡ true → (a || (b || c)) ≡ true
-follow_told true b c is = refl
-follow_told false true c is = refl
-follow_told false false c is = absurd (cc is)
+follow_told x0 x1 c is = grind arith
 
 follow_decided : (a b c decided : Bool) → decided ≡ false → (a || (b || (c || (not decided && true)))) ≡ true
-follow_decided true b c decided is = refl
-follow_decided false true c decided is = refl
-follow_decided false false true decided is = refl
-follow_decided false false false true is = absurd (cc is)
-follow_decided false false false false is = refl
+follow_decided x0 x1 x2 x3 is = grind arith
 
 module _ (by_size : GoesBySize) (got : RepliesAreGot) (lent : List (List ℕ)) (task : Task) (gs : List Given)
     (is : IsTask lent task) (given_ : AreGiven task gs) (packages : Packages) (n : ℕ)
@@ -193,152 +134,151 @@ module _ (by_size : GoesBySize) (got : RepliesAreGot) (lent : List (List ℕ)) (
   kept : IsKept lent task d tries
   kept = so_far.kept
 
-  module _ (asked : SendStep) (wishes : wish d ≡ Wish.Send asked) (asks : todo d ≡ Todo.Send (next_no d) asked)
-    where
-      abbrev m : Message
-      m = message_of lent d (next_no d) asked
+  module _ (asked : SendStep) (wishes : wish d ≡ Wish.Send asked) where
+    abbrev m : Message
+    m = message_of lent d (next_no d) asked
 
-      -- the newest message again
-      again : IsOpen lent d sent → IsAgain m told (sent ++ earlier)
-      again is_open =
-          let same : is_open.asked ≡ asked = cc (sym is_open.wish ∙ wishes) in
-          record {
-            older = is_open.older ++ earlier;
-            newest = ap (λ l. l ++ earlier)
-                (is_open.newest ∙ ap (λ a. message_of lent d (next_no d) a ∷ is_open.older) same);
-            pending = ap is_some (untold task.epoch (next_no d) told kept.below);
-          }
+    -- the newest message again
+    again : IsOpen lent d sent → IsAgain m told (sent ++ earlier)
+    again is_open =
+        let same : is_open.asked ≡ asked = cc (sym is_open.wish ∙ wishes) in
+        record {
+          older = is_open.older ++ earlier;
+          newest = ap (λ l. l ++ earlier)
+              (is_open.newest ∙ ap (λ a. message_of lent d (next_no d) a ∷ is_open.older) same);
+          pending = ap is_some (untold task.epoch (next_no d) told kept.below);
+        }
 
-      -- a new message has the next number
-      next_of : (own : List Message) → AreNumbered task.epoch task.first own → d.number + 0 ≡ task.first + length own
-          → m.at ≡ next_number d.epoch (own ++ earlier)
-      next_of [] numbered count =
-          let number : d.number ≡ task.first = omega (arith, count) in
-          ap (λ x. record { epoch = d.epoch; number = x }) number
-          ∙ (ap (λ x. record { epoch = x; number = task.first }) kept.epoch
-          ∙ (sym before.next ∙ ap (λ e. next_number e earlier) (sym kept.epoch)))
-      next_of (newest ∷ older) numbered count =
-          let number : newest.at.number ≡ task.first + length older = ap (λ a. a.number) numbered.0 in
-          let same : nat_eq newest.at.epoch d.epoch ≡ true =
-          ap (λ a. nat_eq a.epoch d.epoch) numbered.0 ∙ (ap (nat_eq task.epoch) kept.epoch ∙ same_number task.epoch) in
-          let up : d.number ≡ newest.at.number + 1 = omega (arith, count, number) in
-          ap (λ x. record { epoch = d.epoch; number = x })
-          (up ∙ sym (ap (λ b. if b then newest.at.number + 1 else 1) same))
-        where
-          same_number : (x : ℕ) → nat_eq x x ≡ true
-          same_number x = grind (arith, nat_tests)
+    -- a new message has the next number
+    next_of : (own : List Message) → AreNumbered task.epoch task.first own → d.number + 0 ≡ task.first + length own
+        → m.at ≡ next_number d.epoch (own ++ earlier)
+    next_of [] numbered count =
+        let number : d.number ≡ task.first = omega (arith, count) in
+        ap (λ x. record { epoch = d.epoch; number = x }) number
+        ∙ (ap (λ x. record { epoch = x; number = task.first }) kept.epoch
+        ∙ (sym before.next ∙ ap (λ e. next_number e earlier) (sym kept.epoch)))
+    next_of (newest ∷ older) numbered count =
+        let number : newest.at.number ≡ task.first + length older = ap (λ a. a.number) numbered.0 in
+        let same : nat_eq newest.at.epoch d.epoch ≡ true =
+        ap (λ a. nat_eq a.epoch d.epoch) numbered.0 ∙ (ap (nat_eq task.epoch) kept.epoch ∙ same_number task.epoch) in
+        let up : d.number ≡ newest.at.number + 1 = omega (arith, count, number) in
+        ap (λ x. record { epoch = d.epoch; number = x })
+        (up ∙ sym (ap (λ b. if b then newest.at.number + 1 else 1) same))
+      where
+        same_number : (x : ℕ) → nat_eq x x ≡ true
+        same_number x = grind (arith, nat_tests)
 
-      -- and the message before it is done with
-      follows_of : (own : List Message) → FollowsAt false d.round told own → c.campaign ≡ task.campaign
-          → (IsEndRound d.round → is_some c.decision ≡ true) → may_follow d.epoch c told (own ++ earlier) ≡ true
-      follows_of [] follows of_k decided = first earlier before.other
-        where
-          first : (ms : List Message)
-              → AllByRecursion (λ m. (nat_eq m.at.epoch task.epoch && nat_eq m.campaign task.campaign) ≡ false) ms
-              → may_follow d.epoch c told ms ≡ true
-          first [] other = refl
-          first (x ∷ xs) other =
-              follow_other (nat_eq x.at.epoch d.epoch) (nat_eq x.campaign c.campaign) (is_told told x.at)
-              (not x.decided && is_some c.decision)
-              (ap (λ e. nat_eq x.at.epoch e && nat_eq x.campaign c.campaign) kept.epoch
-              ∙ (ap (λ k. nat_eq x.at.epoch task.epoch && nat_eq x.campaign k) of_k ∙ other.0))
-      follows_of (x ∷ own) (inl answered) of_k decided =
-          follow_told (not (nat_eq x.at.epoch d.epoch)) (is_told told x.at)
-          (not (nat_eq x.campaign c.campaign) || (not x.decided && is_some c.decision)) answered
-      follows_of (x ∷ own) (inr ended) of_k decided =
-          ap (λ b. not (nat_eq x.at.epoch d.epoch)
-          || (is_told told x.at || (not (nat_eq x.campaign c.campaign) || (not x.decided && b)))) (decided ended.1)
-          ∙ follow_decided (not (nat_eq x.at.epoch d.epoch)) (is_told told x.at) (not (nat_eq x.campaign c.campaign))
-          x.decided ended.0
+    -- and the message before it is done with
+    follows_of : (own : List Message) → FollowsAt false d.round told own → c.campaign ≡ task.campaign
+        → (IsEndRound d.round → is_some c.decision ≡ true) → may_follow d.epoch c told (own ++ earlier) ≡ true
+    follows_of [] follows of_k decided = first earlier before.other
+      where
+        first : (ms : List Message)
+            → AllByRecursion (λ m. (nat_eq m.at.epoch task.epoch && nat_eq m.campaign task.campaign) ≡ false) ms
+            → may_follow d.epoch c told ms ≡ true
+        first [] other = refl
+        first (x ∷ xs) other =
+            follow_other (nat_eq x.at.epoch d.epoch) (nat_eq x.campaign c.campaign) (is_told told x.at)
+            (not x.decided && is_some c.decision)
+            (ap (λ e. nat_eq x.at.epoch e && nat_eq x.campaign c.campaign) kept.epoch
+            ∙ (ap (λ k. nat_eq x.at.epoch task.epoch && nat_eq x.campaign k) of_k ∙ other.0))
+    follows_of (x ∷ own) (inl answered) of_k decided =
+        follow_told (not (nat_eq x.at.epoch d.epoch)) (is_told told x.at)
+        (not (nat_eq x.campaign c.campaign) || (not x.decided && is_some c.decision)) answered
+    follows_of (x ∷ own) (inr ended) of_k decided =
+        ap (λ b. not (nat_eq x.at.epoch d.epoch)
+        || (is_told told x.at || (not (nat_eq x.campaign c.campaign) || (not x.decided && b)))) (decided ended.1)
+        ∙ follow_decided (not (nat_eq x.at.epoch d.epoch)) (is_told told x.at) (not (nat_eq x.campaign c.campaign))
+        x.decided ended.0
 
-      new_by : (b : Bool) → d.is_open ≡ b → b ≡ false → flag_of c.named n ≡ true → c.campaign ≡ task.campaign
-          → (IsEndRound d.round → is_some c.decision ≡ true)
+    new_by : (b : Bool) → d.is_open ≡ b → b ≡ false → flag_of c.named n ≡ true → c.campaign ≡ task.campaign
+        → (IsEndRound d.round → is_some c.decision ≡ true)
+        → MaySendBy packages d.epoch n c c.decision told (sent ++ earlier) m.call
+        → IsNew packages n c m told (sent ++ earlier)
+    new_by b is_b closed named of_k decided by =
+        let shut : d.is_open ≡ false = is_b ∙ closed in
+        record {
+          allowed = record {
+            named = named;
+            follows = follows_of sent (subst (λ o. FollowsAt o d.round told sent) shut kept.follows) of_k decided;
+            by = by;
+          };
+          next = next_of sent kept.numbered
+              (subst (λ o. d.number + (if o then 1 else 0) ≡ task.first + length sent) shut kept.count);
+        }
+
+    module _ (round : Round) (here : d.round ≡ Some round) where
+      -- in the rounds
+      early_by : IsBeforeEnd (Some round) → IsInRound n task round c
           → MaySendBy packages d.epoch n c c.decision told (sent ++ earlier) m.call
-          → IsNew packages n c m told (sent ++ earlier)
-      new_by b is_b closed named of_k decided by =
-          let shut : d.is_open ≡ false = is_b ∙ closed in
-          record {
-            allowed = record {
-              named = named;
-              follows = follows_of sent (subst (λ o. FollowsAt o d.round told sent) shut kept.follows) of_k decided;
-              by = by;
-            };
-            next = next_of sent kept.numbered
-                (subst (λ o. d.number + (if o then 1 else 0) ≡ task.first + length sent) shut kept.count);
-          }
+      early_by rounds master =
+          let in_rounds = subst IsBeforeEnd (sym here) rounds in
+          let early = not_ending d.progress (early_at_round d.round d.progress in_rounds kept.within) in
+          let t = early_at d.campaign d.epoch d d.progress told asked kept.told early wishes in
+          let call = calls_of_wish d d.progress asked wishes early in
+          let replies : replies_of task.campaign told (sent ++ earlier) ≡ replies_by tries =
+          replies_are_read by_size got lent task gs is given_ in_rounds earlier before in
+          let next = early_call by_size lent task d tries kept is.there asked wishes
+          (early_at_round d.round d.progress in_rounds kept.within) in
+          let over = over_at d d.progress asked call.0 wishes in
+          subst (λ x. MaySendBy packages d.epoch n c x told (sent ++ earlier) m.call) (sym master.undecided) (record {
+            no_mark = master.no_mark;
+            no_vote = master.no_vote;
+            no_refusal = t.0;
+            next = subst
+                (λ k. call_at k (stage_of (packages k n) AtSync (replies_of k told (sent ++ earlier))) ≡ Some m.call)
+                (sym master.campaign)
+                (ap (λ ps. call_at task.campaign (stage_of ps AtSync
+                (replies_of task.campaign told (sent ++ earlier))))
+                of_node
+                ∙ (ap (λ rs. call_at task.campaign (stage_of (step_bytes lent task.steps) AtSync rs)) replies
+                ∙ next));
+            due = ap (λ phase. is_due phase m.call) master.phase
+                ∙ (ap (λ a. is_due (phase_of round) (call_of lent a)) (sym call.1)
+                ∙ due_at lent d round d.progress rounds call.0
+                (subst (λ r. is_over r d.ids d.progress ≡ false) here over));
+            settled = t.1;
+          })
 
-      module _ (round : Round) (here : d.round ≡ Some round) where
-        -- in the rounds
-        early_by : IsBeforeEnd (Some round) → IsInRound n task round c
-            → MaySendBy packages d.epoch n c c.decision told (sent ++ earlier) m.call
-        early_by rounds master =
-            let in_rounds = subst IsBeforeEnd (sym here) rounds in
-            let early = not_ending d.progress (early_at_round d.round d.progress in_rounds kept.within) in
-            let t = early_at d.campaign d.epoch d d.progress told asked kept.told early wishes in
-            let call = calls_of_wish d d.progress asked wishes early in
-            let replies : replies_of task.campaign told (sent ++ earlier) ≡ replies_by tries =
-            replies_are_read by_size got lent task gs is given_ in_rounds earlier before in
-            let next = early_call by_size lent task d tries kept is.there asked wishes
-            (early_at_round d.round d.progress in_rounds kept.within) in
-            let over = over_at d d.progress asked call.0 wishes in
-            subst (λ x. MaySendBy packages d.epoch n c x told (sent ++ earlier) m.call) (sym master.undecided) (record {
-              no_mark = master.no_mark;
-              no_vote = master.no_vote;
-              no_refusal = t.0;
-              next = subst
-                  (λ k. call_at k (stage_of (packages k n) AtSync (replies_of k told (sent ++ earlier))) ≡ Some m.call)
-                  (sym master.campaign)
-                  (ap (λ ps. call_at task.campaign (stage_of ps AtSync
-                  (replies_of task.campaign told (sent ++ earlier))))
-                  of_node
-                  ∙ (ap (λ rs. call_at task.campaign (stage_of (step_bytes lent task.steps) AtSync rs)) replies
-                  ∙ next));
-              due = ap (λ phase. is_due phase m.call) master.phase
-                  ∙ (ap (λ a. is_due (phase_of round) (call_of lent a)) (sym call.1)
-                  ∙ due_at lent d round d.progress rounds call.0
-                  (subst (λ r. is_over r d.ids d.progress ≡ false) here over));
-              settled = t.1;
-            })
-
-        -- at the end
-        late_by : (commit : Bool) (end : EndProgress) → d.progress ≡ Progress.Ending commit end → IsAtEnd n task commit
-            c
-            → MaySendBy packages d.epoch n c c.decision told (sent ++ earlier) m.call
-        late_by commit end at_end master =
-            subst (λ x. MaySendBy packages d.epoch n c x told (sent ++ earlier) m.call) (sym master.decided) (record {
-              not_ended = master.not_ended;
-              allowed = subst
-                  (λ k. (is_sync m.call
-                  || (end_call_at (decision_of commit master.cause) (last_status k d.epoch told) m.call
-                  || delete_at (last_shown k d.epoch told) m.call))
-                  ≡ true)
-                  (kept.campaign ∙ sym master.campaign)
-                  (late_told lent d told commit end at_end kept.sound kept.told (next_no d) asked asks master.cause);
-            })
-
-      -- which of both
-      allowed_if : (b : Bool) → d.is_open ≡ b → OpenAt lent b d sent → (flag_of c.named n ≡ true)
-          → c.campaign ≡ task.campaign → (IsEndRound d.round → is_some c.decision ≡ true)
+      -- at the end
+      late_by : (commit : Bool) (end : EndProgress) → d.progress ≡ Progress.Ending commit end → IsAtEnd n task commit
+          c
           → MaySendBy packages d.epoch n c c.decision told (sent ++ earlier) m.call
-          → IsNew packages n c m told (sent ++ earlier) ⊎ IsAgain m told (sent ++ earlier)
-      allowed_if true is_b is_open named of_k decided by = inr (again is_open)
-      allowed_if false is_b is_open named of_k decided by = inl (new_by false is_b refl named of_k decided by)
+      late_by commit end at_end master =
+          subst (λ x. MaySendBy packages d.epoch n c x told (sent ++ earlier) m.call) (sym master.decided) (record {
+            not_ended = master.not_ended;
+            allowed = subst
+                (λ k. (is_sync m.call
+                || (end_call_at (decision_of commit master.cause) (last_status k d.epoch told) m.call
+                || delete_at (last_shown k d.epoch told) m.call))
+                ≡ true)
+                (kept.campaign ∙ sym master.campaign)
+                (late_told lent d told commit end at_end kept.sound kept.told asked wishes master.cause);
+          })
 
-      in_round : (round : Round) → d.round ≡ Some round → IsBeforeEnd (Some round) → IsInRound n task round c
-          → IsNew packages n c m told (sent ++ earlier) ⊎ IsAgain m told (sent ++ earlier)
-      in_round round here rounds master =
-          allowed_if d.is_open refl kept.pending master.named master.campaign
-          (λ end. absurd (no_end (Some round) rounds (subst IsEndRound here end))) (early_by round here rounds master)
+    -- which of both
+    allowed_if : (b : Bool) → d.is_open ≡ b → OpenAt lent b d sent → (flag_of c.named n ≡ true)
+        → c.campaign ≡ task.campaign → (IsEndRound d.round → is_some c.decision ≡ true)
+        → MaySendBy packages d.epoch n c c.decision told (sent ++ earlier) m.call
+        → IsNew packages n c m told (sent ++ earlier) ⊎ IsAgain m told (sent ++ earlier)
+    allowed_if true is_b is_open named of_k decided by = inr (again is_open)
+    allowed_if false is_b is_open named of_k decided by = inl (new_by false is_b refl named of_k decided by)
 
-      allowed_at : (round : Round) → d.round ≡ Some round → IsMasters n task round c
-          → IsNew packages n c m told (sent ++ earlier) ⊎ IsAgain m told (sent ++ earlier)
-      allowed_at Round.Sync here master = in_round Round.Sync here tt master
-      allowed_at Round.Transfer here master = in_round Round.Transfer here tt master
-      allowed_at Round.Process here master = in_round Round.Process here tt master
-      allowed_at Round.Activate here master = in_round Round.Activate here tt master
-      allowed_at (Round.End commit) here master =
-          allowed_if d.is_open refl kept.pending master.named master.campaign (λ e. ap is_some master.decided)
-          (late_by (Round.End commit) here commit (end_at commit told) (kept.end commit here) master)
+    in_round : (round : Round) → d.round ≡ Some round → IsBeforeEnd (Some round) → IsInRound n task round c
+        → IsNew packages n c m told (sent ++ earlier) ⊎ IsAgain m told (sent ++ earlier)
+    in_round round here rounds master =
+        allowed_if d.is_open refl kept.pending master.named master.campaign
+        (λ end. absurd (no_end (Some round) rounds (subst IsEndRound here end))) (early_by round here rounds master)
+
+    allowed_at : (round : Round) → d.round ≡ Some round → IsMasters n task round c
+        → IsNew packages n c m told (sent ++ earlier) ⊎ IsAgain m told (sent ++ earlier)
+    allowed_at Round.Sync here master = in_round Round.Sync here tt master
+    allowed_at Round.Transfer here master = in_round Round.Transfer here tt master
+    allowed_at Round.Process here master = in_round Round.Process here tt master
+    allowed_at Round.Activate here master = in_round Round.Activate here tt master
+    allowed_at (Round.End commit) here master =
+        allowed_if d.is_open refl kept.pending master.named master.campaign (λ e. ap is_some master.decided)
+        (late_by (Round.End commit) here commit (end_at commit told) (kept.end commit here) master)
 
 -- each call that a driver asks for is allowed
 pub sends_are_allowed : GoesBySize → RepliesAreGot → SendsAreAllowed
@@ -351,7 +291,7 @@ sends_are_allowed by_size got lent task gs is given_ packages n of_node earlier 
     ⊎ IsAgain (message_of lent d x asked) (told_of lent task gs) (sent_of lent task gs ++ earlier))
     at
     (allowed_at by_size got lent task gs is given_ packages n of_node earlier before c asked
-    (wish_of_todo d (wish d) call_no asked asks) (asks ∙ ap (λ x. Todo.Send x asked) (sym at)) round here master)
+    (wish_of_todo d (wish d) call_no asked asks) round here master)
 
 -- a Sync at rest ends it
 pub end_is_found : GoesBySize → EndIsFound

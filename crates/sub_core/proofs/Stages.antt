@@ -1,5 +1,5 @@
 -- A driver goes by the stages of the rounds.
-use Rattle.std.proofs.Common.{◌≡◌, ℕ, zero, suc, ◌+◌, ◌-◌, ◌<◌, ◌≤◌, Bool, true, false, if◌then◌else◌, ◌==◌, nat_lt, nat_le, List, [], ◌∷◌, ◌++◌, length, map, drop, slice_index_or, Some, None, refl, sym, ap, subst, ◌∙◌, arith, append-nil, length-append}
+use Rattle.std.proofs.Common.{◌≡◌, ℕ, zero, suc, ◌+◌, ◌-◌, ◌<◌, ◌≤◌, Bool, true, false, if◌then◌else◌, ◌==◌, nat_lt, nat_le, List, [], ◌∷◌, ◌++◌, length, map, drop, slice_index_or, Some, None, refl, sym, ap, subst, ◌∙◌, arith, length-append}
 use Rattle.std.proofs.Math.ListN.{drop_of_length-le}
 use Rattle.std.proofs.lemmas.Bool.Decides.{nat_tests}
 use Rattle.std.specs.Prelude.{option_map}
@@ -9,15 +9,12 @@ use Rattle.pm_types.specs.declared.calls.Call.{Call}
 use Rattle.pm_types.specs.declared.replies.Reply.{Reply}
 use Rattle.pm_types.specs.declared.replies.Reply.TheVariants.{Done, Started, Synced, Refused}
 use Rattle.pm_types.specs.declared.status.Status.{Status}
-use Rattle.pm_types.specs.declared.status.Status.TheVariants.{Idle, Ready, Processing, Activating, Verifying, Activated, RollingBack, RolledBack, CleaningUp}
 use Rattle.campaign_core.specs.declared.events.Phase.{Phase}
 use Rattle.world.specs.RoundCalls.{is_past}
 use Rattle.world.specs.Rounds.{StageOf, AtSync, AtStart, AtData, AtProcess, call_at, next_package, next_processed, stage_of}
 use Rattle.world.specs.RoundsBySize.{GoesBySize, block_of, onward_by_size, stage_by_size, step_at}
 use Rattle.world.specs.RoundsBySize.{call_of as world_call}
-use Rattle.world.specs.Sends.{one_if}
 use Rattle.sub_core.specs.declared.answers.Finding.{Finding}
-use Rattle.sub_core.specs.declared.answers.Got.{Got}
 use Rattle.sub_core.specs.declared.answers.PackageSize.{PackageSize}
 use Rattle.sub_core.specs.declared.answers.Round.{Round}
 use Rattle.sub_core.specs.declared.answers.SendStep.{SendStep}
@@ -27,10 +24,9 @@ use Rattle.sub_core.specs.declared.progress.Progress.{Progress}
 use Rattle.sub_core.specs.declared.progress.Wish.{Wish}
 use Rattle.sub_core.specs.Calls.{AreThere, bytes_at, call_of, step_bytes}
 use Rattle.sub_core.specs.States.{DriverState, IsPlaced, IsSound, size_at}
-use Rattle.sub_core.specs.Driving.{after_send, after_todo, after_unit, begun, call_wish, end_wish, has_number, is_answer, is_missed, is_over, next_no, next_transfer, opened, progress_after, replied, round_after, round_step, settled_after, status_of, step, todo, todo_for, unreached, whole_by, wish, wish_at, with_whole, IsEnding}
-use Rattle.sub_core.specs.Given.{reply_got}
+use Rattle.sub_core.specs.Driving.{begun, call_wish, end_wish, is_answer, is_over, next_transfer, progress_after, round_after, round_step, settled_after, todo_for, whole_by, wish, wish_at, with_whole, IsEnding}
 use Rattle.sub_core.specs.Sends.{phase_of}
-use Rattle.sub_core.proofs.Rounds.{StandsAt, StandsFor, reply_to, sizes_of, stage_seen}
+use Rattle.sub_core.proofs.Rounds.{StandsAt, StandsFor, sizes_of, stage_seen}
 
 -- the package that comes next, and those behind it
 first_left : (steps : List PackageSize) (n : ℕ) → n < length steps
@@ -109,11 +105,7 @@ processed_seen d taken false is =
 
 pub not_process : (b : Bool) (id tag : ℕ) (r : Reply)
     → is_answer (if b then SendStep.Process id tag else SendStep.Activate) r ≡ is_answer SendStep.Activate r
-not_process true id tag Done = refl
-not_process true id tag (Started n) = refl
-not_process true id tag (Synced x) = refl
-not_process true id tag (Refused why) = refl
-not_process false id tag r = refl
+not_process x0 id tag x3 = grind arith
 
 -- the progress asks for calls of the rounds
 abbrev pub IsCalling : Progress → Type 0
@@ -180,82 +172,25 @@ stage_snoc : (sizes : List ℕ) (stage : StageOf ℕ) (rs : List Reply) (r : Rep
 stage_snoc sizes stage [] r = refl
 stage_snoc sizes stage (x ∷ rs) r = stage_snoc sizes (onward_by_size sizes stage x) rs r
 
--- what a wish to send says of a driver in the rounds
-send_of : (b : Bool) (f : Finding) (asked other : SendStep)
-    → (if b then Wish.Rest f else Wish.Send other) ≡ Wish.Send asked → (b ≡ false) × (other ≡ asked)
-send_of true f asked other is = absurd (cc is)
-send_of false f asked other is = (refl, cc is)
-
 pub calls_of_wish : (d : DriverState) (p : Progress) (asked : SendStep) → wish_at d p ≡ Wish.Send asked
     → (IsEnding p → ⊥) → IsCalling p × (round_step d p ≡ asked)
-calls_of_wish d Progress.Sync asked is early =
-    (tt, (send_of (is_over d.round d.ids Progress.Sync) Finding.RoundDone asked SendStep.Sync is).1)
-calls_of_wish d Progress.Transfer asked is early = (
-  tt,
-  (send_of (is_over d.round d.ids Progress.Transfer) Finding.RoundDone asked
-      (round_step d Progress.Transfer) is).1,
-)
-calls_of_wish d (Progress.Data id counter left) asked is early = (
-  tt,
-  (send_of (is_over d.round d.ids (Progress.Data id counter left)) Finding.RoundDone asked
-      (round_step d (Progress.Data id counter left)) is).1,
-)
-calls_of_wish d (Progress.Process taken true) asked is early = (
-  tt,
-  (send_of (is_over d.round d.ids (Progress.Process taken true)) Finding.RoundDone asked
-      (round_step d (Progress.Process taken true)) is).1,
-)
-calls_of_wish d (Progress.Process taken false) asked is early = absurd (cc is)
-calls_of_wish d Progress.Activating asked is early = absurd (cc is)
-calls_of_wish d (Progress.Voted finding) asked is early = absurd (cc is)
-calls_of_wish d (Progress.Ending commit at) asked is early = absurd (early tt)
-
-sent_if : (b : Bool) (f : Finding) (at n : CallNo) (asked other : SendStep)
-    → (if b then Todo.Rest f else Todo.Send n other) ≡ Todo.Send at asked → other ≡ asked
-sent_if true f at n asked other is = absurd (cc is)
-sent_if false f at n asked other is = cc is
-
-unit_if : (b : Bool) (f : Finding) (at : CallNo) (asked : SendStep)
-    → (if b then Todo.Rest f else Todo.Unit) ≡ Todo.Send at asked → ⊥
-unit_if true f at asked is = cc is
-unit_if false f at asked is = cc is
+calls_of_wish d x1 asked is early = grind arith
 
 pub wish_of_todo : (d : DriverState) (w : Wish) (at : CallNo) (asked : SendStep) → todo_for d w ≡ Todo.Send at asked
     → w ≡ Wish.Send asked
-wish_of_todo d (Wish.Rest finding) at asked is = absurd (cc is)
-wish_of_todo d (Wish.Send other) at asked is =
-    ap Wish.Send (sent_if (is_missed d) (unreached d.misses) at (next_no d) asked other is)
-wish_of_todo d Wish.Unit at asked is = absurd (unit_if (is_missed d) (unreached d.misses) at asked is)
+wish_of_todo d x1 at asked is = grind arith
 
 -- what a driver stands for, as an equation of stages
 pub stands_calling : (steps : List PackageSize) (ids : List ℕ) (p : Progress) (replies : List Reply) → (IsEnding p → ⊥)
     → StandsAt steps ids p replies → stage_by_size (sizes_of steps) AtSync replies ≡ stage_seen steps ids p
-stands_calling steps ids Progress.Sync replies early stands = stands
-stands_calling steps ids Progress.Transfer replies early stands = stands
-stands_calling steps ids (Progress.Data id counter left) replies early stands = stands
-stands_calling steps ids (Progress.Process taken settled) replies early stands = stands
-stands_calling steps ids Progress.Activating replies early stands = stands
-stands_calling steps ids (Progress.Voted finding) replies early stands = stands
-stands_calling steps ids (Progress.Ending commit at) replies early stands = absurd (early tt)
+stands_calling steps ids x2 replies early stands = grind arith
 
 stands_by : (steps : List PackageSize) (ids : List ℕ) (p : Progress) (replies : List Reply)
     → stage_by_size (sizes_of steps) AtSync replies ≡ stage_seen steps ids p → StandsAt steps ids p replies
-stands_by steps ids Progress.Sync replies is = is
-stands_by steps ids Progress.Transfer replies is = is
-stands_by steps ids (Progress.Data id counter left) replies is = is
-stands_by steps ids (Progress.Process taken settled) replies is = is
-stands_by steps ids Progress.Activating replies is = is
-stands_by steps ids (Progress.Voted finding) replies is = is
-stands_by steps ids (Progress.Ending commit at) replies is = tt
+stands_by steps ids x2 replies is = grind arith
 
 is_early : (p : Progress) → IsCalling p → IsEnding p → ⊥
-is_early Progress.Sync calling ending = ending
-is_early Progress.Transfer calling ending = ending
-is_early (Progress.Data id counter left) calling ending = ending
-is_early (Progress.Process taken settled) calling ending = ending
-is_early Progress.Activating calling ending = calling
-is_early (Progress.Voted finding) calling ending = calling
-is_early (Progress.Ending commit at) calling ending = calling
+is_early x0 calling ending = grind arith
 
 module _ (d : DriverState) (replies : List Reply) (sound : IsSound d) where
   -- a reply to a call of the rounds
@@ -290,72 +225,11 @@ module _ (d : DriverState) (replies : List Reply) (sound : IsSound d) where
 -- a status changes no stage
 pub stands_worked : (steps : List PackageSize) (ids : List ℕ) (p : Progress) (status : Status) (replies : List Reply)
     → StandsAt steps ids p replies → StandsAt steps ids (settled_after p status) replies
-stands_worked steps ids Progress.Sync status replies stands = stands
-stands_worked steps ids Progress.Transfer status replies stands = stands
-stands_worked steps ids (Progress.Data id counter left) status replies stands = stands
-stands_worked steps ids (Progress.Process taken settled) status replies stands = stands
-stands_worked steps ids Progress.Activating Idle replies stands = stands
-stands_worked steps ids Progress.Activating Ready replies stands = stands
-stands_worked steps ids Progress.Activating Processing replies stands = stands
-stands_worked steps ids Progress.Activating Activating replies stands = stands
-stands_worked steps ids Progress.Activating Verifying replies stands = stands
-stands_worked steps ids Progress.Activating Activated replies stands = stands
-stands_worked steps ids Progress.Activating RollingBack replies stands = stands
-stands_worked steps ids Progress.Activating RolledBack replies stands = stands
-stands_worked steps ids Progress.Activating CleaningUp replies stands = stands
-stands_worked steps ids (Progress.Voted finding) status replies stands = stands
-stands_worked steps ids (Progress.Ending commit at) status replies stands = tt
-
-no_more : (d : DriverState) (replies : List Reply) → StandsFor d replies → StandsFor d (replies ++ [])
-no_more d replies stands = subst (StandsFor d) (sym (append-nil replies)) stands
-
-stands_unit : (d : DriverState) (replies : List Reply) (got : Got) → StandsFor d replies
-    → StandsFor (after_unit got d) (replies ++ [])
-stands_unit d replies (Got.Replied reply) stands = no_more d replies stands
-stands_unit d replies (Got.UnitOf unit) stands =
-    no_more (after_unit (Got.UnitOf unit) d) replies
-    (stands_worked d.steps d.ids d.progress (status_of unit) replies stands)
-stands_unit d replies (Got.Miss losses faults) stands =
-    no_more (after_unit (Got.Miss losses faults) d) replies stands
-
-stands_if : (d : DriverState) (replies : List Reply) (reply : Reply) (b : Bool)
-    → (b ≡ true → StandsFor (replied reply d) (replies ++ reply ∷ [])) → StandsFor d replies
-    → StandsFor (if b then replied reply d else opened d) (replies ++ one_if (if b then Some reply else None))
-stands_if d replies reply true counts stands = counts refl
-stands_if d replies reply false counts stands = no_more (opened d) replies stands
-
-stands_send : (d : DriverState) (replies : List Reply) (asked : SendStep) (got : Got) → IsSound d → StandsFor d replies
-    → wish d ≡ Wish.Send asked → StandsFor (after_send asked got d) (replies ++ one_if (reply_got asked got))
-stands_send d replies asked (Got.Replied reply) sound stands is =
-    stands_if d replies reply (is_answer asked reply)
-    (λ fits. stands_replied d replies sound d.progress reply asked sound.placed stands is fits)
-    stands
-stands_send d replies asked (Got.UnitOf unit) sound stands is = no_more (opened d) replies stands
-stands_send d replies asked (Got.Miss losses faults) sound stands is =
-    no_more (after_send asked (Got.Miss losses faults) d) replies stands
-
-stands_todo : (d : DriverState) (replies : List Reply) (t : Todo) (got : Got) → IsSound d → StandsFor d replies
-    → todo d ≡ t → StandsFor (after_todo t got d) (replies ++ one_if (reply_to t got))
-stands_todo d replies (Todo.Send at asked) got sound stands is =
-    stands_send d replies asked got sound stands (wish_of_todo d (wish d) at asked is)
-stands_todo d replies Todo.Unit got sound stands is = stands_unit d replies got stands
-stands_todo d replies (Todo.Rest finding) got sound stands is = no_more d replies stands
-
-pub stands_step : (d : DriverState) (replies : List Reply) (got : Got) → IsSound d → StandsFor d replies
-    → has_number d ≡ true → StandsFor (step got d) (replies ++ one_if (reply_to (todo d) got))
-stands_step d replies got sound stands has =
-    subst
-    (λ b. StandsFor (if b then after_todo (todo d) got d else d) (replies ++ one_if (reply_to (todo d) got)))
-    (sym has)
-    (stands_todo d replies (todo d) got sound stands refl)
+stands_worked steps ids x2 x3 replies stands = grind arith
 
 pub stands_begun : (d : DriverState) (replies : List Reply) (round : Round) → StandsFor d replies
     → StandsFor (begun round d) replies
-stands_begun d replies Round.Sync stands = stands
-stands_begun d replies Round.Transfer stands = stands
-stands_begun d replies Round.Process stands = stands
-stands_begun d replies Round.Activate stands = stands
-stands_begun d replies (Round.End commit) stands = tt
+stands_begun d replies x2 stands = grind arith
 
 -- the bytes of the step at a place
 at_bytes : (packages : List (List ℕ)) (steps : List PackageSize) (n : ℕ) → n < length steps
@@ -434,12 +308,7 @@ done_if false f t other missed is = other is
 
 pub done_of_todo : (d : DriverState) (w : Wish) → todo_for d w ≡ Todo.Rest Finding.RoundDone
     → w ≡ Wish.Rest Finding.RoundDone
-done_of_todo d (Wish.Rest finding) is = let same : finding ≡ Finding.RoundDone = cc is in ap Wish.Rest same
-done_of_todo d (Wish.Send asked) is =
-    absurd
-    (done_if (is_missed d) (unreached d.misses) (Todo.Send (next_no d) asked) (λ e. cc e) (λ e. cc e) is)
-done_of_todo d Wish.Unit is =
-    absurd (done_if (is_missed d) (unreached d.misses) Todo.Unit (λ e. cc e) (λ e. cc e) is)
+done_of_todo d x1 is = grind arith
 
 over_of : (b : Bool) (asked : SendStep)
     → (if b then Wish.Rest Finding.RoundDone else Wish.Send asked) ≡ Wish.Rest Finding.RoundDone → b ≡ true
@@ -481,10 +350,7 @@ past_seen round steps ids (Progress.Voted finding) calling is = absurd calling
 past_seen round steps ids (Progress.Ending commit at) calling is = absurd calling
 
 rest_end : (at : EndProgress) → end_wish at ≡ Wish.Rest Finding.RoundDone → ⊥
-rest_end (EndProgress.Call asked) is = cc is
-rest_end EndProgress.Units is = cc is
-rest_end (EndProgress.Delete listed place) is = cc is
-rest_end (EndProgress.Rest call_no) is = cc is
+rest_end x0 is = grind arith
 
 voted_done : (steps : List PackageSize) (ids : List ℕ) (round : Round) (finding : Finding) → finding ≡ Finding.RoundDone
     → is_past (phase_of round) (stage_seen steps ids (Progress.Voted finding)) ≡ true

@@ -1,5 +1,5 @@
 -- What the answered calls are, and what is asked for at the end.
-use Rattle.std.proofs.Common.{◌≡◌, inl, inr, ℕ, ◌+◌, ◌≤◌, Bool, true, false, not, ◌&&◌, if◌then◌else◌, nat_eq, nat_le, take, append-nil, List, [], ◌∷◌, ◌++◌, length, arith, Option, Some, None, refl, sym, ap, subst, ◌∙◌}
+use Rattle.std.proofs.Common.{◌≡◌, ℕ, ◌+◌, ◌≤◌, Bool, true, false, not, ◌&&◌, if◌then◌else◌, nat_eq, nat_le, take, append-nil, List, [], ◌∷◌, ◌++◌, length, arith, Option, Some, None, refl, sym, ap, subst, ◌∙◌}
 use Rattle.std.proofs.lemmas.List.{length-map, take_all}
 use Rattle.std.specs.List.{list_all}
 use Rattle.ucm_base.specs.declared.ids.CallNo.{CallNo}
@@ -16,20 +16,19 @@ use Rattle.world.specs.RoundsBySize.{GoesBySize, sized, stage_by_size}
 use Rattle.world.specs.Sends.{has_refusal, is_masters}
 use Rattle.sub_core.specs.declared.answers.Finding.{Finding}
 use Rattle.sub_core.specs.declared.answers.Round.{Round}
-use Rattle.sub_core.specs.declared.answers.SendStep.{SendStep}
 use Rattle.sub_core.specs.declared.answers.Todo.{Todo}
-use Rattle.sub_core.specs.declared.progress.EndProgress.{EndProgress}
 use Rattle.sub_core.specs.declared.progress.Progress.{Progress}
 use Rattle.sub_core.specs.declared.progress.Wish.{Wish}
 use Rattle.sub_core.specs.Calls.{step_bytes}
-use Rattle.sub_core.specs.Driving.{is_missed, is_over, next_no, round_step, todo, todo_for, wish, wish_at, IsBeforeEnd}
+use Rattle.sub_core.specs.Driving.{decision_given, is_missed, next_no, todo, todo_for, wish, wish_at, IsBeforeEnd}
 use Rattle.sub_core.specs.Given.{AreGiven, Given, IsTask, Task, after, attempts, message_of, replies_to, told_of}
 use Rattle.sub_core.specs.Made.{AreInTurn, AreSentInTurn, Made, ends_at_rest, has_none, ids_given, made_early, made_in, made_late, made_of, sent_early, shows_rest}
 use Rattle.sub_core.specs.States.{DriverState}
 use Rattle.sub_core.specs.Turns.{AreAllOfRounds, AreOfRounds, CallsAreInTurn, EndIsAsked, EndIsMade, IsLastRefused, MessagesAreInTurn, RoundsAreMade, VoteIsMade, VotesAreMade}
 use Rattle.sub_core.proofs.Allowed.{early_at, found_for}
 use Rattle.sub_core.proofs.Journeys.{stands}
-use Rattle.sub_core.proofs.Kept.{FollowsAt, IsEndRound, IsKept, IsOpen, OpenAt, early_at_round, early_call, no_end, not_ending, sent_in_rounds}
+use Rattle.sub_core.proofs.Kept.{FollowsAt, IsEndRound, IsKept, IsOpen, OpenAt, early_at_round, early_call, not_ending}
+use Rattle.sub_core.proofs.Begins.{sent_in_rounds}
 use Rattle.sub_core.proofs.Findings.{RestsBy, ByMisses, ByWish, past_sized, rests_if}
 use Rattle.sub_core.proofs.Ends.{not_begun}
 use Rattle.sub_core.proofs.Making.{AreAccepted, AreTurned, all_sent_early, are_accepted, of_rounds, one_more, some_bytes, turned}
@@ -52,10 +51,7 @@ module _ (by_size : GoesBySize) (lent : List (List ℕ)) (task : Task) (gs : Lis
   open_newest : IsBeforeEnd d.round → (m : Message) (older : List Message) → sent_by tries ≡ m ∷ older
       → is_told (told_by tries) m.at ≡ false → (b : Bool) → OpenAt lent b d (sent_by tries)
       → FollowsAt b d.round (told_by tries) (sent_by tries) → IsOpen lent d (sent_by tries)
-  open_newest rounds m older newest untold true pending follows = pending
-  open_newest rounds m older newest untold false pending follows =
-      elim (subst (FollowsAt false d.round (told_by tries)) newest follows)
-      [ inl answered ↦ absurd (cc (sym answered ∙ untold)) | inr end ↦ absurd (no_end d.round rounds end.1) ]
+  open_newest rounds m older newest untold x5 pending follows = grind arith
 
   with_newest : IsBeforeEnd d.round → (m : Message) (older : List Message) → sent_by tries ≡ m ∷ older
       → is_told (told_by tries) m.at ≡ false → (reply : Reply)
@@ -82,19 +78,24 @@ module _ (by_size : GoesBySize) (lent : List (List ℕ)) (task : Task) (gs : Lis
       of_rounds task.campaign task.epoch task.first (step_bytes lent task.steps) d.number (made_in (told_by tries))
       (replies_by tries) (kept.made rounds)
 
+  abbrev InTurn : Type 0
+  InTurn =
+      AreInTurn (decision_given d.round) task.campaign task.epoch task.first (step_bytes lent task.steps)
+      (told_by tries) (sent_by tries)
+
   in_turn_so : (number : ℕ)
-      → AreTurned task.campaign task.epoch task.first (step_bytes lent task.steps) number (made_in (told_by tries))
-      (made_early (told_by tries)) (made_late (told_by tries)) (sent_early (sent_by tries))
-      → AreInTurn task.campaign task.epoch task.first (step_bytes lent task.steps) (told_by tries) (sent_by tries)
+      → AreTurned task.campaign task.epoch task.first (step_bytes lent task.steps) (decision_given d.round) number
+      (made_in (told_by tries)) (made_early (told_by tries)) (made_late (told_by tries)) (sent_early (sent_by tries))
+      → InTurn
   in_turn_so number t = record { split = t.split; of_rounds = t.of_rounds; within = t.within; of_end = t.of_end }
 
   in_rounds_so : IsBeforeEnd d.round
-      → AreSentInTurn task.campaign (step_bytes lent task.steps) (told_by tries) (sent_by tries)
-  in_rounds_so rounds = sent_in_rounds by_size lent task d tries kept is.there rounds
+      → AreSentInTurn (decision_given d.round) task.campaign (step_bytes lent task.steps) (told_by tries)
+      (sent_by tries)
+  in_rounds_so rounds = sent_in_rounds by_size lent task d tries kept is.there rounds (decision_given d.round)
 
   -- before the end there are none of its calls
-  before : IsBeforeEnd d.round
-      → AreInTurn task.campaign task.epoch task.first (step_bytes lent task.steps) (told_by tries) (sent_by tries)
+  before : IsBeforeEnd d.round → InTurn
   before rounds =
       let order = kept.order rounds in
       let made = kept.made rounds in
@@ -102,11 +103,12 @@ module _ (by_size : GoesBySize) (lent : List (List ℕ)) (task : Task) (gs : Lis
       let sent : length (made_in (told_by tries)) ≤ length (sent_by tries) = few d.is_open made.count count in
       in_turn_so (task.first + length (sent_by tries))
       (subst
-      (AreTurned task.campaign task.epoch task.first (step_bytes lent task.steps)
+      (AreTurned task.campaign task.epoch task.first (step_bytes lent task.steps) (decision_given d.round)
       (task.first + length (sent_by tries)) (made_in (told_by tries)) (made_early (told_by tries))
       (made_late (told_by tries)))
       (sym (all_sent_early task.campaign tries order))
-      (turned task.campaign task.epoch task.first (step_bytes lent task.steps) d.number (length (sent_by tries))
+      (turned task.campaign task.epoch task.first (step_bytes lent task.steps) (decision_given d.round) d.number
+      (length (sent_by tries))
       (told_by tries) (replies_by tries) made (not_begun task.campaign tries order) sent
       (task.first + length (sent_by tries)) (omega arith)))
     where
@@ -116,8 +118,7 @@ module _ (by_size : GoesBySize) (lent : List (List ℕ)) (task : Task) (gs : Lis
       few true made count = omega (arith, made, count)
       few false made count = omega (arith, made, count)
 
-  in_turn : (r : Option Round) → d.round ≡ r
-      → AreInTurn task.campaign task.epoch task.first (step_bytes lent task.steps) (told_by tries) (sent_by tries)
+  in_turn : (r : Option Round) → d.round ≡ r → InTurn
   in_turn (Some (Round.End commit)) here = in_turn_so d.number (kept.turned (subst IsEndRound (sym here) tt))
   in_turn None here = before (subst IsBeforeEnd (sym here) tt)
   in_turn (Some Round.Sync) here = before (subst IsBeforeEnd (sym here) tt)
@@ -127,7 +128,8 @@ module _ (by_size : GoesBySize) (lent : List (List ℕ)) (task : Task) (gs : Lis
 
   -- and the messages likewise
   sent_in_turn : (r : Option Round) → d.round ≡ r
-      → AreSentInTurn task.campaign (step_bytes lent task.steps) (told_by tries) (sent_by tries)
+      → AreSentInTurn (decision_given d.round) task.campaign (step_bytes lent task.steps) (told_by tries)
+      (sent_by tries)
   sent_in_turn (Some (Round.End commit)) here = kept.messages (subst IsEndRound (sym here) tt)
   sent_in_turn None here = in_rounds_so (subst IsBeforeEnd (sym here) tt)
   sent_in_turn (Some Round.Sync) here = in_rounds_so (subst IsBeforeEnd (sym here) tt)
@@ -148,28 +150,9 @@ calls_are_in_turn by_size lent task gs is given_ = in_turn by_size lent task gs 
 
 -- votes
 
-no_round : (b : Bool) (asked : SendStep) (f : Finding) → (f ≡ Finding.RoundDone → ⊥)
-    → (if b then Wish.Rest Finding.RoundDone else Wish.Send asked) ≡ Wish.Rest f → ⊥
-no_round true asked f other is = let same : Finding.RoundDone ≡ f = cc is in other (sym same)
-no_round false asked f other is = cc is
-
 voted_of : (d : DriverState) (p : Progress) (f : Finding) → (f ≡ Finding.RoundDone → ⊥)
     → ((call_no : CallNo) → f ≡ Finding.Ended call_no → ⊥) → wish_at d p ≡ Wish.Rest f → p ≡ Progress.Voted f
-voted_of d Progress.Sync f other more is =
-    absurd (no_round (is_over d.round d.ids Progress.Sync) (round_step d Progress.Sync) f other is)
-voted_of d Progress.Transfer f other more is =
-    absurd (no_round (is_over d.round d.ids Progress.Transfer) (round_step d Progress.Transfer) f other is)
-voted_of d (Progress.Data id counter left) f other more is =
-    let p = Progress.Data id counter left in absurd (no_round (is_over d.round d.ids p) (round_step d p) f other is)
-voted_of d (Progress.Process taken true) f other more is =
-    let p = Progress.Process taken true in absurd (no_round (is_over d.round d.ids p) (round_step d p) f other is)
-voted_of d (Progress.Process taken false) f other more is = absurd (cc is)
-voted_of d Progress.Activating f other more is = absurd (cc is)
-voted_of d (Progress.Voted g) f other more is = let same : g ≡ f = cc is in ap Progress.Voted same
-voted_of d (Progress.Ending commit (EndProgress.Call asked)) f other more is = absurd (cc is)
-voted_of d (Progress.Ending commit EndProgress.Units) f other more is = absurd (cc is)
-voted_of d (Progress.Ending commit (EndProgress.Delete listed place)) f other more is = absurd (cc is)
-voted_of d (Progress.Ending commit (EndProgress.Rest call_no)) f other more is = absurd (more call_no (sym (cc is)))
+voted_of d x1 f other more is = grind arith
 
 accepted_all : (made : List Made) → AreAccepted made → list_all (λ m. not (is_refusal m.reply)) made ≡ true
 accepted_all [] all = refl

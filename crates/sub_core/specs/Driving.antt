@@ -269,6 +269,11 @@ abbrev pub IsBeforeEnd : Option Round → Type 0
 IsBeforeEnd (Some (Round.End commit)) = ⊥
 IsBeforeEnd _ = ⊤
 
+-- the decision that was given, if any
+abbrev pub decision_given : Option Round → Option Bool
+decision_given (Some (Round.End commit)) = Some commit
+decision_given _ = None
+
 -- the round before this one is done
 pub record IsAfter (before : Round) (d : DriverState) : Type 0 where
   pub round : d.round ≡ Some before

@@ -24,10 +24,7 @@ pub record Task : Type 0 where
 
 -- a task over these packages
 pub record IsTask (lent : List (List ℕ)) (task : Task) : Type 0 where
-  pub epoch : 1 ≤ task.epoch
-  pub first : 1 ≤ task.first
   pub numbers : task.first ≤ number_limit
-  pub campaign : 1 ≤ task.campaign
   pub some : 0 < length task.steps
   pub there : AreThere lent task.steps
 

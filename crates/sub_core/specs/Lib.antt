@@ -10,3 +10,4 @@ pub mod Sends
 pub mod Ending
 pub mod Evidence
 pub mod Turns
+pub mod Onward

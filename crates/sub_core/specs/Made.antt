@@ -1,5 +1,5 @@
 -- Calls with their replies, as the master makes them at one node: those of the rounds, then those of the end phase.
-use Rattle.std.specs.Prelude.{◌≡◌, ℕ, zero, suc, ◌+◌, ◌≤◌, Bool, true, false, not, ◌&&◌, if◌then◌else◌, IsTrue, List, [], ◌∷◌, ◌++◌, map, length, take}
+use Rattle.std.specs.Prelude.{◌≡◌, ℕ, zero, suc, ◌+◌, ◌≤◌, Bool, true, false, not, ◌&&◌, if◌then◌else◌, IsTrue, List, [], ◌∷◌, ◌++◌, map, length, take, Option, Some, None}
 use Rattle.std.specs.List.{AllByRecursion}
 use Rattle.ucm_base.specs.declared.ids.CallNo.{CallNo}
 use Rattle.pm_types.specs.declared.calls.Call.{Call}
@@ -84,34 +84,42 @@ is_end_call Rollback = true
 is_end_call Revert = true
 is_end_call _ = false
 
--- a call of the end phase, under a number of this epoch that isn't below this one
-pub record IsOfEnd (epoch from : ℕ) (m : Made) : Type 0 where
-  pub call : IsTrue (is_end_call m.call)
+-- the calls of the end phase that a decision permits: before it none, and after Commit none that goes back
+abbrev pub is_permitted : Option Bool → Call → Bool
+is_permitted None call = false
+is_permitted (Some commit) Rollback = not commit
+is_permitted (Some commit) Revert = not commit
+is_permitted (Some commit) call = is_end_call call
+
+-- a call that the decision permits, under a number of this epoch that isn't below this one
+pub record IsOfEnd (decision : Option Bool) (epoch from : ℕ) (m : Made) : Type 0 where
+  pub call : IsTrue (is_permitted decision m.call)
   pub of_epoch : m.at.epoch ≡ epoch
   pub later : from ≤ m.at.number
 
--- first calls of the rounds, before the decision, and then calls of the end phase, under numbers behind those of all
+-- first calls of the rounds, before the decision, and then calls that it permits, under numbers behind those of all
 -- messages of the rounds
-pub record AreInTurn (k epoch first : ℕ) (packages : List (List ℕ)) (told : List Told) (sent : List Message) : Type 0
-  where
-    pub split : made_in told ≡ made_early told ++ made_late told
-    pub of_rounds : IsOfRounds k epoch first packages (made_early told)
-    pub within : length (made_early told) ≤ sent_early sent
-    pub of_end : AllByRecursion (IsOfEnd epoch (first + sent_early sent)) (made_late told)
+pub record AreInTurn (decision : Option Bool) (k epoch first : ℕ) (packages : List (List ℕ)) (told : List Told)
+    (sent : List Message) : Type 0 where
+  pub split : made_in told ≡ made_early told ++ made_late told
+  pub of_rounds : IsOfRounds k epoch first packages (made_early told)
+  pub within : length (made_early told) ≤ sent_early sent
+  pub of_end : AllByRecursion (IsOfEnd decision epoch (first + sent_early sent)) (made_late told)
 
--- a message of the end phase
-abbrev pub IsEndMessage : Message → Type 0
-IsEndMessage m = (m.decided ≡ true) × (is_end_call m.call ≡ true)
+-- a message of the end phase, of a call that the decision permits
+abbrev pub IsEndMessage : Option Bool → Message → Type 0
+IsEndMessage decision m = (m.decided ≡ true) × (is_permitted decision m.call ≡ true)
 
 -- all messages, the newest first: those of the end phase behind those of the rounds, and the calls of these, answered
 -- or not, are first calls of the rounds
-pub record AreSentInTurn (k : ℕ) (packages : List (List ℕ)) (told : List Told) (sent : List Message) : Type 0 where
+pub record AreSentInTurn (decision : Option Bool) (k : ℕ) (packages : List (List ℕ)) (told : List Told)
+    (sent : List Message) : Type 0 where
   pub early : List Message
   pub late : List Message
   pub split : sent ≡ late ++ early
   pub of_rounds : AllByRecursion (λ m. m.decided ≡ false) early
   pub calls : calls_in early ≡ take (length early) (round_calls k (ids_given (made_early told)) packages)
-  pub of_end : AllByRecursion IsEndMessage late
+  pub of_end : AllByRecursion (IsEndMessage decision) late
 
 -- the reply shows no session of client 0 and no transfers
 abbrev pub shows_rest : Reply → Bool

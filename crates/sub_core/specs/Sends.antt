@@ -1,5 +1,5 @@
 -- What the campaign law allows a driver to send.
-use Rattle.std.specs.Prelude.{◌≡◌, ◌⊎◌, ℕ, ◌+◌, ⊤, Bool, true, false, ◌&&◌, nat_eq, List, [], ◌∷◌, ◌++◌, length, Option, Some, None}
+use Rattle.std.specs.Prelude.{◌≡◌, ◌⊎◌, ℕ, ◌+◌, ⊤, Bool, true, false, ◌&&◌, ◌||◌, nat_eq, List, [], ◌∷◌, ◌++◌, length, Option, Some, None}
 use Rattle.std.specs.List.{AllByRecursion}
 use Rattle.ucm_base.specs.declared.ids.CallNo.{CallNo}
 use Rattle.campaign_core.specs.Campaign.{end_of, is_marked, vote_of}
@@ -10,17 +10,15 @@ use Rattle.campaign_core.specs.declared.events.Decision.TheVariants.{Commit, Abo
 use Rattle.campaign_core.specs.declared.events.Phase.{Phase}
 use Rattle.campaign_core.specs.declared.fold.Current.{Current}
 use Rattle.pm_types.specs.declared.calls.Call.{Call}
-use Rattle.pm_types.specs.declared.replies.Reply.{Reply}
-use Rattle.world.specs.Attempts.{Attempt, Tried, Worked, replies_by}
+use Rattle.world.specs.Attempts.{Attempt, Tried, Worked, replies_by, told_by}
 use Rattle.world.specs.Rounds.{AtSync, call_at, stage_of}
-use Rattle.world.specs.Messages.{Message, Told, is_told}
-use Rattle.world.specs.Sends.{MaySend, Packages, next_number, replies_of}
+use Rattle.world.specs.Messages.{Message, Told, is_sync, is_told}
+use Rattle.world.specs.Sends.{MaySend, Packages, delete_at, end_call_at, last_shown, last_status, next_number, replies_of}
 use Rattle.sub_core.specs.declared.answers.Round.{Round}
 use Rattle.sub_core.specs.declared.answers.SendStep.{SendStep}
 use Rattle.sub_core.specs.declared.answers.Todo.{Todo}
 use Rattle.sub_core.specs.Calls.{step_bytes}
-use Rattle.sub_core.specs.Made.{is_end_call}
-use Rattle.sub_core.specs.Driving.{todo, IsBeforeEnd}
+use Rattle.sub_core.specs.Driving.{decision_given, todo, IsBeforeEnd}
 use Rattle.sub_core.specs.Given.{AreGiven, Given, IsTask, Task, after, attempts, message_of, replies_to, sent_of, told_of}
 
 -- the phase in which a round goes on; before the first phase there is the round of Sync
@@ -67,22 +65,35 @@ RepliesAreRead =
     → IsBeforeEnd (after task gs).round → (earlier : List Message) → AreEarlier task earlier
     → replies_of task.campaign (told_of lent task gs) (sent_of lent task gs ++ earlier) ≡ replies_to lent task gs
 
--- before the decision a call is the next one of the rounds for these replies, and after it one of the end phase
-abbrev pub IsCallFor : ℕ → List (List ℕ) → Bool → Call → List Reply → Type 0
-IsCallFor k packages false call replies = call_at k (stage_of packages AtSync replies) ≡ Some call
-IsCallFor k packages true call replies = is_end_call call ≡ true
+-- a Sync, or what the decision has for the last status, or what deletes a transfer that the last Sync listed
+abbrev pub IsEndCall : Bool → ℕ → ℕ → List Told → Call → Type 0
+IsEndCall commit k epoch told call =
+    (cause : Cause)
+    → (is_sync call
+    || (end_call_at (decision_of commit cause) (last_status k epoch told) call
+    || delete_at (last_shown k epoch told) call))
+    ≡ true
 
--- the call of each attempt, the newest first, is one for the replies before it
-abbrev pub AreCallsFor : ℕ → List (List ℕ) → List Attempt → Type 0
-AreCallsFor k packages [] = ⊤
-AreCallsFor k packages (Tried m reply ∷ older) =
-    IsCallFor k packages m.decided m.call (replies_by older) × AreCallsFor k packages older
-AreCallsFor k packages (Worked status ∷ older) = AreCallsFor k packages older
+-- in the rounds a call is the next one for the replies before it, and in the end phase, which only a decision begins,
+-- one that this allows for what was told before it
+abbrev pub IsCallFor : ℕ → ℕ → List (List ℕ) → Bool → Option Bool → Call → List Attempt → Type 0
+IsCallFor k epoch packages false decision call older =
+    call_at k (stage_of packages AtSync (replies_by older)) ≡ Some call
+IsCallFor k epoch packages true None call older = ⊥
+IsCallFor k epoch packages true (Some commit) call older = IsEndCall commit k epoch (told_by older) call
+
+-- the call of each attempt, the newest first, is one for the attempts before it
+abbrev pub AreCallsFor : ℕ → ℕ → List (List ℕ) → Option Bool → List Attempt → Type 0
+AreCallsFor k epoch packages decision [] = ⊤
+AreCallsFor k epoch packages decision (Tried m reply ∷ older) =
+    IsCallFor k epoch packages m.decided decision m.call older × AreCallsFor k epoch packages decision older
+AreCallsFor k epoch packages decision (Worked status ∷ older) = AreCallsFor k epoch packages decision older
 
 abbrev pub CallsAreNext : Type 0
 CallsAreNext =
     (lent : List (List ℕ)) (task : Task) (gs : List Given) → IsTask lent task → AreGiven task gs
-    → AreCallsFor task.campaign (step_bytes lent task.steps) (attempts lent task gs)
+    → AreCallsFor task.campaign task.epoch (step_bytes lent task.steps) (decision_given (after task gs).round)
+    (attempts lent task gs)
 
 -- the node's newest message, which isn't answered
 pub record IsAgain (m : Message) (told : List Told) (sent : List Message) : Type 0 where

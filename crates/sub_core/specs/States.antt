@@ -54,9 +54,6 @@ IsPlaced steps ids _ = ⊤
 -- what holds of every driver
 pub record IsSound (d : DriverState) : Type 0 where
   pub some : 0 < length d.steps
-  pub epoch : 1 ≤ d.epoch
-  pub campaign : 1 ≤ d.campaign
-  pub first : 1 ≤ d.number
   pub numbers : d.number + (if d.is_open then 1 else 0) ≤ number_limit
   pub misses : length d.misses ≤ 8
   pub placed : IsPlaced d.steps d.ids d.progress

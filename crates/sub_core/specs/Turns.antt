@@ -11,7 +11,7 @@ use Rattle.sub_core.specs.declared.answers.Finding.{Finding}
 use Rattle.sub_core.specs.declared.answers.Round.{Round}
 use Rattle.sub_core.specs.declared.answers.Todo.{Todo}
 use Rattle.sub_core.specs.Calls.{step_bytes}
-use Rattle.sub_core.specs.Driving.{end_wish, todo, todo_for, IsBeforeEnd}
+use Rattle.sub_core.specs.Driving.{decision_given, end_wish, todo, todo_for, IsBeforeEnd}
 use Rattle.sub_core.specs.Ending.{end_at}
 use Rattle.sub_core.specs.Given.{AreGiven, Given, IsTask, Task, after, sent_of, told_of}
 use Rattle.sub_core.specs.Made.{AreInTurn, AreSentInTurn, IsOfRounds, Made, ends_at_rest, ids_given, made_in, made_of}
@@ -31,18 +31,19 @@ RoundsAreMade =
     → is_told (told_of lent task gs) m.at ≡ false
     → (reply : Reply) → AreOfRounds lent task (made_in (told_of lent task gs) ++ made_of m reply ∷ []))
 
--- at any time they are calls of the rounds, and then calls of the end phase
+-- at any time they are calls of the rounds, and then calls that the decision permits, if it was given
 abbrev pub CallsAreInTurn : Type 0
 CallsAreInTurn =
     (lent : List (List ℕ)) (task : Task) (gs : List Given) → IsTask lent task → AreGiven task gs
-    → AreInTurn task.campaign task.epoch task.first (step_bytes lent task.steps) (told_of lent task gs)
-    (sent_of lent task gs)
+    → AreInTurn (decision_given (after task gs).round) task.campaign task.epoch task.first (step_bytes lent task.steps)
+    (told_of lent task gs) (sent_of lent task gs)
 
 -- and so is all that was sent, whether it was answered or not
 abbrev pub MessagesAreInTurn : Type 0
 MessagesAreInTurn =
     (lent : List (List ℕ)) (task : Task) (gs : List Given) → IsTask lent task → AreGiven task gs
-    → AreSentInTurn task.campaign (step_bytes lent task.steps) (told_of lent task gs) (sent_of lent task gs)
+    → AreSentInTurn (decision_given (after task gs).round) task.campaign (step_bytes lent task.steps)
+    (told_of lent task gs) (sent_of lent task gs)
 
 -- all calls of the rounds were made, and none was refused
 pub record AreAllOfRounds (lent : List (List ℕ)) (task : Task) (made : List Made) : Type 0 where

@@ -67,9 +67,6 @@ impl Driver {
         campaign: u32,
         steps: &[PackageSize],
     ) -> Result<Driver, AllocError>
-        requires epoch { 1 ≤ epoch }
-        requires first { 1 ≤ first }
-        requires campaign { 1 ≤ campaign }
         requires named { 0 < length steps.now }
         ensures { IfOk result (λ driver. driver ≡ fresh epoch first campaign steps.now) }
     {

@@ -1,5 +1,6 @@
 //! The laws of drivers.
 ghost use Rattle.sub_core.specs.Evidence.{DoneIsFound, EndIsFound, FindingsAreShown, MissesAreKept, OthersLeaveAll, RepliesFit, UnitsAreDue, UnreachedIsFound, VotesAreFound};
+ghost use Rattle.sub_core.specs.Onward.{EndGoesOn, ListedAreDeleted};
 ghost use Rattle.sub_core.specs.Sends.{CallsAreNext, RepliesAreRead, SendsAreAllowed, SendsAreNumbered};
 ghost use Rattle.sub_core.specs.Turns.{CallsAreInTurn, EndIsAsked, EndIsMade, MessagesAreInTurn, RoundsAreMade, VotesAreMade};
 
@@ -27,6 +28,8 @@ pub fn driver_law()
     ensures messages { MessagesAreInTurn }
     ensures at_end { EndIsAsked }
     ensures rest { EndIsMade }
+    ensures goes_on { EndGoesOn }
+    ensures deletes { ListedAreDeleted }
 {
     campaign_law();
 }

@@ -1,5 +1,5 @@
 -- A worker goes on by one attempt, or ends with it.
-use Rattle.std.proofs.Common.{◌≡◌, inl, inr, ℕ, true, is_some, List, [], ◌∷◌, ◌++◌, Option, Some, None, refl, sym, ap, subst, ◌∙◌, arith}
+use Rattle.std.proofs.Common.{◌≡◌, inl, inr, ℕ, true, false, is_some, List, [], ◌∷◌, ◌++◌, Option, Some, None, refl, sym, ap, subst, ◌∙◌, arith}
 use Rattle.ucm_base.specs.declared.ids.CallNo.{CallNo}
 use Rattle.pm_types.specs.declared.calls.Call.{Call}
 use Rattle.sub_core.specs.declared.answers.Finding.{Finding}
@@ -16,7 +16,7 @@ use Rattle.sub_core.specs.States.{DriverState}
 use Rattle.sub_core.specs.Subordinates.{Counted}
 use Rattle.sub_workers.specs.declared.worker.Worker.{Worker}
 use Rattle.sub_workers.specs.Attempts.{IsTried}
-use Rattle.sub_workers.specs.Runs.{AreCounted, Drove, Goes, IsReady, IsSameWorker, Ran}
+use Rattle.sub_workers.specs.Runs.{AreCounted, AsksBlock, Drove, Goes, IsReady, IsSameWorker, Ran}
 use Rattle.sub_workers.proofs.Counting.{counted_along}
 
 -- a later number isn't below what the earlier one wasn't
@@ -100,19 +100,19 @@ module _ {U : Type 0} (last : U → Option CallNo) (counted : U → Counted) (se
       given = GaveNothing ∷ gone.0;
       goes = (w.subordinate, gone.1, asked_now None tried);
       driver = told ∙ (ap unanswered same.driver ∙ ap unanswered gone.2);
-      holds = inr (same.found ∙ found);
+      holds = inr (same.found ∙ found, inr (inl tt));
     }
 
-  -- nothing was tried
+  -- no number is left
   pub stopped : (old w : Worker U) → w.packages ≡ old.packages → w.driver.round ≡ old.driver.round → w.found ≡ None
-      → HasGone old w → Drove last counted sends works old.driver old w
-  stopped old w packages round found gone = record {
+      → has_number w.driver ≡ false → HasGone old w → Drove last counted sends works old.driver old w
+  stopped old w packages round found has gone = record {
     packages = packages;
     round = round;
     given = gone.0;
     goes = gone.1;
     driver = gone.2;
-    holds = inr found;
+    holds = inr (found, inl has);
   }
 
   module _ (old w m : Worker U) (packages : w.packages ≡ old.packages) (round : w.driver.round ≡ old.driver.round)
@@ -123,15 +123,15 @@ module _ {U : Type 0} (last : U → Option CallNo) (counted : U → Counted) (se
         subst (λ t. Goes last counted sends works (bytes_of old.packages.now) old.driver gone.0 old.subordinate t)
         (sym stays) gone.1
 
-    -- nothing could be tried
-    pub failed : w.found ≡ None → Drove last counted sends works old.driver old m
-    failed found = record {
+    -- the block that comes next couldn't be copied
+    pub failed : w.found ≡ None → AsksBlock (todo w.driver) → Drove last counted sends works old.driver old m
+    failed found block = record {
       packages = same.packages ∙ packages;
       round = ap (λ d. d.round) same.driver ∙ round;
       given = gone.0;
       goes = goes_still;
       driver = same.driver ∙ gone.2;
-      holds = inr (same.found ∙ found);
+      holds = inr (same.found ∙ found, inr (inr (subst (λ d. AsksBlock (todo d)) (sym same.driver) block)));
     }
 
     -- the driver rests

@@ -1,5 +1,5 @@
 -- What a worker did.
-use Rattle.std.specs.Prelude.{◌≡◌, ◌⊎◌, ℕ, ◌+◌, ◌≤◌, List, [], ◌∷◌, ◌++◌, Option, Some, None}
+use Rattle.std.specs.Prelude.{◌≡◌, ◌⊎◌, ℕ, ◌+◌, ◌≤◌, ⊤, false, List, [], ◌∷◌, ◌++◌, Option, Some, None}
 use Rattle.std.specs.List.{AllByRecursion}
 use Rattle.ucm_base.specs.declared.ids.CallNo.{CallNo}
 use Rattle.pm_types.specs.declared.calls.Call.{Call}
@@ -9,8 +9,8 @@ use Rattle.sub_core.specs.declared.answers.Round.{Round}
 use Rattle.sub_core.specs.declared.answers.Todo.{Todo}
 use Rattle.sub_core.specs.declared.subordinate.Sent.{Sent}
 use Rattle.sub_core.specs.declared.subordinate.UnitSent.{UnitSent}
-use Rattle.sub_core.specs.Calls.{bytes_of, AreThere}
-use Rattle.sub_core.specs.Driving.{begun, next_no, todo, CanBegin}
+use Rattle.sub_core.specs.Calls.{bytes_of, AreThere, IsBlock}
+use Rattle.sub_core.specs.Driving.{begun, has_number, next_no, todo, CanBegin}
 use Rattle.sub_core.specs.Given.{AreGiven, Asks, Begun, Gave, GaveNothing, Given, Task, after, since}
 use Rattle.sub_core.specs.Numbers.{IsNotBelow}
 use Rattle.sub_core.specs.States.{DriverState}
@@ -44,9 +44,26 @@ pub record AreCounted (misses : List Rises) (before now : Counted) : Type 0 wher
   pub losses : HasRisenBy (losses_in misses) before.losses now.losses
   pub faults : HasRisenBy (faults_in misses) before.faults now.faults
 
--- the worker holds what its driver finds, or nothing, for want of memory or numbers
-abbrev pub Holds : {U : Type 0} → Worker U → Type 0
-Holds w = ((finding : Finding) × (todo w.driver ≡ Todo.Rest finding) × (w.found ≡ Some finding)) ⊎ (w.found ≡ None)
+-- a block is to be sent, which is copied first
+abbrev pub AsksBlock : Todo → Type 0
+AsksBlock (Todo.Send at step) = IsBlock step
+AsksBlock asked = ⊥
+
+-- the newest attempt gave nothing
+abbrev pub EndsVain : List Given → Type 0
+EndsVain (GaveNothing ∷ given) = ⊤
+EndsVain given = ⊥
+
+-- why a worker stops: no number is left for what its driver asks, or memory was wanting, for the answer to the newest
+-- attempt or for the copy of the block that comes next
+abbrev pub HasCause : DriverState → List Given → Type 0
+HasCause d given = (has_number d ≡ false) ⊎ (EndsVain given ⊎ AsksBlock (todo d))
+
+-- the worker holds what its driver finds, or nothing, with the cause
+abbrev pub Holds : {U : Type 0} → Worker U → List Given → Type 0
+Holds w given =
+    ((finding : Finding) × (todo w.driver ≡ Todo.Rest finding) × (w.found ≡ Some finding))
+    ⊎ ((w.found ≡ None) × HasCause w.driver given)
 
 module _ {U : Type 0} (last : U → Option CallNo) (counted : U → Counted) (sends : U → CallNo → Call → Sent → U → Type 0)
     (works : U → UnitSent → U → Type 0) where
@@ -55,7 +72,7 @@ module _ {U : Type 0} (last : U → Option CallNo) (counted : U → Counted) (se
   IsAttempt packages asked (Attempt.Gave got) s t = IsTried last counted sends works packages asked (Some got) s t
   IsAttempt packages asked Attempt.GaveNothing s t = IsTried last counted sends works packages asked None s t
   IsAttempt packages asked (Attempt.Rests finding) s t = (asked ≡ Todo.Rest finding) × (t ≡ s)
-  IsAttempt packages asked Attempt.OutOfMemory s t = t ≡ s
+  IsAttempt packages asked Attempt.OutOfMemory s t = (t ≡ s) × AsksBlock asked
 
   -- a driver that asks for something is given what an attempt at it gave
   abbrev pub IsGiven : List (List ℕ) → DriverState → Given → U → U → Type 0
@@ -76,7 +93,7 @@ module _ {U : Type 0} (last : U → Option CallNo) (counted : U → Counted) (se
     pub given : List Given
     pub goes : Goes (bytes_of old.packages.now) start given old.subordinate new.subordinate
     pub driver : new.driver ≡ since start given
-    pub holds : Holds new
+    pub holds : Holds new given
 
   -- the worker did this round
   pub record Ran (round : Round) (old new : Worker U) : Type 0 where

@@ -23,21 +23,22 @@ fn drive<R: Wait, U: Subordinate>(rt: &R, alloc: Global, worker: &mut Worker<'_,
     worker.found = None;
     for _ in rt.forever() {
         if !worker.driver.has_number() {
-            break;
+            return;
         }
         match try_once(alloc, worker) {
             Attempt::Gave(got) => worker.driver.on(got),
             Attempt::GaveNothing => {
                 worker.driver.on_nothing();
-                break;
+                return;
             }
             Attempt::Rests(finding) => {
                 worker.found = Some(finding);
-                break;
+                return;
             }
-            Attempt::OutOfMemory => break,
+            Attempt::OutOfMemory => return,
         }
     }
+    unreachable!()
 }
 
 /// One round of one worker.

@@ -1,6 +1,6 @@
 //! One attempt at what a driver asks for.
 ghost use Rattle.std.specs.Prelude.{◌≡◌, IfOk, IsTrue, OnErr};
-ghost use Rattle.sub_core.specs.Calls.{bytes_of, IsThere};
+ghost use Rattle.sub_core.specs.Calls.{bytes_of, IsBlock, IsThere};
 ghost use Rattle.sub_core.specs.Driving.{has_number, todo};
 ghost use Rattle.sub_core.specs.Numbers.{IsNotBelow};
 ghost use Rattle.sub_workers.specs.Attempts.{got_of, got_unit, IsSent, IsWorked};
@@ -64,6 +64,7 @@ fn send<U: Subordinate>(
     ensures sent { IfOk result (λ got. IsSent U.last U.counted U.sends U.works
         (bytes_of packages.now) no step got subordinate.old subordinate.new) }
     ensures none { OnErr result (subordinate.new ≡ subordinate.old) }
+    ensures block { OnErr result (IsBlock step) }
 {
     let call = call_of(alloc, &step, packages)?;
     Ok(got_of(subordinate.send(no, call)))

@@ -1,7 +1,6 @@
 use Rattle.std.proofs.Common.{◌∙◌, ap, is_some, sym}
 use Rattle.sub_workers.proofs.Going.{failed, gone_nothing, gone_on, ready_on, rested, stopped}
 use Rattle.sub_workers.proofs.rounds.drive.Goals as goal
-use Rattle.sub_workers.proofs.rounds.drive.Goals.{in-None, in-Some+then-not-has_number, in-Some+else-not-has_number+in-GaveNothing, in-Some+else-not-has_number+in-Rests, in-Some+else-not-has_number+in-OutOfMemory}
 
 pub loop-preserved : goal.loop-preserved
 loop-preserved g c =
@@ -21,29 +20,34 @@ loop-preserved g c =
           c.on.ensures.is,
     )
 
-pub returns-clause-drove : goal.returns-clause-drove
-returns-clause-drove g c =
+pub returns-then-not-has_number-clause-drove : goal.returns-then-not-has_number-clause-drove
+returns-then-not-has_number-clause-drove g c =
     let U = g.U.Subordinate in
     let i = c.loop.invariant in
-    let old = c.args.worker.now in
-    let w = c.loop.worker in
-    elim c.match-next.branch [
-      | in-None x ↦ (rw x.worker-is (stopped U.last U.counted U.sends U.works old w i.4 i.5 i.3 i.6))
-      | in-Some+then-not-has_number x ↦ (rw x.worker-is (stopped U.last U.counted U.sends U.works old w i.4 i.5 i.3
-          i.6))
-      | in-Some+else-not-has_number+in-GaveNothing x ↦
-          (let t = x.in-GaveNothing.ensures in
-          rw x.worker-is
-          (gone_nothing U.last U.counted U.sends U.works old w x.try_once.new.worker i.4 i.6 t.same
-          (ap is_some i.5 ∙ c.requires.begun) (sym x.if-not-has_number.ensures) x.on_nothing.new.self t.tried
-          x.on_nothing.ensures.is x.on_nothing.ensures.round i.5 i.3))
-      | in-Some+else-not-has_number+in-Rests x ↦
-          (let t = x.in-Rests.ensures in
-          rw x.worker-is
-          (rested U.last U.counted U.sends U.works old w x.try_once.new.worker i.4 i.5 i.6 t.same t.tried.1
-          x.in-Rests.finding t.tried.0))
-      | in-Some+else-not-has_number+in-OutOfMemory x ↦
-          (let t = x.in-OutOfMemory.ensures in
-          rw x.worker-is
-          (failed U.last U.counted U.sends U.works old w x.try_once.new.worker i.4 i.5 i.6 t.same t.tried i.3))
-    ]
+    stopped U.last U.counted U.sends U.works c.args.worker.now c.loop.worker i.4 i.5 i.3
+    (sym c.if-not-has_number.ensures) i.6
+
+pub returns-in-GaveNothing-clause-drove : goal.returns-in-GaveNothing-clause-drove
+returns-in-GaveNothing-clause-drove g c =
+    let U = g.U.Subordinate in
+    let i = c.loop.invariant in
+    let t = c.in-GaveNothing.ensures in
+    gone_nothing U.last U.counted U.sends U.works c.args.worker.now c.loop.worker c.try_once.new.worker i.4 i.6 t.same
+    (ap is_some i.5 ∙ c.requires.begun) (sym c.if-not-has_number.ensures) c.on_nothing.new.self t.tried
+    c.on_nothing.ensures.is c.on_nothing.ensures.round i.5 i.3
+
+pub returns-in-Rests-clause-drove : goal.returns-in-Rests-clause-drove
+returns-in-Rests-clause-drove g c =
+    let U = g.U.Subordinate in
+    let i = c.loop.invariant in
+    let t = c.in-Rests.ensures in
+    rested U.last U.counted U.sends U.works c.args.worker.now c.loop.worker c.try_once.new.worker i.4 i.5 i.6 t.same
+    t.tried.1 c.in-Rests.finding t.tried.0
+
+pub returns-in-OutOfMemory-clause-drove : goal.returns-in-OutOfMemory-clause-drove
+returns-in-OutOfMemory-clause-drove g c =
+    let U = g.U.Subordinate in
+    let i = c.loop.invariant in
+    let t = c.in-OutOfMemory.ensures in
+    failed U.last U.counted U.sends U.works c.args.worker.now c.loop.worker c.try_once.new.worker i.4 i.5 i.6 t.same
+    t.tried.0 i.3 t.tried.1

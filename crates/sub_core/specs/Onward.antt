@@ -1,0 +1,58 @@
+-- How the end phase goes on, in the campaign law's words.
+use Rattle.std.specs.Prelude.{◌≡◌, ◌⊎◌, ℕ, Bool, true, false, is_some, List, [], ◌∷◌, Some}
+use Rattle.ucm_base.specs.declared.ids.CallNo.{CallNo}
+use Rattle.campaign_core.specs.declared.events.Cause.{Cause}
+use Rattle.pm_types.specs.NodeState.{is_working}
+use Rattle.pm_types.specs.declared.calls.Call.{Call}
+use Rattle.pm_types.specs.declared.replies.Reply.TheVariants.{Synced}
+use Rattle.pm_types.specs.declared.replies.Synced.{Synced as Shown}
+use Rattle.pm_types.specs.declared.status.Status.{Status}
+use Rattle.world.specs.Messages.{Message, Told, Answered, Showed}
+use Rattle.world.specs.Sends.{end_call, is_end_sync, is_masters, last_shown, session_status}
+use Rattle.sub_core.specs.declared.answers.Round.{Round}
+use Rattle.sub_core.specs.declared.answers.SendStep.{SendStep}
+use Rattle.sub_core.specs.declared.answers.Todo.{Todo}
+use Rattle.sub_core.specs.Calls.{call_of}
+use Rattle.sub_core.specs.Driving.{is_missed, todo}
+use Rattle.sub_core.specs.Given.{AreGiven, Given, IsTask, Task, after, told_of}
+use Rattle.sub_core.specs.Sends.{decision_of}
+
+-- the newest that was told is this status of the master's session, by a Sync of the end phase or by a unit after one
+abbrev pub ShowsNow : ℕ → ℕ → Status → List Told → Type 0
+ShowsNow k epoch status [] = ⊥
+ShowsNow k epoch status (Showed s ∷ told) = (s ≡ status) × (is_some (last_shown k epoch told) ≡ true)
+ShowsNow k epoch status (Answered m reply ∷ told) =
+    (x : Shown) × (reply ≡ Synced x) × (is_end_sync k epoch m ≡ true) × (is_masters x.session ≡ true)
+    × (session_status x.session ≡ status)
+
+-- the call that the decision has for a status, or a Sync where it has none
+abbrev pub IsNextAt : Bool → Status → Call → Type 0
+IsNextAt commit status call =
+    ((cause : Cause) → end_call (decision_of commit cause) status call ≡ true)
+    ⊎ ((call ≡ Call.Sync) × ((cause : Cause) (other : Call) → end_call (decision_of commit cause) status other ≡ false))
+
+-- a unit is asked for where the node works, and else that call
+abbrev pub GoesOn : List (List ℕ) → Bool → Status → Todo → Type 0
+GoesOn lent commit status asked =
+    ((is_working status ≡ true) × (asked ≡ Todo.Unit))
+    ⊎ ((is_working status ≡ false)
+    × ((call_no : CallNo) × (step : SendStep) × (asked ≡ Todo.Send call_no step)
+    × IsNextAt commit status (call_of lent step)))
+
+-- behind each status that was told at the end the driver goes on so, unless eight attempts failed
+abbrev pub EndGoesOn : Type 0
+EndGoesOn =
+    (lent : List (List ℕ)) (task : Task) (gs : List Given) → IsTask lent task → AreGiven task gs
+    → (commit : Bool) → (after task gs).round ≡ Some (Round.End commit) → is_missed (after task gs) ≡ false
+    → (status : Status) → ShowsNow task.campaign task.epoch status (told_of lent task gs)
+    → GoesOn lent commit status (todo (after task gs))
+
+-- and behind a Sync without a session of the master it deletes the first transfer that this lists
+abbrev pub ListedAreDeleted : Type 0
+ListedAreDeleted =
+    (lent : List (List ℕ)) (task : Task) (gs : List Given) → IsTask lent task → AreGiven task gs
+    → (commit : Bool) → (after task gs).round ≡ Some (Round.End commit) → is_missed (after task gs) ≡ false
+    → (m : Message) (shown : Shown) (older : List Told) → told_of lent task gs ≡ Answered m (Synced shown) ∷ older
+    → is_end_sync task.campaign task.epoch m ≡ true → is_masters shown.session ≡ false
+    → (id : ℕ) (ids : List ℕ) → shown.transfers ≡ id ∷ ids
+    → (call_no : CallNo) × (todo (after task gs) ≡ Todo.Send call_no (SendStep.Delete id))
