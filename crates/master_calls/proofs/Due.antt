@@ -1,5 +1,5 @@
 -- The round of each call that was sent has come.
-use Rattle.std.specs.Prelude.{◌≡◌, ℕ, Bool, true, false, if◌then◌else◌, is_some, IsTrue, List, [], ◌∷◌, Option, Some, None}
+use Rattle.std.specs.Prelude.{◌≡◌, ℕ, ◌≤◌, Bool, true, false, if◌then◌else◌, is_some, IsTrue, List, [], ◌∷◌, Option, Some, None}
 use Rattle.std.specs.List.{list_all}
 use Rattle.std.specs.Ordering.{is_eq}
 use Rattle.std.proofs.Common.{refl, sym, ap, subst, ◌∙◌, arith}
@@ -65,7 +65,7 @@ with-due phase m (n ∷ ns) one all = go (is_eq (call_no_cmp n.at m.at))
     go false = one-due phase m (n ∷ ns) one all
 
 module _ (allowed : SendsAreAllowed) (numbered : SendsAreNumbered) (lent : List (List ℕ)) (task : Task)
-    (is_task : IsTask lent task) where
+    (is_task : IsTask lent task) (low : 1 ≤ task.first) where
   abbrev sent : List Given → List Message
   sent gs = sent_of lent task gs
 
@@ -95,7 +95,7 @@ module _ (allowed : SendsAreAllowed) (numbered : SendsAreNumbered) (lent : List 
   -- an attempt sends what has come
   goes : (g : Given) (gs : List Given) → AreGiven task (g ∷ gs) → (round : Round) → (after task gs).round ≡ Some round
       → IsBeforeEnd (Some round) → AreDue (phase_of round) (sent gs) → AreDue (phase_of round) (sent (g ∷ gs))
-  goes g gs are round is early all = go (goes-on allowed numbered lent task is_task g gs are)
+  goes g gs are round is early all = go (goes-on allowed numbered lent task is_task low g gs are)
     where
       head : (r : Round) (m : Message) → r ≡ round → MaySendNow r m (told_of lent task gs) (sent gs)
           → AreDue (phase_of round) (with_sent m (sent gs))
@@ -106,7 +106,7 @@ module _ (allowed : SendsAreAllowed) (numbered : SendsAreNumbered) (lent : List 
       head r m same (Next due newest older e added free) =
           with-due (phase_of round) m (sent gs) (subst (λ x. IsDueIn x m) same due early) all
 
-      go : Goes allowed numbered lent task is_task g gs (told_of lent task (g ∷ gs)) (sent (g ∷ gs))
+      go : Goes allowed numbered lent task is_task low g gs (told_of lent task (g ∷ gs)) (sent (g ∷ gs))
           → AreDue (phase_of round) (sent (g ∷ gs))
       go (Stays et es) = subst (AreDue (phase_of round)) (sym es) all
       go (Shows status et es) = subst (AreDue (phase_of round)) (sym es) all
@@ -130,5 +130,5 @@ module _ (allowed : SendsAreAllowed) (numbered : SendsAreNumbered) (lent : List 
       goes GaveNothing gs are round was early (are-due gs are.1 round was early)
 
 pub rounds-due : SendsAreAllowed → SendsAreNumbered → RoundsAreDue
-rounds-due allowed numbered lent task gs is_task are round is early =
-    are-due allowed numbered lent task is_task gs are round is early
+rounds-due allowed numbered lent task gs is_task low are round is early =
+    are-due allowed numbered lent task is_task low gs are round is early

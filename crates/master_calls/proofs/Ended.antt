@@ -1,29 +1,29 @@
 -- How the master's calls end, and that they go in order.
 use Rattle.std.specs.Prelude.{◌≡◌, ℕ, zero, suc, ◌+◌, ◌<◌, ◌≤◌, Bool, true, false, ◌&&◌, ◌||◌, if◌then◌else◌, IsTrue, List, [], ◌∷◌, ◌++◌, map, length, take, Option, Some, None}
-use Rattle.std.specs.List.{AllByRecursion, list_all}
+use Rattle.std.specs.List.{AllByRecursion, list_all, list_any}
 use Rattle.std.proofs.Common.{refl, sym, ap, subst, ◌∙◌, inl, inr, arith}
 use Rattle.std.proofs.lemmas.Bool.{and_parts}
 use Rattle.std.proofs.lemmas.List.{append_assoc, append-nil}
 use Rattle.std.proofs.lemmas.List.Folds.{list_all-append, list_all-map}
 use Rattle.ucm_base.specs.declared.ids.CallNo.{CallNo}
 use Rattle.pm_types.specs.declared.calls.Call.{Call}
-use Rattle.pm_types.specs.declared.calls.Call.TheVariants.{Sync}
+use Rattle.pm_types.specs.declared.calls.Call.TheVariants.{Sync, Rollback, RevertProcessedSwPackages as Revert}
 use Rattle.pm_types.specs.declared.replies.Reply.{Reply}
 use Rattle.campaign_core.specs.declared.events.MasterEvent.{MasterEvent}
 use Rattle.campaign_core.specs.declared.events.Phase.{Phase}
 use Rattle.world.specs.Messages.{Message, Told, Answered, is_sync, is_told}
 use Rattle.world.specs.RoundCalls.{round_calls}
 use Rattle.world.specs.Sends.{is_due}
-use Rattle.run_claim.specs.Masters.{GoesInOrder, IsOfRoundsIn, has_decision, has_end, is_later_than, phase_in}
+use Rattle.run_claim.specs.Masters.{GoesInOrder, IsOfRoundsIn, has_decision, has_end, is_later_than, phase_in, goes_back, has_commit, is_commit, is_decision}
 use Rattle.sub_core.specs.Calls.{step_bytes}
-use Rattle.sub_core.specs.Driving.{IsBeforeEnd}
+use Rattle.sub_core.specs.Driving.{IsBeforeEnd, decision_given}
 use Rattle.sub_core.specs.Given.{AreGiven, Begun, Gave, GaveNothing, Given, IsTask, MayBe, Task, after, given, sent_of, told_of}
 use Rattle.sub_core.specs.States.{DriverState}
 use Rattle.sub_core.specs.declared.answers.Round.{Round}
 use Rattle.std.specs.Ordering.{is_eq}
 use Rattle.pm_types.specs.Steps.{call_no_cmp}
 use Rattle.world.specs.Attempts.{with_sent}
-use Rattle.sub_core.specs.Made.{IsOfRounds, Made, calls_in, ends_at_rest, has_none, ids_given, is_end_call, made_early, made_in, made_late, made_of, numbers_from, sent_early, shows_rest}
+use Rattle.sub_core.specs.Made.{IsOfRounds, Made, calls_in, ends_at_rest, has_none, ids_given, is_end_call, made_early, made_in, made_late, made_of, numbers_from, sent_early, shows_rest, is_permitted}
 use Rattle.sub_core.specs.Sends.{AreNumbered, SendsAreAllowed, SendsAreNumbered}
 use Rattle.sub_core.specs.Turns.{CallsAreInTurn, MessagesAreInTurn, RoundsAreMade}
 use Rattle.client_calls.specs.Calls.{AreBelow, IsBelow, Known, Posted, entry_of}
@@ -169,6 +169,26 @@ split-early [] early ms split l all = split
 split-early (n ∷ ns) early ms split l all =
     absurd (cc (sym l.0 ∙ (subst (AllDecided false) split all).0))
 
+-- what a decision permits is a call of the end phase, and after Commit none that goes back
+permitted-end : (d : Option Bool) (call : Call) → is_permitted d call ≡ true → is_end_call call ≡ true
+permitted-end None call e = absurd (cc e)
+permitted-end (Some commit) call e = grind (arith, e)
+
+permitted-stays : (call : Call) → is_permitted (Some true) call ≡ true → goes_back call ≡ false
+permitted-stays call e = grind (arith, e)
+
+due-stays : (phase : Option Phase) (call : Call) → is_due phase call ≡ true → goes_back call ≡ false
+due-stays phase Rollback e = absurd (cc e)
+due-stays phase Revert e = absurd (cc e)
+due-stays phase call e = grind (arith, e)
+
+commit-one : (m : MasterEvent) → is_commit m ≡ true → is_decision m ≡ true
+commit-one m e = grind (arith, e)
+
+commit-decides : (list : List MasterEvent) → list_any is_commit list ≡ true → has_decision list ≡ true
+commit-decides [] e = absurd (cc e)
+commit-decides (m ∷ ms) e = grind (arith, commit-decides ms, commit-one m, e)
+
 -- each later entry has what each later message has
 all-ends : (f : CallNo → Call → Bool) (later : List Posted) (ends : List Made)
     → AllByRecursion (λ p. IsTrue (f p.at p.call)) later → AllByRecursion (IsOf later) ends
@@ -192,7 +212,7 @@ before-given GaveNothing d may is = subst IsBeforeEnd (nothing-round d) is
 
 module _ (allowed : SendsAreAllowed) (numbered : SendsAreNumbered) (turns : CallsAreInTurn) (messages :
     MessagesAreInTurn)
-    (rounds : RoundsAreMade) (lent : List (List ℕ)) (task : Task) (is_task : IsTask lent task) where
+    (rounds : RoundsAreMade) (lent : List (List ℕ)) (task : Task) (is_task : IsTask lent task) (low : 1 ≤ task.first) where
   abbrev told : List Given → List Told
   told gs = told_of lent task gs
 
@@ -204,9 +224,9 @@ module _ (allowed : SendsAreAllowed) (numbered : SendsAreNumbered) (turns : Call
       × AllByRecursion (IsLater (rounds_of (told gs) (sent gs))) (late_in (sent gs))
       × ((p : Posted) → task.epoch < p.at.epoch → IsLater (rounds_of (told gs) (sent gs)) p)
   fits gs are = (
-    early-are allowed numbered turns messages lent task is_task gs are,
+    early-are allowed numbered turns messages lent task is_task low gs are,
     later-are task.epoch task.first (told gs) (sent gs)
-        (facts-with allowed numbered turns messages lent task is_task gs gs are are (omega arith)),
+        (facts-with allowed numbered turns messages lent task is_task low gs gs are are (omega arith)),
     (λ p above. record {
       answered = below-epoch task.epoch task.first (made_early (told gs)) p.at
           (turns lent task gs is_task are).of_rounds.numbers above;
@@ -221,15 +241,15 @@ module _ (allowed : SendsAreAllowed) (numbered : SendsAreNumbered) (turns : Call
       → AllDecided false (sent gs) × (made_late (told gs) ≡ [])
   undecided [] are is = (tt, refl)
   undecided (g ∷ gs) are is =
-      go (goes-on allowed numbered lent task is_task g gs are) (undecided gs are.1 before)
+      go (goes-on allowed numbered lent task is_task low g gs are) (undecided gs are.1 before)
     where
       before : IsBeforeEnd (after task gs).round
       before = before-given g (after task gs) are.0 is
 
-      early : (round : Round) (m : Message) → IsTimely allowed numbered lent task is_task gs round m → m.decided ≡ false
+      early : (round : Round) (m : Message) → IsTimely allowed numbered lent task is_task low gs round m → m.decided ≡ false
       early round m timely = timely.decided ∙ goes-early task gs are.1 before
 
-      go : Goes allowed numbered lent task is_task g gs (told (g ∷ gs)) (sent (g ∷ gs))
+      go : Goes allowed numbered lent task is_task low g gs (told (g ∷ gs)) (sent (g ∷ gs))
           → AllDecided false (sent gs) × (made_late (told gs) ≡ [])
           → AllDecided false (sent (g ∷ gs)) × (made_late (told (g ∷ gs)) ≡ [])
       go (Stays et es) all = (subst (AllDecided false) (sym es) all.0, ap made_late et ∙ all.1)
@@ -259,7 +279,7 @@ module _ (allowed : SendsAreAllowed) (numbered : SendsAreNumbered) (turns : Call
         task.steps))
     sent-calls =
         let ms = messages lent task gs is_task are in
-        let same = split-early ms.late ms.early (sent gs) ms.split (decided ms.late ms.of_end) (undecided gs are
+        let same = split-early ms.late ms.early (sent gs) ms.split (decided (decision_given (after task gs).round) ms.late ms.of_end) (undecided gs are
         before).0 in
         ap calls_in same ∙ (ms.calls ∙ ap (λ (l : List Message). take (length l)
         (round_calls task.campaign (ids_given (made_early (told gs))) (step_bytes lent task.steps))) (sym same))
@@ -361,10 +381,11 @@ module _ (allowed : SendsAreAllowed) (numbered : SendsAreNumbered) (turns : Call
       }
 
 pub messages-fit : SendsAreAllowed → SendsAreNumbered → CallsAreInTurn → MessagesAreInTurn → RoundsAreMade → MessagesFit
-messages-fit allowed numbered turns messages rounds lent task gs is_task are =
-    fits allowed numbered turns messages rounds lent task is_task gs are
+messages-fit allowed numbered turns messages rounds lent task gs is_task low are =
+    fits allowed numbered turns messages rounds lent task is_task low gs are
 
 pub order-follows : SendsAreAllowed → SendsAreNumbered → CallsAreInTurn → MessagesAreInTurn → RoundsAreMade →
     OrderFollows
 order-follows allowed numbered turns messages rounds n list lent task gs later is_task are ordered known turn rest =
-    order allowed numbered turns messages rounds lent task is_task n list gs later are ordered known turn rest
+    let low : 1 ≤ task.first = let first = ordered.first in omega (arith, first) in
+    order allowed numbered turns messages rounds lent task is_task low n list gs later are ordered known turn rest

@@ -1,5 +1,5 @@
 -- What a driver sends.
-use Rattle.std.specs.Prelude.{◌≡◌, ◌⊎◌, ℕ, suc, ◌+◌, ◌-◌, ⊤, Bool, true, false, not, ◌&&◌, ◌||◌, if◌then◌else◌, nat_eq, is_some, List, [], ◌∷◌, ◌++◌, Option, Some, None}
+use Rattle.std.specs.Prelude.{◌≡◌, ◌⊎◌, ℕ, suc, ◌+◌, ◌-◌, ⊤, Bool, true, false, not, ◌&&◌, ◌||◌, if◌then◌else◌, nat_eq, is_some, List, [], ◌∷◌, ◌++◌, Option, Some, None, ◌≤◌}
 use Rattle.std.specs.List.{AllByRecursion}
 use Rattle.std.specs.Ordering.{is_eq}
 use Rattle.std.proofs.Common.{refl, sym, ap, subst, ◌∙◌, inl, inr, arith, eq-eqb}
@@ -185,14 +185,14 @@ before task = record {
   decided = false;
 }
 
-are-earlier : (lent : List (List ℕ)) (task : Task) → IsTask lent task → AreEarlier task (before task ∷ [])
-are-earlier lent task is = record { other = (apart, tt); next = first }
+are-earlier : (task : Task) → 1 ≤ task.first → AreEarlier task (before task ∷ [])
+are-earlier task low = record { other = (apart, tt); next = first }
   where
     apart : (nat_eq task.epoch task.epoch && nat_eq (suc task.campaign) task.campaign) ≡ false
     apart = grind (arith, nat_tests)
 
     first : next_number task.epoch (before task ∷ []) ≡ record { epoch = task.epoch; number = task.first }
-    first = let low = is.first in grind (arith, nat_tests, low)
+    first = grind (arith, nat_tests, low)
 
 -- before the end the call's round has come
 abbrev pub IsDueIn : Round → Message → Type 0
@@ -256,7 +256,7 @@ is-answer call_no asked (Got.UnitOf unit) reply known e told = absurd (cc e)
 is-answer call_no asked (Got.Miss losses faults) reply known e told = absurd (cc e)
 
 module _ (allowed : SendsAreAllowed) (numbered : SendsAreNumbered) (lent : List (List ℕ)) (task : Task)
-    (is_task : IsTask lent task) where
+    (is_task : IsTask lent task) (low : 1 ≤ task.first) where
   abbrev asked_at : Todo → List Given → Message → Type 0
   asked_at t gs m = (call_no : CallNo) × (asked : SendStep) × (t ≡ Todo.Send call_no asked)
       × (m ≡ message_of lent (after task gs) call_no asked)
@@ -293,7 +293,7 @@ module _ (allowed : SendsAreAllowed) (numbered : SendsAreNumbered) (lent : List 
   sends-next gs are round in_round call_no asked is with_numbers =
       go (sent_of lent task gs) (sent-campaign gs) with_numbers
       (allowed lent task gs is_task are (λ k n. step_bytes lent task.steps) 1 refl (before task ∷ [])
-      (are-earlier lent task is_task) (current task round) round in_round (is-masters task round) call_no asked is)
+      (are-earlier task low) (current task round) round in_round (is-masters task round) call_no asked is)
     where
       m : Message
       m = message_of lent (after task gs) call_no asked

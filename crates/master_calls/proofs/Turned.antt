@@ -1,5 +1,5 @@
 -- Whatever a driver was given, its calls are in turn.
-use Rattle.std.specs.Prelude.{◌≡◌, ℕ, suc, ◌+◌, ◌≤◌, Bool, true, false, if◌then◌else◌, is_some, List, [], ◌∷◌, ◌++◌, map, length, Some, None}
+use Rattle.std.specs.Prelude.{◌≡◌, ℕ, suc, ◌+◌, ◌≤◌, Bool, true, false, if◌then◌else◌, is_some, List, [], ◌∷◌, ◌++◌, map, length, Some, None, Option}
 use Rattle.std.specs.List.{AllByRecursion}
 use Rattle.std.proofs.Common.{refl, sym, ap, subst, ◌∙◌, inl, inr, arith}
 use Rattle.ucm_base.specs.declared.ids.CallNo.{CallNo}
@@ -7,7 +7,7 @@ use Rattle.pm_types.specs.declared.replies.Reply.{Reply}
 use Rattle.world.specs.Messages.{Message, Told, Answered, is_told, told_reply}
 use Rattle.world.specs.Attempts.{with_sent}
 use Rattle.sub_core.specs.declared.answers.Round.{Round}
-use Rattle.sub_core.specs.Driving.{todo}
+use Rattle.sub_core.specs.Driving.{decision_given, todo}
 use Rattle.sub_core.specs.Given.{AreGiven, Given, IsTask, Task, after, sent_of, told_of}
 use Rattle.sub_core.specs.Calls.{step_bytes}
 use Rattle.std.specs.Ordering.{is_eq}
@@ -170,13 +170,14 @@ record Mid (told : List Told) (sent next : List Message) : Type 0 where
   turn : (known : Known) → InTurn (rounds_of told sent) (late_in sent) known
       → InTurn (rounds_of told next) (late_in next) known
 
-pub decided : (late : List Message) → AllByRecursion IsEndMessage late → AllDecided true late
-decided [] all = tt
-decided (m ∷ ms) all = (all.0.0, decided ms all.1)
+pub decided : (decision : Option Bool) (late : List Message) → AllByRecursion (IsEndMessage decision) late
+    → AllDecided true late
+decided decision [] all = tt
+decided decision (m ∷ ms) all = (all.0.0, decided decision ms all.1)
 
 module _ (allowed : SendsAreAllowed) (numbered : SendsAreNumbered) (turns : CallsAreInTurn) (messages :
     MessagesAreInTurn)
-    (lent : List (List ℕ)) (task : Task) (is_task : IsTask lent task) where
+    (lent : List (List ℕ)) (task : Task) (is_task : IsTask lent task) (low : 1 ≤ task.first) where
   abbrev told : List Given → List Told
   told gs = told_of lent task gs
 
@@ -199,7 +200,7 @@ module _ (allowed : SendsAreAllowed) (numbered : SendsAreNumbered) (turns : Call
         late = ms.late;
         early = ms.early;
         split = ms.split;
-        all_late = decided ms.late ms.of_end;
+        all_late = decided (decision_given (after task gs).round) ms.late ms.of_end;
         all_early = ms.of_rounds;
       }
 
@@ -212,9 +213,9 @@ module _ (allowed : SendsAreAllowed) (numbered : SendsAreNumbered) (turns : Call
       → task.first + length (sent gs) ≤ at.number → is_told (told gs) at ≡ false
   not-told [] are at same high = refl
   not-told (g ∷ gs) are at same high =
-      go (goes-on allowed numbered lent task is_task g gs are) (λ h. not-told gs are.1 at same h)
+      go (goes-on allowed numbered lent task is_task low g gs are) (λ h. not-told gs are.1 at same h)
     where
-      go : Goes allowed numbered lent task is_task g gs (told (g ∷ gs)) (sent (g ∷ gs))
+      go : Goes allowed numbered lent task is_task low g gs (told (g ∷ gs)) (sent (g ∷ gs))
           → (task.first + length (sent gs) ≤ at.number → is_told (told gs) at ≡ false)
           → is_told (told (g ∷ gs)) at ≡ false
       go (Stays et es) older = subst (λ t. is_told t at ≡ false) (sym et)
@@ -235,7 +236,7 @@ module _ (allowed : SendsAreAllowed) (numbered : SendsAreNumbered) (turns : Call
           let high = subst (λ s. task.first + length s ≤ at.number) es high in omega (arith, more, high)))
 
   mid : (g : Given) (gs : List Given) → AreGiven task (g ∷ gs) → (round : Round) (m : Message)
-      → IsTimely allowed numbered lent task is_task gs round m → MaySendNow round m (told gs) (sent gs)
+      → IsTimely allowed numbered lent task is_task low gs round m → MaySendNow round m (told gs) (sent gs)
       → sent (g ∷ gs) ≡ with_sent m (sent gs)
       → AllByRecursion (IsEarly (rounds_of (told gs) (sent gs))) (early_in (sent gs))
       → Mid (told gs) (sent gs) (sent (g ∷ gs))
@@ -285,12 +286,12 @@ module _ (allowed : SendsAreAllowed) (numbered : SendsAreNumbered) (turns : Call
               now : rounds_of (told gs) (m ∷ sent gs) ≡ begun
               now = rounds-sent m (told gs) (sent gs) d untold
 
-              ms : AreSentInTurn task.campaign (step_bytes lent task.steps) (told (g ∷ gs)) (sent (g ∷ gs))
+              ms : AreSentInTurn (decision_given (after task (g ∷ gs)).round) task.campaign (step_bytes lent task.steps) (told (g ∷ gs)) (sent (g ∷ gs))
               ms = messages lent task (g ∷ gs) is_task are
 
               all : AllDecided false (m ∷ sent gs)
               all = subst (AllDecided false) (sym (split ∙ ap (λ l. l ++ ms.early)
-                  (none-late m (sent gs) ms.late ms.early split (decided ms.late ms.of_end) d))) ms.of_rounds
+                  (none-late m (sent gs) ms.late ms.early split (decided (decision_given (after task (g ∷ gs)).round) ms.late ms.of_end) d))) ms.of_rounds
                 where
                   split : m ∷ sent gs ≡ ms.late ++ ms.early
                   split = sym new ∙ ms.split
@@ -343,9 +344,9 @@ module _ (allowed : SendsAreAllowed) (numbered : SendsAreNumbered) (turns : Call
   pub early-are : (gs : List Given) → AreGiven task gs
       → AllByRecursion (IsEarly (rounds_of (told gs) (sent gs))) (early_in (sent gs))
   early-are [] are = tt
-  early-are (g ∷ gs) are = go (goes-on allowed numbered lent task is_task g gs are) (early-are gs are.1)
+  early-are (g ∷ gs) are = go (goes-on allowed numbered lent task is_task low g gs are) (early-are gs are.1)
     where
-      go : Goes allowed numbered lent task is_task g gs (told (g ∷ gs)) (sent (g ∷ gs))
+      go : Goes allowed numbered lent task is_task low g gs (told (g ∷ gs)) (sent (g ∷ gs))
           → AllByRecursion (IsEarly (rounds_of (told gs) (sent gs))) (early_in (sent gs))
           → AllByRecursion (IsEarly (rounds_of (told (g ∷ gs)) (sent (g ∷ gs)))) (early_in (sent (g ∷ gs)))
       go (Stays et es) all = subst (λ t. AllByRecursion (IsEarly (rounds_of t (sent (g ∷ gs)))) (early_in (sent (g ∷
@@ -439,7 +440,7 @@ module _ (allowed : SendsAreAllowed) (numbered : SendsAreNumbered) (turns : Call
       after
       → IsToldTo (todo (driven gs)) g after
       → InTurn (rounds_of (told (g ∷ gs)) (sent (g ∷ gs))) (late_in (sent (g ∷ gs))) after
-  turns-on g gs are known after turn come said = go (goes-on allowed numbered lent task is_task g gs are)
+  turns-on g gs are known after turn come said = go (goes-on allowed numbered lent task is_task low g gs are)
     where
       all : AllByRecursion (IsEarly (rounds_of (told gs) (sent gs))) (early_in (sent gs))
       all = early-are gs are.1
@@ -449,7 +450,7 @@ module _ (allowed : SendsAreAllowed) (numbered : SendsAreNumbered) (turns : Call
           (arrives gs gs known after are.1 are.1 (omega arith) all turn
           (subst (λ s. MayCome (posts_in s) known after) es come))
 
-      come-mid : (round : Round) (m : Message) → IsTimely allowed numbered lent task is_task gs round m
+      come-mid : (round : Round) (m : Message) → IsTimely allowed numbered lent task is_task low gs round m
           → MaySendNow round m (told gs) (sent gs) → sent (g ∷ gs) ≡ with_sent m (sent gs)
           → InTurn (rounds_of (told gs) (sent (g ∷ gs))) (late_in (sent (g ∷ gs))) after
       come-mid round m late next es =
@@ -458,7 +459,7 @@ module _ (allowed : SendsAreAllowed) (numbered : SendsAreNumbered) (turns : Call
           (subst (λ s. sent_early (sent gs) ≤ sent_early s) (sym es) (more-early m (sent gs))) now.early
           (now.turn known turn) come
 
-      go : Goes allowed numbered lent task is_task g gs (told (g ∷ gs)) (sent (g ∷ gs))
+      go : Goes allowed numbered lent task is_task low g gs (told (g ∷ gs)) (sent (g ∷ gs))
           → InTurn (rounds_of (told (g ∷ gs)) (sent (g ∷ gs))) (late_in (sent (g ∷ gs))) after
       go (Stays et es) =
           subst (λ t. InTurn (rounds_of t (sent (g ∷ gs))) (late_in (sent (g ∷ gs))) after) (sym et) (still es)
@@ -477,6 +478,6 @@ module _ (allowed : SendsAreAllowed) (numbered : SendsAreNumbered) (turns : Call
 pub calls-go : SendsAreAllowed → SendsAreNumbered → CallsAreInTurn → MessagesAreInTurn → CallsGoInTurn
 calls-go allowed numbered turns messages = (
   record { first = []; ends = []; split = refl; of_rounds = inl refl; of_later = tt; doubt = tt },
-  (λ lent task g gs is_task are known after turn come said.
-      turns-on allowed numbered turns messages lent task is_task g gs are known after turn come said),
+  (λ lent task g gs is_task low are known after turn come said.
+      turns-on allowed numbered turns messages lent task is_task low g gs are known after turn come said),
 )

@@ -36,7 +36,8 @@ IsToldTo _ _ known = ⊤
 abbrev pub CallsGoInTurn : Type 0
 CallsGoInTurn =
     InTurn no_rounds [] nothing_known
-    × ((lent : List (List ℕ)) (task : Task) (g : Given) (gs : List Given) → IsTask lent task → AreGiven task (g ∷ gs)
+    × ((lent : List (List ℕ)) (task : Task) (g : Given) (gs : List Given) → IsTask lent task → 1 ≤ task.first
+    → AreGiven task (g ∷ gs)
     → (known then : Known)
     → InTurn (rounds_of (told_of lent task gs) (sent_of lent task gs)) (late_in (sent_of lent task gs)) known
     → MayCome (posts_in (sent_of lent task (g ∷ gs))) known then → IsToldTo (todo (after task gs)) g then
@@ -47,7 +48,7 @@ CallsGoInTurn =
 -- later epochs
 abbrev pub MessagesFit : Type 0
 MessagesFit =
-    (lent : List (List ℕ)) (task : Task) (gs : List Given) → IsTask lent task → AreGiven task gs
+    (lent : List (List ℕ)) (task : Task) (gs : List Given) → IsTask lent task → 1 ≤ task.first → AreGiven task gs
     → AllByRecursion (IsEarly (rounds_of (told_of lent task gs) (sent_of lent task gs))) (early_in (sent_of lent task
     gs))
     × AllByRecursion (IsLater (rounds_of (told_of lent task gs) (sent_of lent task gs))) (late_in (sent_of lent task
@@ -94,6 +95,6 @@ OrderFollows =
 -- while a round goes on, the round of each call that was sent has come
 abbrev pub RoundsAreDue : Type 0
 RoundsAreDue =
-    (lent : List (List ℕ)) (task : Task) (gs : List Given) → IsTask lent task → AreGiven task gs
+    (lent : List (List ℕ)) (task : Task) (gs : List Given) → IsTask lent task → 1 ≤ task.first → AreGiven task gs
     → (round : Round) → (after task gs).round ≡ Some round → IsBeforeEnd (Some round)
     → IsTrue (list_all (is_due (phase_of round)) (calls_in (sent_of lent task gs)))
