@@ -1,5 +1,5 @@
 -- How the master's calls end, and that they go in order.
-use Rattle.std.specs.Prelude.{◌≡◌, ℕ, zero, suc, ◌+◌, ◌<◌, ◌≤◌, Bool, true, false, ◌&&◌, ◌||◌, if◌then◌else◌, IsTrue, List, [], ◌∷◌, ◌++◌, map, length, take, Option, Some, None}
+use Rattle.std.specs.Prelude.{◌≡◌, ℕ, zero, suc, ◌+◌, ◌<◌, ◌≤◌, Bool, true, false, ◌&&◌, ◌||◌, if◌then◌else◌, IsTrue, List, [], ◌∷◌, ◌++◌, map, length, take, Option, Some, None, not}
 use Rattle.std.specs.List.{AllByRecursion, list_all, list_any}
 use Rattle.std.proofs.Common.{refl, sym, ap, subst, ◌∙◌, inl, inr, arith}
 use Rattle.std.proofs.lemmas.Bool.{and_parts}
@@ -30,7 +30,7 @@ use Rattle.client_calls.specs.Calls.{AreBelow, IsBelow, Known, Posted, entry_of}
 use Rattle.client_calls.specs.Arrivals.{IsOf}
 use Rattle.client_calls.proofs.Arriving.{all-of-more, among-all, below-self, last-of, of-more}
 use Rattle.master_calls.specs.Turn.{AreFirst, InTurn, IsDoubtIn, IsEarly, IsLater, early_in, late_in, pending_of, post_of, rounds_of}
-use Rattle.master_calls.specs.Laws.{EndIsAtRest, IsOrdered, MessagesFit, MoreMayComeLater, OrderFollows}
+use Rattle.master_calls.specs.Laws.{EndIsAtRest, IsOrdered, MessagesFit, MoreMayComeLater, NoneGoesBack, OrderFollows, decision_in}
 use Rattle.master_calls.proofs.Sent.{AllDecided}
 use Rattle.master_calls.proofs.Sending.{Answers, Goes, IsTimely, Sends, Shows, Stays, before-round, goes-early, goes-on, nothing-round, step-round}
 use Rattle.master_calls.proofs.Turning.{last-same, later-are}
@@ -198,12 +198,48 @@ all-ends f later (m ∷ ms) all of =
     let one = among-all (λ p. IsTrue (f p.at p.call)) later of.0.post all of.0.among in
     rw (of.0.number, of.0.call, one, all-ends f later ms all of.1) refl
 
-none-decided : (decided : Bool) (later : List Posted) (ends : List Made) → IsTrue (decided || has_none later)
-    → AllByRecursion (IsOf later) ends → IsTrue (decided || has_none ends)
-none-decided true later ends is of = refl
-none-decided false later [] is of = refl
-none-decided false [] (m ∷ ms) is of = absurd of.0.among
-none-decided false (p ∷ ps) (m ∷ ms) is of = absurd (cc is)
+all-end : (d : Option Bool) (later : List Posted) → AllByRecursion (λ p. IsTrue (is_permitted d p.call)) later
+    → AllByRecursion (λ p. IsTrue (is_end_call p.call)) later
+all-end d [] all = tt
+all-end d (p ∷ ps) all = (permitted-end d p.call all.0, all-end d ps all.1)
+
+all-stay : (later : List Posted) → AllByRecursion (λ p. IsTrue (is_permitted (Some true) p.call)) later
+    → AllByRecursion (λ p. IsTrue (not (goes_back p.call))) later
+all-stay [] all = tt
+all-stay (p ∷ ps) all = (ap not (permitted-stays p.call all.0), all-stay ps all.1)
+
+-- without a decision nothing comes later
+none-decided : (list : List MasterEvent) (later : List Posted) (ends : List Made)
+    → AllByRecursion (λ p. IsTrue (is_permitted (decision_in list) p.call)) later → AllByRecursion (IsOf later) ends
+    → IsTrue (has_decision list || has_none ends)
+none-decided list later ends permitted of = go (has_decision list) refl (has_commit list) refl ends of
+  where
+    none : (d : Option Bool) → d ≡ None → (ps : List Posted) → AllByRecursion (λ p. IsTrue (is_permitted d p.call)) ps
+        → (es : List Made) → AllByRecursion (IsOf ps) es → has_none es ≡ true
+    none d is ps all [] of = refl
+    none d is [] all (e ∷ es) of = absurd of.0.among
+    none d is (p ∷ ps) all (e ∷ es) of = absurd (cc (sym (subst (λ x. is_permitted x p.call ≡ true) is all.0)))
+
+    go : (b : Bool) → has_decision list ≡ b → (c : Bool) → has_commit list ≡ c → (es : List Made)
+        → AllByRecursion (IsOf later) es → IsTrue (has_decision list || has_none es)
+    go true e c f es of = rw e refl
+    go false e true f es of = absurd (cc (sym e ∙ commit-decides list f))
+    go false e false f es of = rw e (none (decision_in list) (rw (f, e) refl) later permitted es of)
+
+-- what doesn't go back one by one doesn't go back
+none-back : (ms : List Made) → list_all (λ m. not (goes_back m.call)) ms ≡ true
+    → list_any (λ m. goes_back m.call) ms ≡ false
+none-back [] all = refl
+none-back (m ∷ ms) all =
+    let both = and_parts (not (goes_back m.call)) (list_all (λ (x : Made). not (goes_back x.call)) ms) all in
+    grind (arith, both.0, none-back ms both.1)
+
+all-due-stay : (phase : Option Phase) (ms : List Made) → list_all (λ m. is_due phase m.call) ms ≡ true
+    → list_all (λ m. not (goes_back m.call)) ms ≡ true
+all-due-stay phase [] all = refl
+all-due-stay phase (m ∷ ms) all =
+    let both = and_parts (is_due phase m.call) (list_all (λ (x : Made). is_due phase x.call) ms) all in
+    rw (due-stays phase m.call both.0, all-due-stay phase ms both.1) refl
 
 before-given : (g : Given) (d : DriverState) → MayBe g d → IsBeforeEnd (given g d).round → IsBeforeEnd d.round
 before-given (Begun round) d may is = before-round round d may
@@ -212,173 +248,192 @@ before-given GaveNothing d may is = subst IsBeforeEnd (nothing-round d) is
 
 module _ (allowed : SendsAreAllowed) (numbered : SendsAreNumbered) (turns : CallsAreInTurn) (messages :
     MessagesAreInTurn)
-    (rounds : RoundsAreMade) (lent : List (List ℕ)) (task : Task) (is_task : IsTask lent task) (low : 1 ≤ task.first) where
-  abbrev told : List Given → List Told
-  told gs = told_of lent task gs
+    (rounds : RoundsAreMade) (lent : List (List ℕ)) (task : Task) (is_task : IsTask lent task) (low : 1 ≤ task.first)
+  where
+    abbrev told : List Given → List Told
+    told gs = told_of lent task gs
 
-  abbrev sent : List Given → List Message
-  sent gs = sent_of lent task gs
+    abbrev sent : List Given → List Message
+    sent gs = sent_of lent task gs
 
-  fits : (gs : List Given) → AreGiven task gs
-      → AllByRecursion (IsEarly (rounds_of (told gs) (sent gs))) (early_in (sent gs))
-      × AllByRecursion (IsLater (rounds_of (told gs) (sent gs))) (late_in (sent gs))
-      × ((p : Posted) → task.epoch < p.at.epoch → IsLater (rounds_of (told gs) (sent gs)) p)
-  fits gs are = (
-    early-are allowed numbered turns messages lent task is_task low gs are,
-    later-are task.epoch task.first (told gs) (sent gs)
-        (facts-with allowed numbered turns messages lent task is_task low gs gs are are (omega arith)),
-    (λ p above. record {
-      answered = below-epoch task.epoch task.first (made_early (told gs)) p.at
-          (turns lent task gs is_task are).of_rounds.numbers above;
-      pending = (λ q is. inl (subst (λ e. e < p.at.epoch)
-          (sym (pending-epoch task.epoch task.first (told gs) (sent gs) q (numbered lent task gs is_task are) is))
-          above));
-    }),
-  )
+    fits : (gs : List Given) → AreGiven task gs
+        → AllByRecursion (IsEarly (rounds_of (told gs) (sent gs))) (early_in (sent gs))
+        × AllByRecursion (IsLater (rounds_of (told gs) (sent gs))) (late_in (sent gs))
+        × ((p : Posted) → task.epoch < p.at.epoch → IsLater (rounds_of (told gs) (sent gs)) p)
+    fits gs are = (
+      early-are allowed numbered turns messages lent task is_task low gs are,
+      later-are task.epoch task.first (told gs) (sent gs)
+          (facts-with allowed numbered turns messages lent task is_task low gs gs are are (omega arith)),
+      (λ p above. record {
+        answered = below-epoch task.epoch task.first (made_early (told gs)) p.at
+            (turns lent task gs is_task are).of_rounds.numbers above;
+        pending = (λ q is. inl (subst (λ e. e < p.at.epoch)
+            (sym (pending-epoch task.epoch task.first (told gs) (sent gs) q (numbered lent task gs is_task are) is))
+            above));
+      }),
+    )
 
-  -- before the end nothing is decided
-  undecided : (gs : List Given) → AreGiven task gs → IsBeforeEnd (after task gs).round
-      → AllDecided false (sent gs) × (made_late (told gs) ≡ [])
-  undecided [] are is = (tt, refl)
-  undecided (g ∷ gs) are is =
-      go (goes-on allowed numbered lent task is_task low g gs are) (undecided gs are.1 before)
-    where
-      before : IsBeforeEnd (after task gs).round
-      before = before-given g (after task gs) are.0 is
+    -- before the end nothing is decided
+    undecided : (gs : List Given) → AreGiven task gs → IsBeforeEnd (after task gs).round
+        → AllDecided false (sent gs) × (made_late (told gs) ≡ [])
+    undecided [] are is = (tt, refl)
+    undecided (g ∷ gs) are is =
+        go (goes-on allowed numbered lent task is_task low g gs are) (undecided gs are.1 before)
+      where
+        before : IsBeforeEnd (after task gs).round
+        before = before-given g (after task gs) are.0 is
 
-      early : (round : Round) (m : Message) → IsTimely allowed numbered lent task is_task low gs round m → m.decided ≡ false
-      early round m timely = timely.decided ∙ goes-early task gs are.1 before
+        early : (round : Round) (m : Message) → IsTimely allowed numbered lent task is_task low gs round m → m.decided ≡
+            false
+        early round m timely = timely.decided ∙ goes-early task gs are.1 before
 
-      go : Goes allowed numbered lent task is_task low g gs (told (g ∷ gs)) (sent (g ∷ gs))
-          → AllDecided false (sent gs) × (made_late (told gs) ≡ [])
-          → AllDecided false (sent (g ∷ gs)) × (made_late (told (g ∷ gs)) ≡ [])
-      go (Stays et es) all = (subst (AllDecided false) (sym es) all.0, ap made_late et ∙ all.1)
-      go (Shows status et es) all = (subst (AllDecided false) (sym es) all.0, ap made_late et ∙ all.1)
-      go (Sends round m timely next et es) all = (
-        subst (AllDecided false) (sym es) (all-with m (sent gs) (early round m timely) all.0),
-        ap made_late et ∙
-            all.1,
-      )
-      go (Answers round m reply timely next et es answered) all = (
-        subst (AllDecided false) (sym es) (all-with m (sent gs) (early round m timely) all.0),
-        ap made_late et ∙ made-late m reply (told gs) (early round m timely) all.1,
-      )
+        go : Goes allowed numbered lent task is_task low g gs (told (g ∷ gs)) (sent (g ∷ gs))
+            → AllDecided false (sent gs) × (made_late (told gs) ≡ [])
+            → AllDecided false (sent (g ∷ gs)) × (made_late (told (g ∷ gs)) ≡ [])
+        go (Stays et es) all = (subst (AllDecided false) (sym es) all.0, ap made_late et ∙ all.1)
+        go (Shows status et es) all = (subst (AllDecided false) (sym es) all.0, ap made_late et ∙ all.1)
+        go (Sends round m timely next et es) all = (
+          subst (AllDecided false) (sym es) (all-with m (sent gs) (early round m timely) all.0),
+          ap made_late et ∙
+              all.1,
+        )
+        go (Answers round m reply timely next et es answered) all = (
+          subst (AllDecided false) (sym es) (all-with m (sent gs) (early round m timely) all.0),
+          ap made_late et ∙ made-late m reply (told gs) (early round m timely) all.1,
+        )
 
-  -- what is said of the entries of the rounds
-  record AreFine (phase : Option Phase) (gs : List Given) (first : List Made) : Type 0 where
-    of : IsOfRounds task.campaign task.epoch task.first (step_bytes lent task.steps) first
-    within : length first ≤ length (sent gs)
-    due : IsTrue (list_all (λ m. is_due phase m.call) first)
+    -- what is said of the entries of the rounds
+    record AreFine (phase : Option Phase) (gs : List Given) (first : List Made) : Type 0 where
+      of : IsOfRounds task.campaign task.epoch task.first (step_bytes lent task.steps) first
+      within : length first ≤ length (sent gs)
+      due : IsTrue (list_all (λ m. is_due phase m.call) first)
 
-  module _ (phase : Option Phase) (gs : List Given) (are : AreGiven task gs) (before : IsBeforeEnd (after task
-      gs).round)
-      (due : IsTrue (list_all (is_due phase) (calls_in (sent gs)))) where
-    -- the calls that were sent are the first of the rounds
-    sent-calls : calls_in (sent gs)
-        ≡ take (length (sent gs)) (round_calls task.campaign (ids_given (made_early (told gs))) (step_bytes lent
-        task.steps))
-    sent-calls =
-        let ms = messages lent task gs is_task are in
-        let same = split-early ms.late ms.early (sent gs) ms.split (decided (decision_given (after task gs).round) ms.late ms.of_end) (undecided gs are
-        before).0 in
-        ap calls_in same ∙ (ms.calls ∙ ap (λ (l : List Message). take (length l)
-        (round_calls task.campaign (ids_given (made_early (told gs))) (step_bytes lent task.steps))) (sym same))
+    module _ (phase : Option Phase) (gs : List Given) (are : AreGiven task gs) (before : IsBeforeEnd (after task
+        gs).round)
+        (due : IsTrue (list_all (is_due phase) (calls_in (sent gs)))) where
+      -- the calls that were sent are the first of the rounds
+      sent-calls : calls_in (sent gs)
+          ≡ take (length (sent gs)) (round_calls task.campaign (ids_given (made_early (told gs))) (step_bytes lent
+          task.steps))
+      sent-calls =
+          let ms = messages lent task gs is_task are in
+          let same = split-early ms.late ms.early (sent gs) ms.split (decided (decision_given (after task gs).round)
+          ms.late ms.of_end) (undecided gs are
+          before).0 in
+          ap calls_in same ∙ (ms.calls ∙ ap (λ (l : List Message). take (length l)
+          (round_calls task.campaign (ids_given (made_early (told gs))) (step_bytes lent task.steps))) (sym same))
 
-    answered-fine : AreFine phase gs (made_early (told gs))
-    answered-fine =
-        let turn = turns lent task gs is_task are in
-        let few : length (made_early (told gs)) ≤ length (sent gs) =
-        subst (λ n. length (made_early (told gs)) ≤ n) (all-early-count (sent gs) (undecided gs are before).0)
-        turn.within in
+      answered-fine : AreFine phase gs (made_early (told gs))
+      answered-fine =
+          let turn = turns lent task gs is_task are in
+          let few : length (made_early (told gs)) ≤ length (sent gs) =
+          subst (λ n. length (made_early (told gs)) ≤ n) (all-early-count (sent gs) (undecided gs are before).0)
+          turn.within in
+          record {
+            of = turn.of_rounds;
+            within = few;
+            due = sym (list_all-map (is_due phase) (λ (m : Made). m.call) (made_early (told gs)))
+                ∙ (ap (list_all (is_due phase)) turn.of_rounds.calls
+                ∙ list-all-take (is_due phase)
+                (round_calls task.campaign (ids_given (made_early (told gs))) (step_bytes lent task.steps))
+                (length (made_early (told gs))) (length (sent gs)) few (sym (ap (list_all (is_due phase)) sent-calls) ∙
+                due));
+          }
+
+      pending-fine : (p : Posted) (reply : Reply) → pending_of (told gs) (early_in (sent gs)) ≡ Some p
+          → AreFine phase gs (made_early (told gs) ++ entry_of p reply ∷ [])
+      pending-fine p reply pending = go (sent gs) refl (undecided gs are before).0 pending
+        where
+          made : made_in (told gs) ≡ made_early (told gs)
+          made = (turns lent task gs is_task are).split
+              ∙ (ap (λ ms. made_early (told gs) ++ ms) (undecided gs are before).1 ∙ append-nil (made_early (told gs)))
+
+          one : (m : Message) (older : List Message) → sent gs ≡ m ∷ older → is_told (told gs) m.at ≡ false
+              → AreFine phase gs (made_early (told gs) ++ made_of m reply ∷ [])
+          one m older is untold =
+              let of = subst (λ ms. IsOfRounds task.campaign task.epoch task.first (step_bytes lent task.steps)
+              (ms ++ made_of m reply ∷ [])) made ((rounds lent task gs is_task are before).1 m older is untold reply) in
+              let last = last-number task.epoch task.first (made_early (told gs)) (made_of m reply) of.numbers in
+              let at = (subst (AreNumbered task.epoch task.first) is (numbered lent task gs is_task are)).0 in
+              let number : m.at.number ≡ task.first + length older = ap (λ (a : CallNo). a.number) at in
+              let more = length-and (made_early (told gs)) (made_of m reply) in
+              let long = ap (λ (l : List Message). length l) is in
+              let both = and_parts (list_all (is_due phase) (calls_in older)) (list_all (is_due phase) (m.call ∷ []))
+              (sym (list_all-append (is_due phase) (calls_in older) (m.call ∷ []))
+              ∙ (sym (ap (λ (l : List Message). list_all (is_due phase) (calls_in l)) is) ∙ due)) in
+              record {
+                of = of;
+                within = omega (arith, last, number, more, long);
+                due = list_all-append (λ (x : Made). is_due phase x.call) (made_early (told gs)) (made_of m reply ∷ [])
+                    ∙ rw (answered-fine.due, both.1) refl;
+              }
+
+          go : (ms : List Message) → sent gs ≡ ms → AllDecided false ms
+              → pending_of (told gs) (early_in ms) ≡ Some p
+              → AreFine phase gs (made_early (told gs) ++ entry_of p reply ∷ [])
+          go [] is all e = absurd (cc e)
+          go (m ∷ older) is all e = by (is_told (told gs) m.at) refl
+              (sym (ap (λ b. pending_of (told gs) (if b then early_in older else post_of m ∷ early_in older)) all.0) ∙ e)
+            where
+              by : (b : Bool) → is_told (told gs) m.at ≡ b → (if b then None else Some (post_of m)) ≡ Some p
+                  → AreFine phase gs (made_early (told gs) ++ entry_of p reply ∷ [])
+              by true said e = absurd (cc e)
+              by false said e =
+                  let same : post_of m ≡ p = cc e in
+                  subst (λ (q : Posted). AreFine phase gs (made_early (told gs) ++ entry_of q reply ∷ [])) same
+                  (one m older is said)
+
+    all-fine : (phase : Option Phase) (gs : List Given) (are : AreGiven task gs) → IsBeforeEnd (after task gs).round
+        → IsTrue (list_all (is_due phase) (calls_in (sent gs))) → (first : List Made)
+        → AreFirst (rounds_of (told gs) (sent gs)) first → AreFine phase gs first
+    all-fine phase gs are before due first (inl is) = subst (AreFine phase gs) (sym is) (answered-fine phase gs are
+        before due)
+    all-fine phase gs are before due first (inr (p, reply, pending, is)) =
+        subst (AreFine phase gs) (sym is) (pending-fine phase gs are before due p reply pending)
+
+    order : (n : ℕ) (list : List MasterEvent) (gs : List Given) (later : List Posted) → AreGiven task gs
+        → IsOrdered n list lent task gs later → (known : Known)
+        → (turn : InTurn (rounds_of (told gs) (sent gs)) later known)
+        → (IsTrue (has_end n list) → IsTrue (ends_at_rest turn.ends))
+        → GoesInOrder task.campaign n (step_bytes lent task.steps) list known.mine
+    order n list gs later are ordered known turn rest =
+        let fine = all-fine (phase_in None list) gs are ordered.before ordered.due turn.first turn.of_rounds in
         record {
-          of = turn.of_rounds;
-          within = few;
-          due = sym (list_all-map (is_due phase) (λ (m : Made). m.call) (made_early (told gs)))
-              ∙ (ap (list_all (is_due phase)) turn.of_rounds.calls
-              ∙ list-all-take (is_due phase)
-              (round_calls task.campaign (ids_given (made_early (told gs))) (step_bytes lent task.steps))
-              (length (made_early (told gs))) (length (sent gs)) few (sym (ap (list_all (is_due phase)) sent-calls) ∙
-              due));
+          rounds = turn.first;
+          ends = turn.ends;
+          sent = length (sent gs);
+          split = turn.split;
+          first = subst (λ o. IsOfRoundsIn o task.campaign (step_bytes lent task.steps) turn.first) (sym ordered.epoch)
+              (subst (λ f. IsOfRounds task.campaign task.epoch f (step_bytes lent task.steps) turn.first) ordered.first
+              fine.of);
+          due = fine.due;
+          within = fine.within;
+          begun = ordered.begun;
+          calls = all-ends (λ at call. is_end_call call) later turn.ends (all-end (decision_in list) later ordered.calls)
+              turn.of_later;
+          later = subst (λ o. IsTrue (list_all (λ m. is_later_than o (length (sent gs)) list m.at) turn.ends))
+              (sym ordered.epoch)
+              (all-ends (λ at call. is_later_than (Some task.epoch) (length (sent gs)) list at) later turn.ends
+              ordered.above
+              turn.of_later);
+          decided = none-decided list later turn.ends ordered.calls turn.of_later;
+          rest = rest;
         }
 
-    pending-fine : (p : Posted) (reply : Reply) → pending_of (told gs) (early_in (sent gs)) ≡ Some p
-        → AreFine phase gs (made_early (told gs) ++ entry_of p reply ∷ [])
-    pending-fine p reply pending = go (sent gs) refl (undecided gs are before).0 pending
+    back : (n : ℕ) (list : List MasterEvent) (gs : List Given) (later : List Posted) → AreGiven task gs
+        → IsOrdered n list lent task gs later → (known : Known) → InTurn (rounds_of (told gs) (sent gs)) later known
+        → IsTrue (has_commit list) → IsTrue (not (list_any (λ m. goes_back m.call) known.mine))
+    back n list gs later are ordered known turn commit =
+        let fine = all-fine (phase_in None list) gs are ordered.before ordered.due turn.first turn.of_rounds in
+        let permitted = subst (λ d. AllByRecursion (λ p. IsTrue (is_permitted d p.call)) later) committed ordered.calls in
+        let first = all-due-stay (phase_in None list) turn.first fine.due in
+        let ends = all-ends (λ at call. not (goes_back call)) later turn.ends (all-stay later permitted) turn.of_later in
+        ap not (ap (list_any (λ (m : Made). goes_back m.call)) turn.split
+        ∙ none-back (turn.first ++ turn.ends) (list_all-append (λ (m : Made). not (goes_back m.call)) turn.first turn.ends
+        ∙ rw (first, ends) refl))
       where
-        made : made_in (told gs) ≡ made_early (told gs)
-        made = (turns lent task gs is_task are).split
-            ∙ (ap (λ ms. made_early (told gs) ++ ms) (undecided gs are before).1 ∙ append-nil (made_early (told gs)))
-
-        one : (m : Message) (older : List Message) → sent gs ≡ m ∷ older → is_told (told gs) m.at ≡ false
-            → AreFine phase gs (made_early (told gs) ++ made_of m reply ∷ [])
-        one m older is untold =
-            let of = subst (λ ms. IsOfRounds task.campaign task.epoch task.first (step_bytes lent task.steps)
-            (ms ++ made_of m reply ∷ [])) made ((rounds lent task gs is_task are before).1 m older is untold reply) in
-            let last = last-number task.epoch task.first (made_early (told gs)) (made_of m reply) of.numbers in
-            let at = (subst (AreNumbered task.epoch task.first) is (numbered lent task gs is_task are)).0 in
-            let number : m.at.number ≡ task.first + length older = ap (λ (a : CallNo). a.number) at in
-            let more = length-and (made_early (told gs)) (made_of m reply) in
-            let long = ap (λ (l : List Message). length l) is in
-            let both = and_parts (list_all (is_due phase) (calls_in older)) (list_all (is_due phase) (m.call ∷ []))
-            (sym (list_all-append (is_due phase) (calls_in older) (m.call ∷ []))
-            ∙ (sym (ap (λ (l : List Message). list_all (is_due phase) (calls_in l)) is) ∙ due)) in
-            record {
-              of = of;
-              within = omega (arith, last, number, more, long);
-              due = list_all-append (λ (x : Made). is_due phase x.call) (made_early (told gs)) (made_of m reply ∷ [])
-                  ∙ rw (answered-fine.due, both.1) refl;
-            }
-
-        go : (ms : List Message) → sent gs ≡ ms → AllDecided false ms
-            → pending_of (told gs) (early_in ms) ≡ Some p
-            → AreFine phase gs (made_early (told gs) ++ entry_of p reply ∷ [])
-        go [] is all e = absurd (cc e)
-        go (m ∷ older) is all e = by (is_told (told gs) m.at) refl
-            (sym (ap (λ b. pending_of (told gs) (if b then early_in older else post_of m ∷ early_in older)) all.0) ∙ e)
-          where
-            by : (b : Bool) → is_told (told gs) m.at ≡ b → (if b then None else Some (post_of m)) ≡ Some p
-                → AreFine phase gs (made_early (told gs) ++ entry_of p reply ∷ [])
-            by true said e = absurd (cc e)
-            by false said e =
-                let same : post_of m ≡ p = cc e in
-                subst (λ (q : Posted). AreFine phase gs (made_early (told gs) ++ entry_of q reply ∷ [])) same
-                (one m older is said)
-
-  all-fine : (phase : Option Phase) (gs : List Given) (are : AreGiven task gs) → IsBeforeEnd (after task gs).round
-      → IsTrue (list_all (is_due phase) (calls_in (sent gs))) → (first : List Made)
-      → AreFirst (rounds_of (told gs) (sent gs)) first → AreFine phase gs first
-  all-fine phase gs are before due first (inl is) = subst (AreFine phase gs) (sym is) (answered-fine phase gs are
-      before due)
-  all-fine phase gs are before due first (inr (p, reply, pending, is)) =
-      subst (AreFine phase gs) (sym is) (pending-fine phase gs are before due p reply pending)
-
-  order : (n : ℕ) (list : List MasterEvent) (gs : List Given) (later : List Posted) → AreGiven task gs
-      → IsOrdered n list lent task gs later → (known : Known)
-      → (turn : InTurn (rounds_of (told gs) (sent gs)) later known)
-      → (IsTrue (has_end n list) → IsTrue (ends_at_rest turn.ends))
-      → GoesInOrder task.campaign n (step_bytes lent task.steps) list known.mine
-  order n list gs later are ordered known turn rest =
-      let fine = all-fine (phase_in None list) gs are ordered.before ordered.due turn.first turn.of_rounds in
-      record {
-        rounds = turn.first;
-        ends = turn.ends;
-        sent = length (sent gs);
-        split = turn.split;
-        first = subst (λ o. IsOfRoundsIn o task.campaign (step_bytes lent task.steps) turn.first) (sym ordered.epoch)
-            (subst (λ f. IsOfRounds task.campaign task.epoch f (step_bytes lent task.steps) turn.first) ordered.first
-            fine.of);
-        due = fine.due;
-        within = fine.within;
-        begun = ordered.begun;
-        calls = all-ends (λ at call. is_end_call call) later turn.ends ordered.calls turn.of_later;
-        later = subst (λ o. IsTrue (list_all (λ m. is_later_than o (length (sent gs)) list m.at) turn.ends))
-            (sym ordered.epoch)
-            (all-ends (λ at call. is_later_than (Some task.epoch) (length (sent gs)) list at) later turn.ends
-            ordered.above
-            turn.of_later);
-        decided = none-decided (has_decision list) later turn.ends ordered.decided turn.of_later;
-        rest = rest;
-      }
+        committed : decision_in list ≡ Some true
+        committed = ap (λ b. if b then Some true else (if has_decision list then Some false else None)) commit
 
 pub messages-fit : SendsAreAllowed → SendsAreNumbered → CallsAreInTurn → MessagesAreInTurn → RoundsAreMade → MessagesFit
 messages-fit allowed numbered turns messages rounds lent task gs is_task low are =
@@ -389,3 +444,9 @@ pub order-follows : SendsAreAllowed → SendsAreNumbered → CallsAreInTurn → 
 order-follows allowed numbered turns messages rounds n list lent task gs later is_task are ordered known turn rest =
     let low : 1 ≤ task.first = let first = ordered.first in omega (arith, first) in
     order allowed numbered turns messages rounds lent task is_task low n list gs later are ordered known turn rest
+
+pub none-goes-back : SendsAreAllowed → SendsAreNumbered → CallsAreInTurn → MessagesAreInTurn → RoundsAreMade
+    → NoneGoesBack
+none-goes-back allowed numbered turns messages rounds n list lent task gs later is_task are ordered known turn =
+    let low : 1 ≤ task.first = let first = ordered.first in omega (arith, first) in
+    back allowed numbered turns messages rounds lent task is_task low n list gs later are ordered known turn

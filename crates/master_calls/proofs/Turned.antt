@@ -286,12 +286,14 @@ module _ (allowed : SendsAreAllowed) (numbered : SendsAreNumbered) (turns : Call
               now : rounds_of (told gs) (m ∷ sent gs) ≡ begun
               now = rounds-sent m (told gs) (sent gs) d untold
 
-              ms : AreSentInTurn (decision_given (after task (g ∷ gs)).round) task.campaign (step_bytes lent task.steps) (told (g ∷ gs)) (sent (g ∷ gs))
+              ms : AreSentInTurn (decision_given (after task (g ∷ gs)).round) task.campaign (step_bytes lent
+                  task.steps) (told (g ∷ gs)) (sent (g ∷ gs))
               ms = messages lent task (g ∷ gs) is_task are
 
               all : AllDecided false (m ∷ sent gs)
               all = subst (AllDecided false) (sym (split ∙ ap (λ l. l ++ ms.early)
-                  (none-late m (sent gs) ms.late ms.early split (decided (decision_given (after task (g ∷ gs)).round) ms.late ms.of_end) d))) ms.of_rounds
+                  (none-late m (sent gs) ms.late ms.early split (decided (decision_given (after task (g ∷ gs)).round)
+                  ms.late ms.of_end) d))) ms.of_rounds
                 where
                   split : m ∷ sent gs ≡ ms.late ++ ms.early
                   split = sym new ∙ ms.split

@@ -1,13 +1,13 @@
 -- What follows for the master's calls on a node from what its driver was given.
-use Rattle.std.specs.Prelude.{◌≡◌, ℕ, ◌<◌, ◌≤◌, ⊤, true, ◌||◌, IsTrue, List, [], ◌∷◌, ◌++◌, length, Some, None}
+use Rattle.std.specs.Prelude.{◌≡◌, ℕ, ◌<◌, ◌≤◌, ⊤, Bool, true, false, not, if◌then◌else◌, IsTrue, List, [], ◌∷◌, ◌++◌, length, Option, Some, None}
 use Rattle.std.specs.List.{AllByRecursion, list_all, list_any}
 use Rattle.pm_types.specs.declared.calls.Call.TheVariants.{Sync}
 use Rattle.pm_types.specs.declared.replies.Reply.{Reply}
 use Rattle.campaign_core.specs.declared.events.MasterEvent.{MasterEvent}
 use Rattle.world.specs.Sends.{is_due}
-use Rattle.run_claim.specs.Masters.{GoesInOrder, epoch_of_begin, has_decision, has_end, is_later_than, phase_in, shows_begun}
+use Rattle.run_claim.specs.Masters.{GoesInOrder, epoch_of_begin, goes_back, has_commit, has_decision, has_end, is_later_than, phase_in, shows_begun}
 use Rattle.sub_core.specs.Calls.{step_bytes}
-use Rattle.sub_core.specs.Made.{calls_in, ends_at_rest, has_none, is_end_call, shows_rest}
+use Rattle.sub_core.specs.Made.{calls_in, ends_at_rest, is_permitted, shows_rest}
 use Rattle.sub_core.specs.declared.answers.Got.{Got}
 use Rattle.sub_core.specs.declared.answers.Round.{Round}
 use Rattle.sub_core.specs.declared.answers.Todo.{Todo}
@@ -38,11 +38,11 @@ CallsGoInTurn =
     InTurn no_rounds [] nothing_known
     × ((lent : List (List ℕ)) (task : Task) (g : Given) (gs : List Given) → IsTask lent task → 1 ≤ task.first
     → AreGiven task (g ∷ gs)
-    → (known then : Known)
+    → (known now : Known)
     → InTurn (rounds_of (told_of lent task gs) (sent_of lent task gs)) (late_in (sent_of lent task gs)) known
-    → MayCome (posts_in (sent_of lent task (g ∷ gs))) known then → IsToldTo (todo (after task gs)) g then
+    → MayCome (posts_in (sent_of lent task (g ∷ gs))) known now → IsToldTo (todo (after task gs)) g now
     → InTurn (rounds_of (told_of lent task (g ∷ gs)) (sent_of lent task (g ∷ gs)))
-    (late_in (sent_of lent task (g ∷ gs))) then)
+    (late_in (sent_of lent task (g ∷ gs))) now)
 
 -- each message of a driver's rounds is answered or pending, and each of its end is above them, as are all of
 -- later epochs
@@ -70,6 +70,10 @@ EndIsAtRest =
     → p.call ≡ Sync → AllByRecursion (λ q. q.at ≡ p.at → q.call ≡ p.call) later
     → IsAnswered p.at reply known → IsTrue (shows_rest reply) → IsTrue (ends_at_rest turn.ends)
 
+-- what the list decided: to commit, to abort, or nothing yet
+abbrev pub decision_in : List MasterEvent → Option Bool
+decision_in list = if has_commit list then Some true else (if has_decision list then Some false else None)
+
 -- what a run shows of the rounds of a node, of what was posted later, and of the master's list
 pub record IsOrdered (n : ℕ) (list : List MasterEvent) (lent : List (List ℕ)) (task : Task) (gs : List Given)
     (later : List Posted) : Type 0 where
@@ -78,10 +82,9 @@ pub record IsOrdered (n : ℕ) (list : List MasterEvent) (lent : List (List ℕ)
   pub first : task.first ≡ 1
   pub due : IsTrue (list_all (is_due (phase_in None list)) (calls_in (sent_of lent task gs)))
   pub begun : IsTrue (list_any (shows_begun n) list) → 1 ≤ length (sent_of lent task gs)
-  pub calls : AllByRecursion (λ p. IsTrue (is_end_call p.call)) later
+  pub calls : AllByRecursion (λ p. IsTrue (is_permitted (decision_in list) p.call)) later
   pub above : AllByRecursion (λ p. IsTrue (is_later_than (Some task.epoch) (length (sent_of lent task gs)) list p.at))
       later
-  pub decided : IsTrue (has_decision list || has_none later)
 
 -- then the master's calls go in the order that the run claims
 abbrev pub OrderFollows : Type 0
@@ -98,3 +101,11 @@ RoundsAreDue =
     (lent : List (List ℕ)) (task : Task) (gs : List Given) → IsTask lent task → 1 ≤ task.first → AreGiven task gs
     → (round : Round) → (after task gs).round ≡ Some round → IsBeforeEnd (Some round)
     → IsTrue (list_all (is_due (phase_of round)) (calls_in (sent_of lent task gs)))
+
+-- and after Commit none of them goes back
+abbrev pub NoneGoesBack : Type 0
+NoneGoesBack =
+    (n : ℕ) (list : List MasterEvent) (lent : List (List ℕ)) (task : Task) (gs : List Given) (later : List Posted)
+    → IsTask lent task → AreGiven task gs → IsOrdered n list lent task gs later
+    → (known : Known) → InTurn (rounds_of (told_of lent task gs) (sent_of lent task gs)) later known
+    → IsTrue (has_commit list) → IsTrue (not (list_any (λ m. goes_back m.call) known.mine))

@@ -5,7 +5,7 @@
 //! their order and then calls of the end phase.
 #![tactic(auto)]
 
-ghost use Rattle.master_calls.specs.Laws.{ArrivalsKeepTurn, CallsGoInTurn, EndIsAtRest, MessagesFit, MoreMayComeLater, OrderFollows, RoundsAreDue};
+ghost use Rattle.master_calls.specs.Laws.{ArrivalsKeepTurn, CallsGoInTurn, EndIsAtRest, MessagesFit, MoreMayComeLater, NoneGoesBack, OrderFollows, RoundsAreDue};
 
 use sub_core::driver_law;
 
@@ -18,6 +18,7 @@ pub fn calls_of_the_master()
     ensures rest { EndIsAtRest }
     ensures due { RoundsAreDue }
     ensures order { OrderFollows }
+    ensures back { NoneGoesBack }
 {
     driver_law();
 }

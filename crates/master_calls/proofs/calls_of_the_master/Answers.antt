@@ -1,6 +1,6 @@
 use Rattle.master_calls.proofs.Arriving.{arrivals-keep}
 use Rattle.master_calls.proofs.Due.{rounds-due}
-use Rattle.master_calls.proofs.Ended.{at-rest, messages-fit, more-come, order-follows}
+use Rattle.master_calls.proofs.Ended.{at-rest, messages-fit, more-come, none-goes-back, order-follows}
 use Rattle.master_calls.proofs.Turned.{calls-go}
 use Rattle.master_calls.proofs.calls_of_the_master.Goals as goal
 
@@ -15,4 +15,5 @@ returns c =
       rest = at-rest;
       due = rounds-due law.allowed law.numbered;
       order = order-follows law.allowed law.numbered law.turns law.messages law.rounds;
+      back = none-goes-back law.allowed law.numbered law.turns law.messages law.rounds;
     }
