@@ -1,9 +1,8 @@
 -- The units of a package are fewer than its bytes.
 use Rattle.node_core.proofs.Names.{Bytes, Holding, IfSome, IsSound, List, None, Option, Part, Processing, SessionOf, Some, all_units, ap}
-use Rattle.node_core.proofs.Names.{Extent, arith, cluster_limit, contents_of, length, length-map, length-take, package_limit, take, client_limit}
-use Rattle.node_core.proofs.Names.{parts_place, PartsLie, payload_at, refl, slice_index_or, stored_of, subst, sum_by-cons, sym, units_of}
-use Rattle.node_core.proofs.Names.{with_length, [], ℕ, ◌+◌, ◌-◌, ◌<◌, ◌^◌, ◌∷◌, ◌≡◌, ◌≤◌, ◌∙◌}
-use Rattle.package_reader.specs.Fields.{number_at}
+use Rattle.node_core.proofs.Names.{Extent, arith, cluster_limit, contents_of, length, length-take, package_limit, take, client_limit}
+use Rattle.node_core.proofs.Names.{parts_place, PartsLie, payload_at, refl, slice_index_or, stored_of, subst, sum_by-cons, units_of}
+use Rattle.node_core.proofs.Names.{[], ℕ, ◌+◌, ◌-◌, ◌<◌, ◌^◌, ◌∷◌, ◌≡◌, ◌≤◌, ◌∙◌}
 use Rattle.pm_types.specs.Validity.{IsSound as IsSoundTransfer}
 use Rattle.node_core.specs.Units.{CanProcess}
 use Rattle.node_core.proofs.Handled.{InHand, at_process, busy, in-hand}
