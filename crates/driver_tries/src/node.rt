@@ -42,7 +42,7 @@ fn formatted(alloc: Global, cluster: Installed) -> Option<Core<MemStaging>>
     let mut clusters = Vec::new(alloc);
     clusters.push(cluster).ok()?;
     let mut staging = MemStaging::new(alloc).ok()?;
-    match format_areas(alloc, &mut staging, clusters) {
+    match format_areas(alloc, &mut staging, clusters.as_slice()) {
         Ok(state) => Some(Core::new(staging, state)),
         Err(_) => None,
     }

@@ -1,4 +1,5 @@
 -- A node that begins with installed clusters is sound.
+use Rattle.std.proofs.Common.{Bor}
 use Rattle.std.proofs.Math.Seq.{take-append_seam}
 use Rattle.std.specs.Prelude.{Ok, Err}
 use Rattle.transfer_blocks.specs.Steps.{End, Step, HasNoFault, Ran, puts, with_bytes, wrote}
@@ -22,6 +23,10 @@ use Rattle.node_core.proofs.Free.{fits-onto}
 use Rattle.node_core.proofs.Named.{not-more}
 use Rattle.node_core.proofs.Ordered.{lt-differ, order-each, order-rises}
 use Rattle.node_core.proofs.Sound.{reading-is}
+
+-- the cluster that is lent
+abbrev pub now : Bor (Cluster Bytes) → Cluster Bytes
+now lent = lent.now
 
 -- names behind one, at higher places
 above : (n : List ℕ) (k j : ℕ) → k < j → (cs : List (Cluster Bytes)) → AllByRecursion (λ c. name_lt n c.name ≡ true) cs

@@ -1,10 +1,13 @@
 -- Clusters in order of name: each is inserted behind those that stand before it.
 use Rattle.node_core.proofs.Names.{AllByRecursion, Bool, Bytes, Cluster, Install, List, all_differ, ap, ap₂, arith, bytes_eq, cond}
 use Rattle.node_core.proofs.Names.{drop, each-append, each-filter, each-imp, each-unmap, false, filter, fold, fold-append, in_order}
-use Rattle.node_core.proofs.Names.{insert, length, length-append, length-filter, length-insert, lt-trans, map-append, name-eq}
+use Rattle.node_core.proofs.Names.{insert, length, length-filter, length-insert, lt-trans, map-append, name-eq}
 use Rattle.node_core.proofs.Names.{name-swap, name_lt, named_before, names-behind, names-tail, names_of, names_rise, nat_list_cmp_total}
 use Rattle.node_core.proofs.Names.{planned-rise, refl, subst, sym, take, texts_ties, true, with_cluster, [], ℕ, ◌++◌, ◌∙◌, ◌∷◌, ◌≡◌}
 use Rattle.node_core.proofs.Names.{◌≤◌}
+use Rattle.std.proofs.Common.{take-append-drop}
+use Rattle.std.proofs.lemmas.List.{drop-map, drop_more, take-map, take_more}
+use Rattle.node_core.proofs.Names.{get_or, map, ◌+◌, ◌<◌}
 use Rattle.node_core.proofs.Named.{differ-before, none-named}
 
 -- the order of names is strict and total
@@ -120,19 +123,45 @@ one-inserted ys c rest h =
     inserted c (in_order ys) (order-rises ys) (order-each (λ d. bytes_eq d.name c.name ≡ false) ys (apart ys c rest h))
     ∙ sym (fold-append (λ ordered c. with_cluster c ordered) [] ys (c ∷ []))
 
--- the next one of a list in order
-module _ (ordered ys rest all new : List (Cluster Bytes)) (c : Cluster Bytes) (k : ℕ) (at : k
-    ≡ length (named_before c.name ordered)) (is : new ≡ insert ordered k c) where
-  pub next-ordered : ys ++ c ∷ rest ≡ all → all_differ (names_of all) ≡ true → ordered ≡ in_order ys
-      → new ≡ in_order (ys ++ c ∷ [])
-  next-ordered whole differ so_far =
-      is ∙ ap (λ j. insert ordered j c) at ∙ ap (λ l. insert l (length (named_before c.name l)) c) so_far
-      ∙ one-inserted ys c rest (ap (λ l. all_differ (names_of l)) whole ∙ differ)
+-- what is lent of clusters stands where these do
+module _ {R : Type 0} (lent : R → Cluster Bytes) where
+  named-lent : (n : List ℕ) (rs : List R)
+      → length (filter (λ r. name_lt (lent r).name n) rs) ≡ length (named_before n (map lent rs))
+  named-lent n [] = refl
+  named-lent n (r ∷ rs) = go (name_lt (lent r).name n) (named-lent n rs)
+    where
+      go : (b : Bool) → length (filter (λ r. name_lt (lent r).name n) rs) ≡ length (named_before n (map lent rs))
+          → length (cond b (r ∷ filter (λ r. name_lt (lent r).name n) rs) (filter (λ r. name_lt (lent r).name n) rs))
+          ≡ length (cond b (lent r ∷ named_before n (map lent rs)) (named_before n (map lent rs)))
+      go true same = omega (arith, same)
+      go false same = same
 
-  pub next-length : length ordered ≡ length ys → length new ≡ length (ys ++ c ∷ [])
-  next-length same =
-      let few : k ≤ length ordered =
-      subst (λ j. j ≤ length ordered) (sym at) (length-filter (λ d. name_lt d.name c.name) ordered) in
-      let one = length-append ys (c ∷ []) in
-      let more = ap length is ∙ length-insert ordered k c few in
-      omega (arith, one, more, same)
+  insert-lent : (rs : List R) (k : ℕ) (r : R) → map lent (insert rs k r) ≡ insert (map lent rs) k (lent r)
+  insert-lent rs k r = map-append lent (take k rs) (r ∷ drop k rs)
+      ∙ (λ i. sym (take-map lent k rs) i ++ lent r ∷ sym (drop-map lent k rs) i)
+
+  -- the next one of a list is inserted into those before it
+  pub next-lent : (sorted new : List R) (all : List (Cluster Bytes)) (i k : ℕ) (r : R) → i < length all
+      → lent r ≡ get_or all i (lent r) → k ≡ length (filter (λ s. name_lt (lent s).name (lent r).name) sorted)
+      → new ≡ insert sorted k r → all_differ (names_of all) ≡ true → map lent sorted ≡ in_order (take i all)
+      → length (map lent sorted) ≡ i
+      → (map lent new ≡ in_order (take (i + 1) all)) × (length (map lent new) ≡ i + 1)
+  next-lent sorted new all i k r less item at is differ so_far many =
+      let c = lent r in
+      let place = at ∙ named-lent c.name sorted in
+      let inserted_here = ap (map lent) is ∙ insert-lent sorted k r in
+      let more : take i all ++ c ∷ [] ≡ take (i + 1) all =
+      ap (λ d. take i all ++ d ∷ []) item ∙ sym (take_more all i c less) in
+      let whole : take i all ++ c ∷ drop (i + 1) all ≡ all =
+      ap (λ d. take i all ++ d ∷ drop (i + 1) all) item
+      ∙ ap (λ l. take i all ++ l) (sym (drop_more all i c less)) ∙ take-append-drop i all in
+      let here = ap (λ j. insert (map lent sorted) j c) place
+      ∙ ap (λ l. insert l (length (named_before c.name l)) c) so_far in
+      let few : k ≤ length (map lent sorted) =
+      subst (λ j. j ≤ length (map lent sorted)) (sym place)
+      (length-filter (λ d. name_lt d.name c.name) (map lent sorted)) in (
+        inserted_here ∙ here
+            ∙ one-inserted (take i all) c (drop (i + 1) all) (ap (λ l. all_differ (names_of l)) whole ∙ differ)
+            ∙ ap in_order more,
+        ap length inserted_here ∙ length-insert (map lent sorted) k c few ∙ omega (arith, many),
+      )

@@ -1,8 +1,7 @@
 -- Units of work.
-use Rattle.std.specs.Prelude.{option_map}
-use Rattle.std.specs.Prelude.{◌≤◌}
+use Rattle.std.specs.Prelude.{option_map, option_and_then, ◌≤◌, ◌<◌, ◌^◌}
 use Rattle.std.specs.Prelude.{◌≡◌, ℕ, ◌+◌, ◌*◌, min, nat_lt, if◌then◌else◌, Bool, false, ⊤, List, length, unwrap_or, IfSome, Option, Some, None, [], ◌∷◌, ◌-◌}
-use Rattle.ucm_base.specs.Limits.{block_limit}
+use Rattle.ucm_base.specs.Limits.{block_limit, cluster_limit}
 use Rattle.ucm_base.specs.Parts.{Bytes}
 use Rattle.pm_types.specs.declared.clusters.Change.{Change}
 use Rattle.ucm_base.specs.declared.parts.Part.{Part}
@@ -27,7 +26,6 @@ use Rattle.pm_types.specs.Work.{process, unit, work_on}
 use Rattle.pm_types.specs.Steps.{with_entry}
 use Rattle.pm_types.specs.declared.history.Happened.TheVariants.{Unit as UnitAfter}
 use Rattle.std.specs.Option.{option_map_or}
-use Rattle.std.specs.Prelude.{option_and_then}
 use Rattle.node_core.specs.declared.plan.Planned.{Planned as Lent}
 use Rattle.node_core.specs.declared.prepared.Prepared.{Prepared}
 use Rattle.node_core.specs.declared.prepared.Prepared.TheVariants.{Changes as Planned, Clusters}
@@ -160,3 +158,8 @@ pub record IsUnitOf (s : State) (n : NextUnit) : Type 0 where
 abbrev pub IsNextUnit : State → Option NextUnit → Type 0
 IsNextUnit s None = IfSome s.session (λ x. IfSome x.processing (λ id. stored_of s.transfers x.owner id ≡ None))
 IsNextUnit s (Some n) = IsUnitOf s n
+
+-- where a package is in processing its units can be counted, and its changes find room
+abbrev pub CanProcess : State → Type 0
+CanProcess s = s.status ≡ Processing → IfSome s.session (λ x. IfSome x.processing (λ id. (x.units_done + 1 < 2 ^ 32)
+    × (length x.changes + length (contents_of (stored_of s.transfers x.owner id)) ≤ cluster_limit)))

@@ -10,7 +10,9 @@ ghost use Rattle.node_laws.specs.Fit.{IsReading, KeepsFit};
 ghost use Rattle.node_laws.specs.NewestKept.{KeepsNewest};
 ghost use Rattle.node_laws.specs.Others.{LeavesSessions};
 ghost use Rattle.node_laws.specs.Runs.{MakesLegal};
+ghost use Rattle.node_core.specs.Core.{Holding, IsSound};
 ghost use Rattle.node_core.specs.Packages.{package_reading};
+ghost use Rattle.node_core.specs.Units.{CanProcess};
 
 mod copying;
 mod destination;
@@ -45,4 +47,10 @@ pub fn nodes_keep_their_laws()
     ensures goes_on { GoesOn package_reading }
     ensures newest { KeepsNewest package_reading }
     ensures sessions { LeavesSessions package_reading }
+{}
+
+/// A sound node can do each unit of a package that is in processing: they can be counted in four bytes, and the changes
+/// that they bring find room.
+pub fn packages_can_be_processed()
+    ensures law { (v : Holding) → IsSound v → CanProcess v.state }
 {}

@@ -72,7 +72,7 @@ fn format_node(alloc: Global, clusters: Vec<Cluster<Block>>) -> Result<Core<MemS
     ensures entries { IfOk result (λ core. core.held.state.entries ≡ 0) }
 {
     let mut staging = MemStaging::new(alloc)?;
-    match format_areas(alloc, &mut staging, clusters) {
+    match format_areas(alloc, &mut staging, clusters.as_slice()) {
         Ok(state) => Ok(Core::new(staging, state)),
         Err(ReserveError::OutOfMemory) => Err(AllocError),
         Err(ReserveError::StagingFailed) => unreachable!(),
@@ -96,8 +96,8 @@ pub fn execute(
 {
     match core.reserve(alloc, client, no, call) {
         Ok(()) => Ok(Given::Reached(core.exec(client, no, call))),
-        // Areas in memory never fail but for want of memory.
-        Err(ReserveError::OutOfMemory | ReserveError::StagingFailed) => Err(AllocError),
+        Err(ReserveError::OutOfMemory) => Err(AllocError),
+        Err(ReserveError::StagingFailed) => unreachable!(),
     }
 }
 
@@ -116,8 +116,8 @@ pub fn work(
 {
     match core.reserve_work(alloc) {
         Ok(()) => Ok(Given::Worked(core.work(fails))),
-        // Areas in memory never fail but for want of memory.
-        Err(ReserveError::OutOfMemory | ReserveError::StagingFailed) => Err(AllocError),
+        Err(ReserveError::OutOfMemory) => Err(AllocError),
+        Err(ReserveError::StagingFailed) => unreachable!(),
     }
 }
 

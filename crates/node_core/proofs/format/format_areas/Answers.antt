@@ -11,7 +11,7 @@ use Rattle.node_core.proofs.format.format_areas.Goals as goal
 pub install-requires-clause-short : goal.install-requires-clause-short
 install-requires-clause-short g c =
     subst (AllByRecursion (λ x. length x.content ≤ package_limit)) (sym c.in_ok-ordered.ensures.sorted)
-    (order-each (λ x. length x.content ≤ package_limit) c.args.installed.items c.requires.short)
+    (order-each (λ x. length x.content ≤ package_limit) c.args.installed.now c.requires.short)
 
 pub returns-clause-places : goal.returns-clause-places
 returns-clause-places g c =
@@ -21,15 +21,15 @@ returns-clause-places g c =
 pub returns-clause-holds : goal.returns-clause-holds
 returns-clause-holds g c held fit =
     let sorted = c.in_ok-ordered.ensures.sorted in
-    subst (λ s. IsFormatted (in_order c.args.installed.items) held s) (sym (returns-clause-places g c))
-    (formatted-node held (in_order c.args.installed.items) c.args.installed.items refl
+    subst (λ s. IsFormatted (in_order c.args.installed.now) held s) (sym (returns-clause-places g c))
+    (formatted-node held (in_order c.args.installed.now) c.args.installed.now refl
     (ap length (sym sorted) ∙ c.in_ok-ordered.ensures.length) c.requires.few c.requires.short fit)
 
 pub returns-clause-node : goal.returns-clause-node
 returns-clause-node g c =
     let areas = c.in_ok-running.ensures.areas ∙ ap (λ l. with_installed l (g.S.Staging.areas c.args.staging.now))
     c.in_ok-ordered.ensures.sorted in
-    subst (λ a. meaning package_reading a c.in_ok-state.state ≡ formatted (in_order c.args.installed.items)) (sym areas)
+    subst (λ a. meaning package_reading a c.in_ok-state.state ≡ formatted (in_order c.args.installed.now)) (sym areas)
     (returns-clause-holds g c (g.S.Staging.areas c.args.staging.now) (g.met.S.Staging.areas_fit
     c.args.staging.now)).node
 
@@ -44,12 +44,12 @@ returns-clause-sound g c =
 
 pub returns-in_err-ordered-clause-formats : goal.returns-in_err-ordered-clause-formats
 returns-in_err-ordered-clause-formats g c =
-    at-fault (λ end. Formats g.S.Staging.obeys (in_order c.args.installed.items) end c.args.staging.now
+    at-fault (λ end. Formats g.S.Staging.obeys (in_order c.args.installed.now) end c.args.staging.now
     c.args.staging.now) OutOfMemory _ c.from_residual.ensures.1 (none-formats _ _ _)
 
 pub returns-in_err-running-clause-formats : goal.returns-in_err-running-clause-formats
 returns-in_err-running-clause-formats g c =
-    at-err (λ end. Formats g.S.Staging.obeys (in_order c.args.installed.items) end c.args.staging.now
+    at-err (λ end. Formats g.S.Staging.obeys (in_order c.args.installed.now) end c.args.staging.now
     c.install.new.staging) _ _ c.from_residual-in_err-running.ensures.1
     (subst (λ l. Formats g.S.Staging.obeys l (Err (fault_of c.in_err-running.field-0.0)) c.args.staging.now
     c.install.new.staging) c.in_ok-ordered.ensures.sorted
@@ -57,7 +57,7 @@ returns-in_err-running-clause-formats g c =
 
 pub returns-in_err-state-clause-formats : goal.returns-in_err-state-clause-formats
 returns-in_err-state-clause-formats g c =
-    at-fault (λ end. Formats g.S.Staging.obeys (in_order c.args.installed.items) end c.args.staging.now
+    at-fault (λ end. Formats g.S.Staging.obeys (in_order c.args.installed.now) end c.args.staging.now
     c.install.new.staging) OutOfMemory _ c.from_residual-in_err-state.ensures.1
     (then-failed (subst (λ l. Formats g.S.Staging.obeys l (Ok tt) c.args.staging.now c.install.new.staging)
     c.in_ok-ordered.ensures.sorted c.in_ok-running.ensures.formats))

@@ -1,9 +1,7 @@
-use Rattle.node_core.proofs.Names.{in_order, into_iter_items, into_iter_len, length, ◌++◌, ◌≡◌}
+use Rattle.node_core.proofs.Names.{in_order, length, map, take, ◌≡◌}
 use Rattle.node_core.proofs.format.in_order.Given as goal
 
 abbrev pub invariant-loop-cluster : goal.invariant-loop-cluster
 invariant-loop-cluster l =
-    (l.yielded ++ into_iter_items l.cluster-iterator ≡ into_iter_items l.initial.cluster-iterator)
-    × (l.sorted.items ≡ in_order l.yielded)
-    × (length l.sorted.items ≡ length l.yielded)
-    × (into_iter_len l.cluster-iterator ≡ length (into_iter_items l.cluster-iterator))
+    (map (λ c. c.now) l.sorted.items ≡ in_order (take l.cluster-index l.installed))
+    × (length (map (λ c. c.now) l.sorted.items) ≡ l.cluster-index)
