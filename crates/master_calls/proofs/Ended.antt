@@ -107,7 +107,8 @@ below-epoch epoch first (m ∷ ms) at is above = (
     head : m.at ≡ record { epoch = epoch; number = first }
     head = cc is
 
-pending-epoch : (epoch first : ℕ) (told : List Told) (sent : List Message) (q : Posted) → AreNumbered epoch first sent
+pending-epoch : (epoch first : ℕ) (told : List Told) (sent : List Message) (q : Posted) → AreNumbered epoch first
+    sent
     → pending_of told (early_in sent) ≡ Some q → q.at.epoch ≡ epoch
 pending-epoch epoch first told [] q numbers e = absurd (cc e)
 pending-epoch epoch first told (m ∷ ms) q numbers e =
@@ -154,7 +155,8 @@ made-late : (m : Message) (reply : Reply) (told : List Told) → m.decided ≡ f
 made-late m reply told early none =
     ap (λ b. if b then made_late told ++ made_of m reply ∷ [] else made_late told) early ∙ none
 
-all-with : (m : Message) (ms : List Message) → m.decided ≡ false → AllDecided false ms → AllDecided false (with_sent m
+all-with : (m : Message) (ms : List Message) → m.decided ≡ false → AllDecided false ms → AllDecided false
+    (with_sent m
     ms)
 all-with m [] early all = (early, tt)
 all-with m (n ∷ ns) early all = go (is_eq (call_no_cmp n.at m.at)) all
@@ -163,7 +165,8 @@ all-with m (n ∷ ns) early all = go (is_eq (call_no_cmp n.at m.at)) all
     go true all = all
     go false all = (early, all)
 
-split-early : (late early ms : List Message) → ms ≡ late ++ early → AllDecided true late → AllDecided false ms → ms ≡
+split-early : (late early ms : List Message) → ms ≡ late ++ early → AllDecided true late → AllDecided false ms → ms
+    ≡
     early
 split-early [] early ms split l all = split
 split-early (n ∷ ns) early ms split l all =
@@ -214,7 +217,8 @@ none-decided : (list : List MasterEvent) (later : List Posted) (ends : List Made
     → IsTrue (has_decision list || has_none ends)
 none-decided list later ends permitted of = go (has_decision list) refl (has_commit list) refl ends of
   where
-    none : (d : Option Bool) → d ≡ None → (ps : List Posted) → AllByRecursion (λ p. IsTrue (is_permitted d p.call)) ps
+    none : (d : Option Bool) → d ≡ None → (ps : List Posted) → AllByRecursion (λ p. IsTrue (is_permitted d p.call))
+        ps
         → (es : List Made) → AllByRecursion (IsOf ps) es → has_none es ≡ true
     none d is ps all [] of = refl
     none d is [] all (e ∷ es) of = absurd of.0.among
@@ -248,7 +252,8 @@ before-given GaveNothing d may is = subst IsBeforeEnd (nothing-round d) is
 
 module _ (allowed : SendsAreAllowed) (numbered : SendsAreNumbered) (turns : CallsAreInTurn) (messages :
     MessagesAreInTurn)
-    (rounds : RoundsAreMade) (lent : List (List ℕ)) (task : Task) (is_task : IsTask lent task) (low : 1 ≤ task.first)
+    (rounds : RoundsAreMade) (lent : List (List ℕ)) (task : Task) (is_task : IsTask lent task) (low : 1 ≤
+    task.first)
   where
     abbrev told : List Given → List Told
     told gs = told_of lent task gs
@@ -283,7 +288,8 @@ module _ (allowed : SendsAreAllowed) (numbered : SendsAreNumbered) (turns : Call
         before : IsBeforeEnd (after task gs).round
         before = before-given g (after task gs) are.0 is
 
-        early : (round : Round) (m : Message) → IsTimely allowed numbered lent task is_task low gs round m → m.decided ≡
+        early : (round : Round) (m : Message) → IsTimely allowed numbered lent task is_task low gs round m →
+            m.decided ≡
             false
         early round m timely = timely.decided ∙ goes-early task gs are.1 before
 
@@ -336,7 +342,8 @@ module _ (allowed : SendsAreAllowed) (numbered : SendsAreNumbered) (turns : Call
                 ∙ (ap (list_all (is_due phase)) turn.of_rounds.calls
                 ∙ list-all-take (is_due phase)
                 (round_calls task.campaign (ids_given (made_early (told gs))) (step_bytes lent task.steps))
-                (length (made_early (told gs))) (length (sent gs)) few (sym (ap (list_all (is_due phase)) sent-calls) ∙
+                (length (made_early (told gs))) (length (sent gs)) few (sym (ap (list_all (is_due phase))
+                sent-calls) ∙
                 due));
           }
 
@@ -346,25 +353,29 @@ module _ (allowed : SendsAreAllowed) (numbered : SendsAreNumbered) (turns : Call
         where
           made : made_in (told gs) ≡ made_early (told gs)
           made = (turns lent task gs is_task are).split
-              ∙ (ap (λ ms. made_early (told gs) ++ ms) (undecided gs are before).1 ∙ append-nil (made_early (told gs)))
+              ∙ (ap (λ ms. made_early (told gs) ++ ms) (undecided gs are before).1 ∙ append-nil (made_early (told
+              gs)))
 
           one : (m : Message) (older : List Message) → sent gs ≡ m ∷ older → is_told (told gs) m.at ≡ false
               → AreFine phase gs (made_early (told gs) ++ made_of m reply ∷ [])
           one m older is untold =
               let of = subst (λ ms. IsOfRounds task.campaign task.epoch task.first (step_bytes lent task.steps)
-              (ms ++ made_of m reply ∷ [])) made ((rounds lent task gs is_task are before).1 m older is untold reply) in
+              (ms ++ made_of m reply ∷ [])) made ((rounds lent task gs is_task are before).1 m older is untold
+              reply) in
               let last = last-number task.epoch task.first (made_early (told gs)) (made_of m reply) of.numbers in
               let at = (subst (AreNumbered task.epoch task.first) is (numbered lent task gs is_task are)).0 in
               let number : m.at.number ≡ task.first + length older = ap (λ (a : CallNo). a.number) at in
               let more = length-and (made_early (told gs)) (made_of m reply) in
               let long = ap (λ (l : List Message). length l) is in
-              let both = and_parts (list_all (is_due phase) (calls_in older)) (list_all (is_due phase) (m.call ∷ []))
+              let both = and_parts (list_all (is_due phase) (calls_in older)) (list_all (is_due phase) (m.call ∷
+              []))
               (sym (list_all-append (is_due phase) (calls_in older) (m.call ∷ []))
               ∙ (sym (ap (λ (l : List Message). list_all (is_due phase) (calls_in l)) is) ∙ due)) in
               record {
                 of = of;
                 within = omega (arith, last, number, more, long);
-                due = list_all-append (λ (x : Made). is_due phase x.call) (made_early (told gs)) (made_of m reply ∷ [])
+                due = list_all-append (λ (x : Made). is_due phase x.call) (made_early (told gs)) (made_of m reply ∷
+                    [])
                     ∙ rw (answered-fine.due, both.1) refl;
               }
 
@@ -373,7 +384,8 @@ module _ (allowed : SendsAreAllowed) (numbered : SendsAreNumbered) (turns : Call
               → AreFine phase gs (made_early (told gs) ++ entry_of p reply ∷ [])
           go [] is all e = absurd (cc e)
           go (m ∷ older) is all e = by (is_told (told gs) m.at) refl
-              (sym (ap (λ b. pending_of (told gs) (if b then early_in older else post_of m ∷ early_in older)) all.0) ∙ e)
+              (sym (ap (λ b. pending_of (told gs) (if b then early_in older else post_of m ∷ early_in older))
+              all.0) ∙ e)
             where
               by : (b : Bool) → is_told (told gs) m.at ≡ b → (if b then None else Some (post_of m)) ≡ Some p
                   → AreFine phase gs (made_early (told gs) ++ entry_of p reply ∷ [])
@@ -403,13 +415,16 @@ module _ (allowed : SendsAreAllowed) (numbered : SendsAreNumbered) (turns : Call
           ends = turn.ends;
           sent = length (sent gs);
           split = turn.split;
-          first = subst (λ o. IsOfRoundsIn o task.campaign (step_bytes lent task.steps) turn.first) (sym ordered.epoch)
-              (subst (λ f. IsOfRounds task.campaign task.epoch f (step_bytes lent task.steps) turn.first) ordered.first
+          first = subst (λ o. IsOfRoundsIn o task.campaign (step_bytes lent task.steps) turn.first) (sym
+              ordered.epoch)
+              (subst (λ f. IsOfRounds task.campaign task.epoch f (step_bytes lent task.steps) turn.first)
+              ordered.first
               fine.of);
           due = fine.due;
           within = fine.within;
           begun = ordered.begun;
-          calls = all-ends (λ at call. is_end_call call) later turn.ends (all-end (decision_in list) later ordered.calls)
+          calls = all-ends (λ at call. is_end_call call) later turn.ends (all-end (decision_in list) later
+              ordered.calls)
               turn.of_later;
           later = subst (λ o. IsTrue (list_all (λ m. is_later_than o (length (sent gs)) list m.at) turn.ends))
               (sym ordered.epoch)
@@ -425,17 +440,21 @@ module _ (allowed : SendsAreAllowed) (numbered : SendsAreNumbered) (turns : Call
         → IsTrue (has_commit list) → IsTrue (not (list_any (λ m. goes_back m.call) known.mine))
     back n list gs later are ordered known turn commit =
         let fine = all-fine (phase_in None list) gs are ordered.before ordered.due turn.first turn.of_rounds in
-        let permitted = subst (λ d. AllByRecursion (λ p. IsTrue (is_permitted d p.call)) later) committed ordered.calls in
+        let permitted = subst (λ d. AllByRecursion (λ p. IsTrue (is_permitted d p.call)) later) committed
+        ordered.calls in
         let first = all-due-stay (phase_in None list) turn.first fine.due in
-        let ends = all-ends (λ at call. not (goes_back call)) later turn.ends (all-stay later permitted) turn.of_later in
+        let ends = all-ends (λ at call. not (goes_back call)) later turn.ends (all-stay later permitted)
+        turn.of_later in
         ap not (ap (list_any (λ (m : Made). goes_back m.call)) turn.split
-        ∙ none-back (turn.first ++ turn.ends) (list_all-append (λ (m : Made). not (goes_back m.call)) turn.first turn.ends
+        ∙ none-back (turn.first ++ turn.ends) (list_all-append (λ (m : Made). not (goes_back m.call)) turn.first
+        turn.ends
         ∙ rw (first, ends) refl))
       where
         committed : decision_in list ≡ Some true
         committed = ap (λ b. if b then Some true else (if has_decision list then Some false else None)) commit
 
-pub messages-fit : SendsAreAllowed → SendsAreNumbered → CallsAreInTurn → MessagesAreInTurn → RoundsAreMade → MessagesFit
+pub messages-fit : SendsAreAllowed → SendsAreNumbered → CallsAreInTurn → MessagesAreInTurn → RoundsAreMade →
+    MessagesFit
 messages-fit allowed numbered turns messages rounds lent task gs is_task low are =
     fits allowed numbered turns messages rounds lent task is_task low gs are
 

@@ -26,18 +26,21 @@ side-leaves : (place side : ℕ) (old new : List ℕ)
     → Torn (extent_in node_places (Side place side)).at (extent_in node_places (Side place side)).len old new
     → half_of 3 new ≡ half_of 3 old
 side-leaves place side old new torn = ap (λ (xs : List ℕ). read_of (layout_of 3).state_max xs)
-    (window_apart (extent_in node_places (Side place side)) (head_area 3) old new (inl (half-before place side)) torn)
+    (window_apart (extent_in node_places (Side place side)) (head_area 3) old new (inl (half-before place side))
+    torn)
 
 one-leaves : (step : Step) (old new : List ℕ) → Installs step → Tears node_places step old new
     → half_of 3 new ≡ half_of 3 old
-one-leaves (puts (Side place side) at bytes (Ok given)) old new installs torn = side-leaves place side old new torn.outside
+one-leaves (puts (Side place side) at bytes (Ok given)) old new installs torn = side-leaves place side old new
+    torn.outside
 one-leaves (puts (Side place side) at bytes (Err Failed)) old new installs torn =
     side-leaves place side old new torn.outside
 one-leaves (puts (Side place side) at bytes (Err OutOfMemory)) old new installs same = ap (half_of 3) same
 one-leaves (puts (Transfer slot) at bytes end) old new installs torn = absurd installs
 one-leaves (gets end) old new installs same = ap (half_of 3) same
 
-all-leave : (steps : List Step) (old new : List ℕ) → AllByRecursion Installs steps → TornBy node_places steps old new
+all-leave : (steps : List Step) (old new : List ℕ) → AllByRecursion Installs steps → TornBy node_places steps old
+    new
     → half_of 3 new ≡ half_of 3 old
 all-leave [] old new installs same = ap (half_of 3) same
 all-leave (step ∷ steps) old new installs (mid, one, rest) =

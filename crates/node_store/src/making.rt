@@ -32,19 +32,23 @@ use std::alloc::Global;
 impl<D: Disk + Drop> Node<D> {
     /// Writes a node to half 2 on which these clusters run, and which has done nothing, whatever the disk holds, but
     /// half 3 reads as nothing. After an error it can be tried again.
-    pub fn format(alloc: Global, disk: D, installed: Vec<Installed>) -> Result<Node<D>, (D, StoreError)>
+    pub fn format(
+        alloc: Global,
+        disk: D,
+        installed: &[Installed],
+    ) -> Result<Node<D>, (D, StoreError)>
         requires extents { HasExtents node_places (D.seen disk) }
         requires blank { EachImage (D.images disk) IsBlank }
-        requires differ { IsTrue (all_differ (map (λ c. c.name) installed.items)) }
-        requires few { length installed.items ≤ cluster_limit }
-        requires short { AllByRecursion (λ c. length c.content ≤ package_limit) installed.items }
+        requires differ { IsTrue (all_differ (map (λ c. c.name) installed.now)) }
+        requires few { length installed.now ≤ cluster_limit }
+        requires short { AllByRecursion (λ c. length c.content ≤ package_limit) installed.now }
         ensures serves { IfOk result (λ node. EachImage (D.images node.extents.disk)
-            (Serves (formatted (in_order installed.items)))) }
+            (Serves (formatted (in_order installed.now)))) }
         ensures known { IfOk result (λ node. IsOpen node.log node.ready
             (D.seen node.extents.disk) (D.images node.extents.disk)) }
         ensures node { IfOk result (λ node.
             node_on node.ready.state (D.seen node.extents.disk)
-            ≡ formatted (in_order installed.items)) }
+            ≡ formatted (in_order installed.now)) }
         ensures open { IfOk result (λ node. node.is_closed ≡ false) }
         ensures any_moment { IfOk result (λ node. LeavesOnly D.moment D.left_since
             disk node.extents.disk IsBlank) }
@@ -114,15 +118,15 @@ impl<D: Disk + Drop> Node<D> {
 fn install<D: Disk>(
     alloc: Global,
     extents: &mut Extents<D>,
-    installed: Vec<Installed>,
+    installed: &[Installed],
 ) -> Result<State, StoreError>
     requires extents { HasExtents node_places (D.seen extents.old.disk) }
     requires blank { EachImage (D.images extents.old.disk) IsBlank }
-    requires differ { IsTrue (all_differ (map (λ c. c.name) installed.items)) }
-    requires few { length installed.items ≤ cluster_limit }
-    requires short { AllByRecursion (λ c. length c.content ≤ package_limit) installed.items }
+    requires differ { IsTrue (all_differ (map (λ c. c.name) installed.now)) }
+    requires few { length installed.now ≤ cluster_limit }
+    requires short { AllByRecursion (λ c. length c.content ≤ package_limit) installed.now }
     ensures node { IfOk result (λ s. node_on s (D.seen extents.new.disk)
-        ≡ formatted (in_order installed.items)) }
+        ≡ formatted (in_order installed.now)) }
     ensures sound { IfOk result (λ s.
         IsSound (holding (held_in node_places (D.seen extents.new.disk)) s)) }
     ensures extents { HasExtents node_places (D.seen extents.new.disk) }

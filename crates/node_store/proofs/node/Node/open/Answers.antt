@@ -25,7 +25,8 @@ returns-in-Ok-clause-known g c =
     rw (c.of.ensures.disk, c.of-in-Ok.ensures) (record {
       pair = found.pair;
       extents = subst (HasExtents node_places) (sym found.reads) c.requires.extents;
-      sound = subst (λ image. IsSound (holding (held_in node_places image) c.in-Ok.found.state)) (sym found.reads) sound;
+      sound = subst (λ image. IsSound (holding (held_in node_places image) c.in-Ok.found.state)) (sym found.reads)
+          sound;
       holds = found.holds;
       durable = found.durable;
     })
