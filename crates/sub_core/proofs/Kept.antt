@@ -183,7 +183,8 @@ pub within_replied : (d : DriverState) (p : Progress) (reply : Reply) (asked : S
     → IsWithin d.round p → IsWithin d.round (progress_after d p reply)
 within_replied d p reply asked is within = grind arith
 
-pub within_worked : (r : Option Round) (p : Progress) (status : Status) → IsWithin r p → IsWithin r (settled_after p status)
+pub within_worked : (r : Option Round) (p : Progress) (status : Status) → IsWithin r p
+    → IsWithin r (settled_after p status)
 within_worked r p status within = grind arith
 
 -- the round that was before
