@@ -1,5 +1,5 @@
 -- Workers over a node in memory.
-use Rattle.std.specs.Prelude.{ℕ, ◌≤◌}
+use Rattle.std.specs.Prelude.{◌≤◌}
 use Rattle.sub_core.specs.declared.answers.Round.{Round}
 use Rattle.sub_workers.specs.declared.worker.Worker.{Worker}
 use Rattle.sub_workers.specs.Runs.{IsReady, MayBegin}

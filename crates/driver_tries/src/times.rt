@@ -99,8 +99,8 @@ fn workers<'a, C: Clock>(
     Some(workers)
 }
 
-/// The microseconds of a round over so many workers, where each node takes so long for its one call, and the last one so
-/// long, in milliseconds.
+/// The microseconds of a round over so many workers, where each node takes so many milliseconds for its one call, and the
+/// last one so many.
 pub fn round<R: Threads + Wait + Clock + Sync>(
     rt: &R,
     alloc: Global,
@@ -114,7 +114,8 @@ pub fn round<R: Threads + Wait + Clock + Sync>(
     Some(start.elapsed(rt).ok()?.as_micros())
 }
 
-/// The microseconds in which so many workers, each over a node that takes no time, transfer one package of so many bytes.
+/// The microseconds in which so many workers, each over a node that takes no time, transfer one package with a payload of
+/// so many bytes.
 pub fn transfer<R: Threads + Wait + Clock + Sync>(
     rt: &R,
     alloc: Global,

@@ -74,7 +74,7 @@ not_unit false f asked is = cc is
 -- a unit's status was told
 pub told_worked : (k epoch : ℕ) (d : DriverState) (p : Progress) (status : Status) (told : List Told)
     → wish_at d p ≡ Wish.Unit → ToldAt k epoch p told → ToldAt k epoch (settled_after p status) (Showed status ∷ told)
-told_worked k epoch d x3 x4 told is t = grind arith
+told_worked k epoch d p status told is t = grind arith
 
 module _ (k epoch : ℕ) (commit : Bool) (call_no : CallNo) (m : Message) (x : Shown) (told : List Told)
     (of_end : is_end_sync k epoch m ≡ true) (at_no : m.at ≡ call_no) where
@@ -116,13 +116,13 @@ module _ (k epoch : ℕ) (commit : Bool) (call_no : CallNo) (m : Message) (x : S
 -- before a call of the end phase that is done the last Sync showed a session of the master
 owned_of : (k epoch : ℕ) (commit : Bool) (a : SendStep) (told : List Told) → is_answer a Done ≡ true
     → EndTold k epoch commit (EndProgress.Call a) told → IsOwned k epoch told
-owned_of k epoch commit x3 told fits t = grind arith
+owned_of k epoch commit a told fits t = grind arith
 
 sync_only : (a : SendStep) (x : Shown) → is_answer a (Synced x) ≡ true → a ≡ SendStep.Sync
-sync_only x0 x fits = grind arith
+sync_only a x fits = grind arith
 
 none_starts : (a : SendStep) (n : ℕ) → IsPlacedEnd (EndProgress.Call a) → is_answer a (Started n) ≡ true → ⊥
-none_starts x0 n placed fits = grind arith
+none_starts a n placed fits = grind arith
 
 shown_done : (b : Bool) (o : Option Shown) → option_or (shown_if b Done) o ≡ o
 shown_done true o = refl
@@ -365,24 +365,24 @@ module _ (packages : List (List ℕ)) (d : DriverState) (told : List Told) (soun
 
 pub at_of_todo : (d : DriverState) (w : Wish) (at : CallNo) (asked : SendStep) → todo_for d w ≡ Todo.Send at asked
     → next_no d ≡ at
-at_of_todo d x1 at asked is = grind arith
+at_of_todo d w at asked is = grind arith
 
 pub unit_of_todo : (d : DriverState) (w : Wish) → todo_for d w ≡ Todo.Unit → w ≡ Wish.Unit
-unit_of_todo d x1 is = grind arith
+unit_of_todo d w is = grind arith
 
 pub told_begun : (d : DriverState) (told : List Told) (round : Round) → IsTold d told → IsTold (begun round d) told
-told_begun d told x2 t = grind arith
+told_begun d told round t = grind arith
 
 pub early_at : (k epoch : ℕ) (d : DriverState) (p : Progress) (told : List Told) (asked : SendStep) → ToldAt k epoch p
     told
     → (IsEnding p → ⊥) → wish_at d p ≡ Wish.Send asked → (has_refusal told ≡ false) × (is_settled told ≡ true)
-early_at k epoch d x3 told asked t early is = grind arith
+early_at k epoch d p told asked t early is = grind arith
 
 or_second : (a b c : Bool) → b ≡ true → (a || (b || c)) ≡ true
-or_second x0 x1 c is = grind arith
+or_second a b c is = grind arith
 
 or_third : (a b c : Bool) → c ≡ true → (a || (b || c)) ≡ true
-or_third x0 x1 c is = grind arith
+or_third a b c is = grind arith
 
 has_place : (ids : List ℕ) (place : ℕ) → place < length ids
     → list_any (λ there. nat_eq (slice_index_or ids place 0) there) ids ≡ true
@@ -411,7 +411,7 @@ module _ (packages : List (List ℕ)) (k epoch : ℕ) (commit : Bool) (cause : C
 
   late_call : (a : SendStep) → IsPlacedEnd (EndProgress.Call a) → EndTold k epoch commit (EndProgress.Call a) told
       → IsLate a
-  late_call x0 placed t = grind arith
+  late_call a placed t = grind arith
 
   late_delete : (listed : List ℕ) (place : ℕ) → place < length listed
       → EndTold k epoch commit (EndProgress.Delete listed place) told
@@ -448,4 +448,4 @@ late_told packages d told commit end here sound is_told asked is cause =
 module _ (k epoch : ℕ) (told : List Told) where
   pub found_for : (d : DriverState) (p : Progress) (w : Wish) (f : Finding) → wish_at d p ≡ w → ToldAt k epoch p told
       → todo_for d w ≡ Todo.Rest f → Found k epoch f told
-  found_for d p x2 f here t is = grind arith
+  found_for d p w f here t is = grind arith

@@ -25,20 +25,20 @@ use Rattle.sub_core.proofs.Kept.{FollowsAt, IsEndRound, IsKept, IsOpen, IsWithin
 
 -- the end comes once
 pub no_end : (r : Option Round) → IsBeforeEnd r → IsEndRound r → ⊥
-no_end x0 rounds end = grind arith
+no_end r rounds end = grind arith
 
 -- a round that isn't the end begins where nothing is open, and after no end
 not_open : (round : Round) (d : DriverState) → CanBegin round d → IsBeforeEnd (Some round)
     → (asked : SendStep) → is_some d.round ≡ true → wish d ≡ Wish.Send asked → ⊥
-not_open x0 d can rounds asked has_begun wishes = grind arith
+not_open round d can rounds asked has_begun wishes = grind arith
 
 not_again : (round : Round) (d : DriverState) → CanBegin round d → IsEndRound d.round → ⊥
-not_again x0 d can end = grind arith
+not_again round d can end = grind arith
 
 module _ (lent : List (List ℕ)) (d : DriverState) (told : List Told) (within : IsWithin d.round d.progress) where
   open_begun : (round : Round) → CanBegin round d → (sent : List Message) → IsOpen lent d sent
       → FollowsAt false (Some round) told sent
-  open_begun x0 can sent is = grind arith
+  open_begun round can sent is = grind arith
 
   closed_begun : (round : Round) → CanBegin round d → (sent : List Message)
       → FollowsAt false d.round told sent → FollowsAt false (Some round) told sent

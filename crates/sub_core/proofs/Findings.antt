@@ -38,7 +38,7 @@ use Rattle.sub_core.proofs.Stages.{done_at, done_of_todo, le_true, sizes_same, s
 use Rattle.sub_core.proofs.Told.{Found, IsAtRest, IsNewest, ToldAt}
 
 rounds_of : (round : Round) → is_preparing round ≡ true → IsBeforeEnd (Some round)
-rounds_of x0 is = grind arith
+rounds_of round is = grind arith
 
 over_of : (b : Bool) (asked : SendStep)
     → (if b then Wish.Rest Finding.RoundDone else Wish.Send asked) ≡ Wish.Rest Finding.RoundDone → b ≡ true
@@ -49,11 +49,11 @@ over_of false asked is = absurd (cc is)
 done_told : (k epoch : ℕ) (d : DriverState) (round : Round) (p : Progress) (told : List Told) → d.round ≡ Some round
     → IsWithin d.round p → ToldAt k epoch p told → wish_at d p ≡ Wish.Rest Finding.RoundDone
     → (is_preparing round ≡ true) × (has_refusal told ≡ false) × (is_settled told ≡ true)
-done_told k epoch d round x4 told here within t is = grind arith
+done_told k epoch d round p told here within t is = grind arith
 
 -- a stage is past a round over lengths as over bytes
 pub past_sized : (phase : Option Phase) (stage : Stage) → is_past phase (sized stage) ≡ is_past phase stage
-past_sized x0 x1 = grind arith
+past_sized phase stage = grind arith
 
 -- where the process stage of these ids is past its round, all are taken
 taken_all : (ids : List ℕ) (taken : ℕ) → is_past {B = ℕ} (Some Phase.Processing) (next_processed ids taken) ≡ true
@@ -175,12 +175,12 @@ pub data RestsBy (d : DriverState) (finding : Finding) : Type 0 where
 
 pub rests_if : (d : DriverState) (w : Wish) (b : Bool) (finding : Finding) → wish d ≡ w → is_missed d ≡ b
     → todo_for d w ≡ Todo.Rest finding → RestsBy d finding
-rests_if d x1 x2 finding here is rests = grind arith
+rests_if d w b finding here is rests = grind arith
 
 -- no wish is Unreached
 reached_wish : (d : DriverState) (p : Progress) (losses faults : ℕ) → IsWithin d.round p
     → wish_at d p ≡ Wish.Rest (Finding.Unreached losses faults) → ⊥
-reached_wish d x1 losses faults within is = grind arith
+reached_wish d p losses faults within is = grind arith
 
 not_ended : (b : Bool) (asked : SendStep) (call_no : CallNo)
     → (if b then Wish.Rest Finding.RoundDone else Wish.Send asked) ≡ Wish.Rest (Finding.Ended call_no) → ⊥
@@ -190,7 +190,7 @@ not_ended false asked call_no is = cc is
 -- where it rests at its end, the newest message is the last that was answered
 last_found : (d : DriverState) (p : Progress) (tries : List Attempt) (call_no : CallNo) → IsWithin d.round p
     → LastAt p tries → wish_at d p ≡ Wish.Rest (Finding.Ended call_no) → IsLast tries
-last_found d x1 tries call_no within last is = grind arith
+last_found d p tries call_no within last is = grind arith
 
 -- the newest message and what was told of it
 ended_by : (k epoch : ℕ) (task : Task) (tries : List Attempt) (call_no : CallNo) → k ≡ task.campaign
@@ -230,7 +230,7 @@ IsOfRound round _ = Unit {0}
 -- where a driver rests by what it was answered, that is in a round of the finding
 round_of : (d : DriverState) (round : Round) (p : Progress) (finding : Finding) → IsWithin (Some round) p
     → wish_at d p ≡ Wish.Rest finding → IsOfRound round finding
-round_of d round x2 finding within is = grind arith
+round_of d round p finding within is = grind arith
 
 module _ (by_size : GoesBySize) (ends : RoundsEnd) (lent : List (List ℕ)) (task : Task) (gs : List Given)
     (is : IsTask lent task) (given_ : AreGiven task gs) where

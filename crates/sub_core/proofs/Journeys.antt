@@ -43,7 +43,7 @@ pub wishes_of : (d : DriverState) → is_asked (todo d) ≡ true → Wishes d (t
 wishes_of d asks = wishes_if d (wish d) (is_missed d) refl refl asks
 
 plain_clean : (d : DriverState) (w : Wish) → d.misses ≡ [] → todo_for d w ≡ plain d w
-plain_clean d x1 clean = grind arith
+plain_clean d w clean = grind arith
 
 -- where the misses are emptied, a row begins
 clean_row : (task : Task) (d : DriverState) (gs : List Given) → after task gs ≡ d → d.misses ≡ [] → HasRow task d gs

@@ -169,10 +169,10 @@ untold epoch at (Showed status ∷ told) below = untold epoch at told below
 -- where a driver is, by its round
 
 pub early_at_round : (r : Option Round) (p : Progress) → IsBeforeEnd r → IsWithin r p → is_ending p ≡ false
-early_at_round r x1 rounds within = grind arith
+early_at_round r p rounds within = grind arith
 
 pub not_ending : (p : Progress) → is_ending p ≡ false → IsEnding p → ⊥
-not_ending x0 is ending = grind arith
+not_ending p is ending = grind arith
 
 open_round : (b : Bool) (f : Finding) (other asked : SendStep)
     → (if b then Wish.Rest f else Wish.Send other) ≡ Wish.Send asked → b ≡ false
@@ -181,24 +181,25 @@ open_round false f other asked is = refl
 
 pub within_replied : (d : DriverState) (p : Progress) (reply : Reply) (asked : SendStep) → wish_at d p ≡ Wish.Send asked
     → IsWithin d.round p → IsWithin d.round (progress_after d p reply)
-within_replied d x1 x2 asked is within = grind arith
+within_replied d p reply asked is within = grind arith
 
-pub within_worked : (r : Option Round) (p : Progress) (status : Status) → IsWithin r p → IsWithin r (settled_after p status)
-within_worked r x1 x2 within = grind arith
+pub within_worked : (r : Option Round) (p : Progress) (status : Status) → IsWithin r p
+    → IsWithin r (settled_after p status)
+within_worked r p status within = grind arith
 
 -- the round that was before
 pub rounds_before : (round : Round) (d : DriverState) → CanBegin round d → IsBeforeEnd (Some round)
     → IsBeforeEnd d.round × (d.round ≡ Some Round.Activate → ⊥)
-rounds_before x0 d can rounds = grind arith
+rounds_before round d can rounds = grind arith
 
 pub within_begun : (round : Round) (d : DriverState) → CanBegin round d → IsWithin d.round d.progress
     → IsWithin (begun round d).round (begun round d).progress
-within_begun x0 d can within = grind arith
+within_begun round d can within = grind arith
 
 -- the last message, where a driver rests at its end
 
 pub last_of : (p : Progress) (attempts : List Attempt) → IsLast attempts → LastAt p attempts
-last_of x0 attempts last = grind arith
+last_of p attempts last = grind arith
 
 -- a driver that asks for something isn't at its end
 pub last_asked : (d : DriverState) (p : Progress) (attempts : List Attempt)
@@ -216,11 +217,11 @@ last_asked d (Progress.Ending commit (EndProgress.Rest call_no)) attempts asks =
 
 pub last_worked : (d : DriverState) (p : Progress) (status : Status) (attempts : List Attempt) → wish_at d p ≡ Wish.Unit
     → LastAt (settled_after p status) attempts
-last_worked d x1 x2 attempts is = grind arith
+last_worked d p status attempts is = grind arith
 
 pub last_begun : (round : Round) (d : DriverState) (attempts : List Attempt) → LastAt d.progress attempts
     → LastAt (begun round d).progress attempts
-last_begun x0 d attempts last = grind arith
+last_begun round d attempts last = grind arith
 
 -- replies fit their calls
 
@@ -250,14 +251,14 @@ same_answers lent SendStep.Revert r = refl
 same_answers lent (SendStep.Delete id) r = refl
 
 sync_fits : (r : Reply) → is_answer SendStep.Sync r ≡ true → is_refusal r ≡ false → Fits AtSync r
-sync_fits x0 fits accepted = grind arith
+sync_fits r fits accepted = grind arith
 
 start_fits : (ids : List ℕ) (p : List ℕ) (ps : List (List ℕ)) (r : Reply) → is_answer (SendStep.Start 0) r ≡ true
     → is_refusal r ≡ false → Fits (AtStart ids (p ∷ ps)) r
-start_fits ids p ps x3 fits accepted = grind arith
+start_fits ids p ps r fits accepted = grind arith
 
 is_done_only : (r : Reply) → is_answer SendStep.Activate r ≡ true → is_refusal r ≡ false → r ≡ Done
-is_done_only x0 fits accepted = grind arith
+is_done_only r fits accepted = grind arith
 
 pub fits_call : (k : ℕ) (stage : Stage) (r : Reply) (c : Call) → call_at k stage ≡ Some c → call_answers c r ≡ true
     → is_refusal r ≡ false → Fits stage r
@@ -291,7 +292,7 @@ fits_call k RefusedOnce r c is fits accepted = absurd (cc is)
 
 -- the decision of the end phase
 pub end_round : (r : Option Round) → IsEndRound r → (commit : Bool) × (r ≡ Some (Round.End commit))
-end_round x0 end = grind arith
+end_round r end = grind arith
 
 -- the attempt of this message
 pub record IsNow (task : Task) (m : Message) (is_open : Bool) (attempts : List Attempt) : Type 0 where
@@ -315,7 +316,7 @@ same_send a b is = cc is
 pub permitted : (commit : Bool) (cause : Cause) (status : Option Status) (shown : Option Shown) (call : Call)
     → (is_sync call || (end_call_at (decision_of commit cause) status call || delete_at shown call)) ≡ true
     → is_permitted (Some commit) call ≡ true
-permitted x0 cause x2 shown call is = grind arith
+permitted commit cause status shown call is = grind arith
 
 -- before the decision no message is of the end phase
 call_so_far : (k epoch : ℕ) (ps : List (List ℕ)) (b : Bool) (decision : Option Bool) (call : Call)

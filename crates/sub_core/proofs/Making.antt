@@ -92,7 +92,7 @@ early_if : (m newest : Message) (sent : List Message) (b : Bool) → m.decided �
     → sent_early (newest ∷ sent) ≡ suc (length sent)
     → sent_early (if b then newest ∷ sent else m ∷ newest ∷ sent) ≡ length
     (if b then newest ∷ sent else m ∷ newest ∷ sent)
-early_if m newest sent x3 early all = grind arith
+early_if m newest sent b early all = grind arith
 
 with_early : (m : Message) (sent : List Message) → m.decided ≡ false → sent_early sent ≡ length sent
     → sent_early (with_sent m sent) ≡ length (with_sent m sent)
@@ -108,7 +108,7 @@ all_sent_early k (Worked status ∷ attempts) order = all_sent_early k attempts 
 
 late_if : (m newest : Message) (sent : List Message) (b : Bool) → m.decided ≡ true
     → sent_early (if b then newest ∷ sent else m ∷ newest ∷ sent) ≡ sent_early (newest ∷ sent)
-late_if m newest sent x3 late = grind arith
+late_if m newest sent b late = grind arith
 
 -- one after it is no message of the rounds
 pub with_late : (m : Message) (sent : List Message) → m.decided ≡ true

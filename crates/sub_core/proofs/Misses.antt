@@ -86,7 +86,7 @@ missed_eight misses rises same eight =
 
 rests_missed : (d : DriverState) (t : Todo) (e : DriverState) → Wishes e t → wish d ≡ wish e → is_missed d ≡ true
     → todo d ≡ Todo.Rest (unreached d.misses)
-rests_missed d t e x3 same missed = grind arith
+rests_missed d t e is same missed = grind arith
 
 -- where eight misses came in a row, it rests
 pub unreached_is_found : GoesBySize → UnreachedIsFound

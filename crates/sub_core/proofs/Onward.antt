@@ -27,11 +27,11 @@ some_shown (Some x) is = (x, refl)
 owned_at : (commit : Bool) (call_no : CallNo) (session : Option SessionMark) (ids : List ℕ) (status : Status)
     → is_masters session ≡ true → session_status session ≡ status
     → at_session commit call_no session ids ≡ at_status commit status
-owned_at commit call_no x2 ids status masters is = grind arith
+owned_at commit call_no session ids status masters is = grind arith
 
 free_at : (commit : Bool) (call_no : CallNo) (session : Option SessionMark) (ids : List ℕ)
     → is_masters session ≡ false → at_session commit call_no session ids ≡ at_free call_no ids
-free_at commit call_no x2 ids free = grind arith
+free_at commit call_no session ids free = grind arith
 
 -- a Sync of the end phase leads to what it shows
 synced_at : (k epoch : ℕ) (commit : Bool) (m : Message) (x : Shown) (told : List Told)
@@ -54,7 +54,7 @@ status_at k epoch commit status (Answered m reply ∷ told) now =
 module _ (lent : List (List ℕ)) (d : DriverState) (few : is_missed d ≡ false) where
   goes_at : (commit : Bool) (status : Status) (b : Bool) → is_working status ≡ b
       → todo d ≡ todo_for d (end_wish (at_status commit status)) → GoesOn lent commit status (todo d)
-  goes_at commit status x2 is asks = grind arith
+  goes_at commit status b is asks = grind arith
 
 -- behind a status
 pub end_goes_on : GoesBySize → EndGoesOn

@@ -21,7 +21,7 @@ end_if false p q one other = other
 
 end_session : (commit : Bool) (call_no : CallNo) (session : Option SessionMark) (ids : List ℕ)
     → IsPlacedEnd (at_session commit call_no session ids)
-end_session commit call_no x2 ids = grind arith
+end_session commit call_no session ids = grind arith
 
 end_deleted : (listed : List ℕ) (place : ℕ) (b : Bool) → nat_lt (suc place) (length listed) ≡ b
     → IsPlacedEnd (if b then EndProgress.Delete listed (suc place) else EndProgress.Call SendStep.Sync)
@@ -62,7 +62,7 @@ module _ (steps : List PackageSize) (ids : List ℕ) where
       → (left ≡ 0 → IsPlaced steps (ids ++ id ∷ []) next)
       → IsPlaced steps (with_whole ids (if b then Some id else None))
       (if b then next else Progress.Data id (counter + 1) (left - block_limit))
-  block_placed id counter left x3 next is placed end = grind arith
+  block_placed id counter left b next is placed end = grind arith
 
   process_placed : (taken : ℕ) (b : Bool) → nat_lt taken (length ids) ≡ b → length ids ≡ length steps
       → IsPlaced steps ids (if b then Progress.Process (suc taken) false else Progress.Activating)
@@ -109,12 +109,12 @@ placed_after d (Progress.Ending commit at) (Refused why) some placed =
 -- a status
 pub placed_worked : (steps : List PackageSize) (ids : List ℕ) (p : Progress) (status : Status) → IsPlaced steps ids p
     → IsPlaced steps ids (settled_after p status)
-placed_worked steps ids x2 x3 placed = grind arith
+placed_worked steps ids p status placed = grind arith
 
 -- a round
 placed_begun : (round : Round) (d : DriverState) → IsPlaced d.steps d.ids d.progress
     → IsPlaced (begun round d).steps (begun round d).ids (begun round d).progress
-placed_begun x0 d placed = grind arith
+placed_begun round d placed = grind arith
 
 number_begun : (b : Bool) (n : ℕ) → n + (if b then 1 else 0) ≤ number_limit
     → (if b then n + 1 else n) + 0 ≤ number_limit

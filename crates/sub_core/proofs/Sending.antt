@@ -41,11 +41,11 @@ open_round false other asked is = refl
 due_at : (lent : List (List ℕ)) (d : DriverState) (round : Round) (p : Progress) → IsBeforeEnd (Some round) → IsCalling
     p
     → is_over (Some round) d.ids p ≡ false → is_due (phase_of round) (call_of lent (round_step d p)) ≡ true
-due_at lent d x2 x3 rounds calling over = grind arith
+due_at lent d round p rounds calling over = grind arith
 
 over_at : (d : DriverState) (p : Progress) (asked : SendStep) → IsCalling p → wish_at d p ≡ Wish.Send asked
     → is_over d.round d.ids p ≡ false
-over_at d x1 asked calling is = grind arith
+over_at d p asked calling is = grind arith
 
 -- what was sent before
 
@@ -104,13 +104,13 @@ replies_are_read by_size got lent task gs is given_ rounds earlier before =
     ∙ got task.campaign (attempts lent task gs) (kept.order rounds)
 
 follow_other : (a b c d : Bool) → (a && b) ≡ false → (not a || (c || (not b || d))) ≡ true
-follow_other x0 x1 x2 d is = grind arith
+follow_other a b c d is = grind arith
 
 follow_told : (a b c : Bool) → b ≡ true → (a || (b || c)) ≡ true
-follow_told x0 x1 c is = grind arith
+follow_told a b c is = grind arith
 
 follow_decided : (a b c decided : Bool) → decided ≡ false → (a || (b || (c || (not decided && true)))) ≡ true
-follow_decided x0 x1 x2 x3 is = grind arith
+follow_decided a b c decided is = grind arith
 
 module _ (by_size : GoesBySize) (got : RepliesAreGot) (lent : List (List ℕ)) (task : Task) (gs : List Given)
     (is : IsTask lent task) (given_ : AreGiven task gs) (packages : Packages) (n : ℕ)

@@ -105,7 +105,7 @@ processed_seen d taken false is =
 
 pub not_process : (b : Bool) (id tag : ℕ) (r : Reply)
     → is_answer (if b then SendStep.Process id tag else SendStep.Activate) r ≡ is_answer SendStep.Activate r
-not_process x0 id tag x3 = grind arith
+not_process b id tag r = grind arith
 
 -- the progress asks for calls of the rounds
 abbrev pub IsCalling : Progress → Type 0
@@ -174,23 +174,23 @@ stage_snoc sizes stage (x ∷ rs) r = stage_snoc sizes (onward_by_size sizes sta
 
 pub calls_of_wish : (d : DriverState) (p : Progress) (asked : SendStep) → wish_at d p ≡ Wish.Send asked
     → (IsEnding p → ⊥) → IsCalling p × (round_step d p ≡ asked)
-calls_of_wish d x1 asked is early = grind arith
+calls_of_wish d p asked is early = grind arith
 
 pub wish_of_todo : (d : DriverState) (w : Wish) (at : CallNo) (asked : SendStep) → todo_for d w ≡ Todo.Send at asked
     → w ≡ Wish.Send asked
-wish_of_todo d x1 at asked is = grind arith
+wish_of_todo d w at asked is = grind arith
 
 -- what a driver stands for, as an equation of stages
 pub stands_calling : (steps : List PackageSize) (ids : List ℕ) (p : Progress) (replies : List Reply) → (IsEnding p → ⊥)
     → StandsAt steps ids p replies → stage_by_size (sizes_of steps) AtSync replies ≡ stage_seen steps ids p
-stands_calling steps ids x2 replies early stands = grind arith
+stands_calling steps ids p replies early stands = grind arith
 
 stands_by : (steps : List PackageSize) (ids : List ℕ) (p : Progress) (replies : List Reply)
     → stage_by_size (sizes_of steps) AtSync replies ≡ stage_seen steps ids p → StandsAt steps ids p replies
-stands_by steps ids x2 replies is = grind arith
+stands_by steps ids p replies is = grind arith
 
 is_early : (p : Progress) → IsCalling p → IsEnding p → ⊥
-is_early x0 calling ending = grind arith
+is_early p calling ending = grind arith
 
 module _ (d : DriverState) (replies : List Reply) (sound : IsSound d) where
   -- a reply to a call of the rounds
@@ -225,11 +225,11 @@ module _ (d : DriverState) (replies : List Reply) (sound : IsSound d) where
 -- a status changes no stage
 pub stands_worked : (steps : List PackageSize) (ids : List ℕ) (p : Progress) (status : Status) (replies : List Reply)
     → StandsAt steps ids p replies → StandsAt steps ids (settled_after p status) replies
-stands_worked steps ids x2 x3 replies stands = grind arith
+stands_worked steps ids p status replies stands = grind arith
 
 pub stands_begun : (d : DriverState) (replies : List Reply) (round : Round) → StandsFor d replies
     → StandsFor (begun round d) replies
-stands_begun d replies x2 stands = grind arith
+stands_begun d replies round stands = grind arith
 
 -- the bytes of the step at a place
 at_bytes : (packages : List (List ℕ)) (steps : List PackageSize) (n : ℕ) → n < length steps
@@ -308,7 +308,7 @@ done_if false f t other missed is = other is
 
 pub done_of_todo : (d : DriverState) (w : Wish) → todo_for d w ≡ Todo.Rest Finding.RoundDone
     → w ≡ Wish.Rest Finding.RoundDone
-done_of_todo d x1 is = grind arith
+done_of_todo d w is = grind arith
 
 over_of : (b : Bool) (asked : SendStep)
     → (if b then Wish.Rest Finding.RoundDone else Wish.Send asked) ≡ Wish.Rest Finding.RoundDone → b ≡ true
@@ -350,7 +350,7 @@ past_seen round steps ids (Progress.Voted finding) calling is = absurd calling
 past_seen round steps ids (Progress.Ending commit at) calling is = absurd calling
 
 rest_end : (at : EndProgress) → end_wish at ≡ Wish.Rest Finding.RoundDone → ⊥
-rest_end x0 is = grind arith
+rest_end at is = grind arith
 
 voted_done : (steps : List PackageSize) (ids : List ℕ) (round : Round) (finding : Finding) → finding ≡ Finding.RoundDone
     → is_past (phase_of round) (stage_seen steps ids (Progress.Voted finding)) ≡ true

@@ -51,7 +51,7 @@ module _ (by_size : GoesBySize) (lent : List (List ℕ)) (task : Task) (gs : Lis
   open_newest : IsBeforeEnd d.round → (m : Message) (older : List Message) → sent_by tries ≡ m ∷ older
       → is_told (told_by tries) m.at ≡ false → (b : Bool) → OpenAt lent b d (sent_by tries)
       → FollowsAt b d.round (told_by tries) (sent_by tries) → IsOpen lent d (sent_by tries)
-  open_newest rounds m older newest untold x5 pending follows = grind arith
+  open_newest rounds m older newest untold b pending follows = grind arith
 
   with_newest : IsBeforeEnd d.round → (m : Message) (older : List Message) → sent_by tries ≡ m ∷ older
       → is_told (told_by tries) m.at ≡ false → (reply : Reply)
@@ -152,7 +152,7 @@ calls_are_in_turn by_size lent task gs is given_ = in_turn by_size lent task gs 
 
 voted_of : (d : DriverState) (p : Progress) (f : Finding) → (f ≡ Finding.RoundDone → ⊥)
     → ((call_no : CallNo) → f ≡ Finding.Ended call_no → ⊥) → wish_at d p ≡ Wish.Rest f → p ≡ Progress.Voted f
-voted_of d x1 f other more is = grind arith
+voted_of d p f other more is = grind arith
 
 accepted_all : (made : List Made) → AreAccepted made → list_all (λ m. not (is_refusal m.reply)) made ≡ true
 accepted_all [] all = refl
