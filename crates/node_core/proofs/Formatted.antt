@@ -10,7 +10,7 @@ use Rattle.transfer_blocks.proofs.Areas.{fits-with}
 use Rattle.transfer_blocks.proofs.Runs.{ran_both, wrote_both}
 use Rattle.node_core.proofs.Lists.{each-append, each-first}
 use Rattle.node_core.specs.Format.{Formats, Installs, IsFormatted, installs, with_installed}
-use Rattle.node_core.proofs.Names.{zero-add, IsArea, overwritten, length-drop, drop}
+use Rattle.node_core.proofs.Names.{map-append, zero-add, IsArea, overwritten, length-drop, drop}
 use Rattle.node_core.proofs.Lists.{each-second}
 use Rattle.node_core.proofs.Names.{AllByRecursion, AreInstalled, Area, Areas, AreasFit, Bytes, Cluster, Extent, IsExtent, IsFit}
 use Rattle.node_core.proofs.Names.{IsSound, List, Side, ap, append-nil, ap₂, arith, bytes_eq, cluster_limit, cluster_meaning}
@@ -27,6 +27,12 @@ use Rattle.node_core.proofs.Sound.{reading-is}
 -- the cluster that is lent
 abbrev pub now : Bor (Cluster Bytes) → Cluster Bytes
 now lent = lent.now
+
+-- what was put, the next one and the rest are all that was lent
+pub whole-lent : (put rest : List (Bor (Cluster Bytes))) {ahead first all : List (Bor (Cluster Bytes))}
+    (x : Bor (Cluster Bytes)) → ahead ≡ x ∷ rest → put ++ ahead ≡ first → first ≡ all → map now put ++ x.now ∷ map now rest ≡ map now all
+whole-lent put rest x next so_far begins =
+    sym (map-append now put (x ∷ rest)) ∙ ap (map now) (ap (λ l. put ++ l) (sym next) ∙ so_far ∙ begins)
 
 -- names behind one, at higher places
 above : (n : List ℕ) (k j : ℕ) → k < j → (cs : List (Cluster Bytes)) → AllByRecursion (λ c. name_lt n c.name ≡ true) cs
