@@ -23,7 +23,7 @@ awaits_owner _ = false
 abbrev pub HasStill : NodeState → NodeState → Type 0
 HasStill s t = (t.session ≡ s.session) × (t.status ≡ s.status)
 
--- the entry isn't of a call of the owner
+-- the entry is of at call of the owner
 abbrev pub IsNotBy : ℕ → Entry → Type 0
 IsNotBy owner (Numbered client at call reply) = client ≢ owner
 IsNotBy owner (UnitDone passed after) = ⊤
