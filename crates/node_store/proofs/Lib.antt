@@ -3,3 +3,4 @@ mod EnteredWork
 mod Recorded
 mod Staged
 mod Steps
+mod Blank

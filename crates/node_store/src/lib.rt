@@ -12,6 +12,7 @@
 mod answers;
 mod calls;
 mod laws;
+mod making;
 mod node;
 mod recording;
 mod text;
