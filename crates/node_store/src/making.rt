@@ -32,7 +32,11 @@ use std::alloc::Global;
 impl<D: Disk + Drop> Node<D> {
     /// Writes a node to half 2 on which these clusters run, and which has done nothing, whatever the disk holds, but
     /// half 3 reads as nothing. After an error it can be tried again.
-    pub fn format(alloc: Global, disk: D, installed: Vec<Installed>) -> Result<Node<D>, (D, StoreError)>
+    pub fn format(
+        alloc: Global,
+        disk: D,
+        installed: Vec<Installed>,
+    ) -> Result<Node<D>, (D, StoreError)>
         requires extents { HasExtents node_places (D.seen disk) }
         requires blank { EachImage (D.images disk) IsBlank }
         requires differ { IsTrue (all_differ (map (λ c. c.name) installed.items)) }

@@ -43,8 +43,8 @@ returns-in-Ok-format-clause-known g c =
     let old = c.install.new.extents.disk in
     let new = c.format.new.disk in
     let same : SameAreas (d.seen old) (d.seen new) =
-        beside_same layout_2 (d.seen old) (d.seen new) refl (f.beside (d.seen new) (m.reads_as_image new))
-        c.in-Ok.ensures.extents in
+    beside_same layout_2 (d.seen old) (d.seen new) refl (f.beside (d.seen new) (m.reads_as_image new))
+    c.in-Ok.ensures.extents in
     rw (c.of-in-Ok-format.ensures) (record {
       pair = ap (λ (l : Log). layout_of l.half) f.log;
       extents = same.0;
@@ -62,8 +62,8 @@ returns-in-Ok-format-clause-node g c =
     let old = c.install.new.extents.disk in
     let new = c.format.new.disk in
     let same : SameAreas (d.seen old) (d.seen new) =
-        beside_same layout_2 (d.seen old) (d.seen new) refl
-        (c.in-Ok-format.ensures.beside (d.seen new) (m.reads_as_image new)) c.in-Ok.ensures.extents in
+    beside_same layout_2 (d.seen old) (d.seen new) refl
+    (c.in-Ok-format.ensures.beside (d.seen new) (m.reads_as_image new)) c.in-Ok.ensures.extents in
     rw (c.of-in-Ok-format.ensures)
     (ap (λ (areas : Areas). meaning package_reading areas c.in-Ok.state) same.1 ∙ c.in-Ok.ensures.node)
 
@@ -91,22 +91,22 @@ returns-in-Err-format-clause-again g c =
     let new = c.format.new.disk in
     let served = c.format.ensures.served in
     let run = joined d.moment d.left_since c.args.disk c.install.new.extents.disk new IsBlank IsBlank
-        (subst (λ x. LeavesOnly d.moment d.left_since x c.install.new.extents.disk IsBlank) c.of-extents.ensures.disk
-        c.install.ensures.any_moment) c.format.ensures.any_moment (λ x h. h) in
+    (subst (λ x. LeavesOnly d.moment d.left_since x c.install.new.extents.disk IsBlank) c.of-extents.ensures.disk
+    c.install.ensures.any_moment) c.format.ensures.any_moment (λ x h. h) in
     let was : d.fault_count c.args.disk ≤ d.fault_count c.install.new.extents.disk =
-        subst (λ x. d.fault_count x ≤ d.fault_count c.install.new.extents.disk) c.of-extents.ensures.disk
-        c.install.ensures.faults in
+    subst (λ x. d.fault_count x ≤ d.fault_count c.install.new.extents.disk) c.of-extents.ensures.disk
+    c.install.ensures.faults in
     let more = served.no_fewer in
     rw (c.into_disk-in-Err-format.ensures) (
       subst (λ n. node_places.sides + 2 * cluster_limit * node_places.len ≤ n) (sym served.same_size)
-      c.in-Ok.ensures.extents,
+          c.in-Ok.ensures.extents,
       c.in-Err-format.ensures.other,
       run,
       served.same_plan ∙ subst (λ x. d.armed c.install.new.extents.disk ≡ d.armed x) c.of-extents.ensures.disk
-      c.install.ensures.plan,
+          c.install.ensures.plan,
       omega (arith, was, more),
       (λ failed. risen (d.fault_count c.args.disk) (d.fault_count c.install.new.extents.disk) (d.fault_count new) was
-      (served.cause (c.in-Err-format.is ∙ ap Err failed))),
+          (served.cause (c.in-Err-format.is ∙ ap Err failed))),
     )
   where
     risen : (a b n : ℕ) → a ≤ b → HasRisen b n → HasRisen a n
