@@ -10,6 +10,7 @@
 #![tactic(auto)]
 
 mod answers;
+mod asking;
 mod calls;
 mod laws;
 mod making;
