@@ -1,5 +1,6 @@
 -- What a node's calls answer.
 use Rattle.std.specs.Prelude.{◌≡◌, ⊤, ℕ, ◌-◌, max, Bool, true, false, List}
+use Rattle.fault_count.specs.Faults.{HasRisen}
 use Rattle.ucm_base.specs.declared.ids.CallNo.{CallNo}
 use Rattle.pm_types.specs.declared.calls.Call.{Call}
 use Rattle.pm_types.specs.NodeState.{NodeState}
@@ -16,9 +17,14 @@ Answers n client call_no call (Reached reached) after = (after, reached) ≡ ste
 Answers n client call_no call OutOfMemory after = after ≡ n
 Answers n client call_no call (NoReply faults) after = ⊤
 
--- by how much the count of faults rose; one that stands at its last value counts as one rise
+-- the count of faults has risen by so much; one that stands at its last value counts as one rise
+pub record IsRise (before now rise : ℕ) : Type 0 where
+  pub risen : HasRisen before now
+  pub rise_is : rise ≡ max (now - before) 1
+
+-- an answer without a reply carries the rise, and only a rise gives it
 abbrev pub Carries : NodeAnswer → ℕ → ℕ → Type 0
-Carries (NoReply faults) before now = faults ≡ max (now - before) 1
+Carries (NoReply faults) before now = IsRise before now faults
 Carries _ before now = ⊤
 
 -- whether the node is closed by an answer
@@ -33,7 +39,7 @@ AnswersWork n fails NoMemory after = after ≡ n
 AnswersWork n fails (NoWork faults) after = ⊤
 
 abbrev pub CarriesWork : WorkAnswer → ℕ → ℕ → Type 0
-CarriesWork (NoWork faults) before now = faults ≡ max (now - before) 1
+CarriesWork (NoWork faults) before now = IsRise before now faults
 CarriesWork _ before now = ⊤
 
 abbrev pub closes_work : WorkAnswer → Bool
