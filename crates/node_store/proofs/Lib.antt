@@ -5,3 +5,4 @@ mod Recorded
 mod Staged
 mod Steps
 mod Blank
+mod Reopened

@@ -2,6 +2,8 @@
 use Rattle.std.specs.Prelude.{◌≡◌, ◌⊎◌, ℕ, List, Some}
 use Rattle.checkpoint.specs.Halves.{layout_2}
 use Rattle.event_log.specs.Holds.{StandsFor}
+use Rattle.event_log.specs.declared.revive.Revived.{Revived}
+use Rattle.event_log.specs.declared.revive.Revived.TheVariants.{Stood, Lost}
 use Rattle.ucm_base.specs.declared.ids.CallNo.{CallNo}
 use Rattle.pm_types.specs.declared.calls.Call.{Call}
 use Rattle.pm_types.specs.declared.replies.Reached.{Reached}
@@ -37,6 +39,15 @@ Serves n image = (s : State) × ServesBy s n image
 -- it is one of the two
 abbrev pub ServesEither : NodeState → NodeState → List ℕ → Type 0
 ServesEither before after image = Serves before image ⊎ Serves after image
+
+-- it is some node
+abbrev pub ServesSome : List ℕ → Type 0
+ServesSome image = (n : NodeState) × Serves n image
+
+-- the node that an event ended in, of the one before it and the one after it
+abbrev pub ended_in : Revived → NodeState → NodeState → NodeState
+ended_in Stood n m = m
+ended_in Lost n m = n
 
 -- what a numbered call makes of a node, and what it gives
 abbrev pub stepped : NodeState → ℕ → CallNo → Call → NodeState × Reached

@@ -1,5 +1,5 @@
 //! The calls of a durable node: what one needs is made ready, then its record is appended, then it is done.
-ghost use Rattle.std.specs.Prelude.{◌≡◌, ◌<◌, ◌≤◌, ◌+◌, false, IfOk, OnOk, IsErrOf};
+ghost use Rattle.std.specs.Prelude.{◌≡◌, ◌<◌, ◌≤◌, ◌+◌, false, true, IfOk, OnOk, OnErr, IsErrOf};
 ghost use Rattle.disk_core.specs.Images.{EachImage};
 ghost use Rattle.disk_core.specs.Moments.{LeavesOnly};
 ghost use Rattle.fault_count.specs.Faults.{HasRisen};
@@ -30,6 +30,13 @@ impl<D: Disk> Node<D> {
             (node_on self.old.ready.state (D.seen self.old.extents.disk)) client no call.now result
             (node_on self.new.ready.state (D.seen self.new.extents.disk)) }
         ensures closed { self.new.is_closed ≡ closes result }
+
+        // After a fault the node in memory is as before, and a crash leaves it or the one after the call.
+        ensures kept { self.new.is_closed ≡ true → self.new.ready.state ≡ self.old.ready.state }
+        ensures pending { self.new.is_closed ≡ true → EachImage (D.images self.new.extents.disk)
+            (ServesEither (node_on self.old.ready.state (D.seen self.old.extents.disk))
+            (stepped (node_on self.old.ready.state (D.seen self.old.extents.disk))
+            client no call.now).0) }
         ensures known { self.new.is_closed ≡ false → IsOpen self.new.log self.new.ready
             (D.seen self.new.extents.disk) (D.images self.new.extents.disk) }
 
@@ -91,6 +98,7 @@ impl<D: Disk> Node<D> {
             (ServesEither (node_on self.old.ready.state (D.seen self.old.extents.disk))
             (stepped (node_on self.old.ready.state (D.seen self.old.extents.disk))
             client no call.now).0) }
+        ensures kept { OnErr result (self.new.ready.state ≡ self.old.ready.state) }
         ensures closed { self.new.is_closed ≡ self.old.is_closed }
         ensures cause { IsErrOf result StoreError.Failed
             → HasRisen (D.fault_count self.old.extents.disk)

@@ -16,6 +16,7 @@ mod laws;
 mod making;
 mod node;
 mod recording;
+mod reviving;
 mod text;
 mod working;
 

@@ -59,6 +59,7 @@ impl<D: Disk> Node<D> {
             (ServesEither (node_on self.old.ready.state (D.seen self.old.extents.disk))
             (stepped (node_on self.old.ready.state (D.seen self.old.extents.disk))
             client no call.now).0) }
+        ensures kept { OnErr result (self.new.ready.state ≡ self.old.ready.state) }
         ensures closed { self.new.is_closed ≡ self.old.is_closed }
         ensures cause { IsErrOf result StoreError.Failed
             → HasRisen (D.fault_count self.old.extents.disk)
