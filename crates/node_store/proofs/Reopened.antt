@@ -20,11 +20,13 @@ is-formatted n image serves none =
 -- a restart, and then a run that writes nothing
 pub restarted : {D : Type 0} (moment : D → ℕ) (left_since : D → ℕ → List ℕ → Type 0) (images : D → List ℕ → Type 0)
     (old mid new : D) → EachImage (left_since old (moment old)) (images old)
-    → Elapses (moment old) (moment mid) (left_since old) (left_since mid) (images mid) → Within (images old) (images mid)
+    → Elapses (moment old) (moment mid) (left_since old) (left_since mid) (images mid) → Within (images old) (images
+    mid)
     → LeavesOnly moment left_since mid new (images mid) → LeavesOnly moment left_since old new (images old)
 restarted moment left_since images old mid new now time within more =
     joined moment left_since old mid new (images old) (images mid)
-    (goes_on moment left_since old old mid (images old) (images mid) (started moment left_since old (images old) now) time
+    (goes_on moment left_since old old mid (images old) (images mid) (started moment left_since old (images old)
+    now) time
     within) more within
 
 -- the disk stands for one of two nodes; which one, the number of entries tells
