@@ -17,3 +17,4 @@ pub mod Votes
 pub mod Turns
 pub mod Sending
 pub mod Onward
+pub mod Counting

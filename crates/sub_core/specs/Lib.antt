@@ -11,3 +11,4 @@ pub mod Ending
 pub mod Evidence
 pub mod Turns
 pub mod Onward
+pub mod Counting

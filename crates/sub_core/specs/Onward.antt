@@ -1,10 +1,11 @@
 -- How the end phase goes on, in the campaign law's words.
-use Rattle.std.specs.Prelude.{◌≡◌, ◌⊎◌, ℕ, Bool, true, false, is_some, List, [], ◌∷◌, Some}
+use Rattle.std.specs.Prelude.{◌≡◌, ◌⊎◌, ◌<◌, ℕ, zero, suc, Bool, true, false, is_some, List, [], ◌∷◌, length, slice_index_or, Some}
 use Rattle.ucm_base.specs.declared.ids.CallNo.{CallNo}
 use Rattle.campaign_core.specs.declared.events.Cause.{Cause}
 use Rattle.pm_types.specs.NodeState.{is_working}
 use Rattle.pm_types.specs.declared.calls.Call.{Call}
-use Rattle.pm_types.specs.declared.replies.Reply.TheVariants.{Synced}
+use Rattle.pm_types.specs.declared.replies.Refusal.{Refusal}
+use Rattle.pm_types.specs.declared.replies.Reply.TheVariants.{Done, Refused, Synced}
 use Rattle.pm_types.specs.declared.replies.Synced.{Synced as Shown}
 use Rattle.pm_types.specs.declared.status.Status.{Status}
 use Rattle.world.specs.Messages.{Message, Told, Answered, Showed}
@@ -13,7 +14,7 @@ use Rattle.sub_core.specs.declared.answers.Round.{Round}
 use Rattle.sub_core.specs.declared.answers.SendStep.{SendStep}
 use Rattle.sub_core.specs.declared.answers.Todo.{Todo}
 use Rattle.sub_core.specs.Calls.{call_of}
-use Rattle.sub_core.specs.Driving.{is_missed, todo}
+use Rattle.sub_core.specs.Driving.{is_missed, next_no, todo}
 use Rattle.sub_core.specs.Given.{AreGiven, Given, IsTask, Task, after, told_of}
 use Rattle.sub_core.specs.Sends.{decision_of}
 
@@ -47,12 +48,39 @@ EndGoesOn =
     → (status : Status) → ShowsNow task.campaign task.epoch status (told_of lent task gs)
     → GoesOn lent commit status (todo (after task gs))
 
--- and behind a Sync without a session of the master it deletes the first transfer that this lists
+-- the newest that was told are so many deletions, behind a Sync of the end phase that shows no session of the master
+-- and lists these transfers
+abbrev pub AreDeleted : ℕ → ℕ → List ℕ → ℕ → List Told → Type 0
+AreDeleted k epoch ids count [] = ⊥
+AreDeleted k epoch ids count (Showed status ∷ told) = ⊥
+AreDeleted k epoch ids zero (Answered m reply ∷ told) =
+    (x : Shown) × (reply ≡ Synced x) × (is_end_sync k epoch m ≡ true) × (is_masters x.session ≡ false)
+    × (x.transfers ≡ ids)
+AreDeleted k epoch ids (suc count) (Answered m reply ∷ told) =
+    (reply ≡ Done) × (m.decided ≡ true) × AreDeleted k epoch ids count told
+
+-- and then it deletes the next of them; behind the last one it asks for a Sync
 abbrev pub ListedAreDeleted : Type 0
 ListedAreDeleted =
     (lent : List (List ℕ)) (task : Task) (gs : List Given) → IsTask lent task → AreGiven task gs
     → (commit : Bool) → (after task gs).round ≡ Some (Round.End commit) → is_missed (after task gs) ≡ false
-    → (m : Message) (shown : Shown) (older : List Told) → told_of lent task gs ≡ Answered m (Synced shown) ∷ older
-    → is_end_sync task.campaign task.epoch m ≡ true → is_masters shown.session ≡ false
-    → (id : ℕ) (ids : List ℕ) → shown.transfers ≡ id ∷ ids
-    → (call_no : CallNo) × (todo (after task gs) ≡ Todo.Send call_no (SendStep.Delete id))
+    → (ids : List ℕ) (count : ℕ) → AreDeleted task.campaign task.epoch ids count (told_of lent task gs)
+    → (count < length ids
+    → todo (after task gs) ≡ Todo.Send (next_no (after task gs)) (SendStep.Delete (slice_index_or ids count 0)))
+    × (0 < count → count ≡ length ids → todo (after task gs) ≡ Todo.Send (next_no (after task gs)) SendStep.Sync)
+
+-- behind the Done of a call that a status led to it asks for units
+abbrev pub DoneLeadsToUnits : Type 0
+DoneLeadsToUnits =
+    (lent : List (List ℕ)) (task : Task) (gs : List Given) → IsTask lent task → AreGiven task gs
+    → (commit : Bool) → (after task gs).round ≡ Some (Round.End commit) → is_missed (after task gs) ≡ false
+    → (m : Message) (older : List Told) → told_of lent task gs ≡ Answered m Done ∷ older → m.decided ≡ true
+    → (status : Status) → ShowsNow task.campaign task.epoch status older → todo (after task gs) ≡ Todo.Unit
+
+-- and behind a refusal it asks for a Sync
+abbrev pub RefusalsLeadToSync : Type 0
+RefusalsLeadToSync =
+    (lent : List (List ℕ)) (task : Task) (gs : List Given) → IsTask lent task → AreGiven task gs
+    → (commit : Bool) → (after task gs).round ≡ Some (Round.End commit) → is_missed (after task gs) ≡ false
+    → (m : Message) (why : Refusal) (older : List Told) → told_of lent task gs ≡ Answered m (Refused why) ∷ older
+    → todo (after task gs) ≡ Todo.Send (next_no (after task gs)) SendStep.Sync

@@ -1,6 +1,7 @@
 //! The laws of drivers.
 ghost use Rattle.sub_core.specs.Evidence.{DoneIsFound, EndIsFound, FindingsAreShown, MissesAreKept, OthersLeaveAll, RepliesFit, UnitsAreDue, UnreachedIsFound, VotesAreFound};
-ghost use Rattle.sub_core.specs.Onward.{EndGoesOn, ListedAreDeleted};
+ghost use Rattle.sub_core.specs.Counting.{AnswersAreOfKind, NumbersLast, RestsStay, UnitsTell};
+ghost use Rattle.sub_core.specs.Onward.{DoneLeadsToUnits, EndGoesOn, ListedAreDeleted, RefusalsLeadToSync};
 ghost use Rattle.sub_core.specs.Sends.{CallsAreNext, RepliesAreRead, SendsAreAllowed, SendsAreNumbered};
 ghost use Rattle.sub_core.specs.Turns.{CallsAreInTurn, EndIsAsked, EndIsMade, MessagesAreInTurn, RoundsAreMade, VotesAreMade};
 
@@ -30,6 +31,12 @@ pub fn driver_law()
     ensures rest { EndIsMade }
     ensures goes_on { EndGoesOn }
     ensures deletes { ListedAreDeleted }
+    ensures done { DoneLeadsToUnits }
+    ensures refused { RefusalsLeadToSync }
+    ensures kinds { AnswersAreOfKind }
+    ensures told { UnitsTell }
+    ensures rests { RestsStay }
+    ensures last { NumbersLast }
 {
     campaign_law();
 }
