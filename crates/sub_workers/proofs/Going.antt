@@ -1,5 +1,6 @@
 -- A worker goes on by one attempt, or ends with it.
 use Rattle.std.proofs.Common.{◌≡◌, inl, inr, ℕ, true, false, is_some, List, [], ◌∷◌, ◌++◌, Option, Some, None, refl, sym, ap, subst, ◌∙◌, arith}
+use Rattle.std.specs.List.{AllByRecursion}
 use Rattle.ucm_base.specs.declared.ids.CallNo.{CallNo}
 use Rattle.pm_types.specs.declared.calls.Call.{Call}
 use Rattle.sub_core.specs.declared.answers.Finding.{Finding}
@@ -16,8 +17,13 @@ use Rattle.sub_core.specs.States.{DriverState}
 use Rattle.sub_core.specs.Subordinates.{Counted}
 use Rattle.sub_workers.specs.declared.worker.Worker.{Worker}
 use Rattle.sub_workers.specs.Attempts.{IsTried}
-use Rattle.sub_workers.specs.Runs.{AreCounted, AsksBlock, Drove, Goes, IsReady, IsSameWorker, Ran}
+use Rattle.sub_workers.specs.Runs.{AreCounted, AsksBlock, Drove, EndsAtVain, Goes, IsAnswered, IsReady, IsSameWorker, Ran}
 use Rattle.sub_workers.proofs.Counting.{counted_along}
+
+-- where each attempt gave an answer
+ends_at_vain : (given : List Given) → AllByRecursion IsAnswered given → EndsAtVain given
+ends_at_vain [] all = tt
+ends_at_vain (g ∷ given) all = all.1
 
 -- a later number isn't below what the earlier one wasn't
 number_on : (last : Option CallNo) (d e : DriverState) → IsNotBelow last (next_no d) → IsLater d e
@@ -44,6 +50,7 @@ module _ {U : Type 0} (last : U → Option CallNo) (counted : U → Counted) (se
       (given : List Given)
       × Goes last counted sends works (bytes_of old.packages.now) old.driver given old.subordinate w.subordinate
       × (w.driver ≡ since old.driver given)
+      × AllByRecursion IsAnswered given
 
   tried_asked : (packages : List (List ℕ)) (t : Todo) (got : Option Got) (s m : U)
       → IsTried last counted sends works packages t got s m → is_asked t ≡ true
@@ -82,10 +89,12 @@ module _ {U : Type 0} (last : U → Option CallNo) (counted : U → Counted) (se
         → (given : List Given)
         × Goes last counted sends works (bytes_of old.packages.now) old.driver given old.subordinate m.subordinate
         × (e ≡ since old.driver given)
+        × AllByRecursion IsAnswered given
     gone_on got e tried told = (
       Gave got ∷ gone.0,
       (w.subordinate, gone.1, asked_now (Some got) tried),
       told ∙ (ap (step got) same.driver ∙ ap (step got) gone.2),
+      (tt, gone.3),
     )
 
     -- the last attempt gave nothing
@@ -99,6 +108,7 @@ module _ {U : Type 0} (last : U → Option CallNo) (counted : U → Counted) (se
       round = round ∙ (ap (λ d. d.round) same.driver ∙ kept);
       given = GaveNothing ∷ gone.0;
       goes = (w.subordinate, gone.1, asked_now None tried);
+      vain = gone.3;
       driver = told ∙ (ap unanswered same.driver ∙ ap unanswered gone.2);
       holds = inr (same.found ∙ found, inr (inl tt));
     }
@@ -111,6 +121,7 @@ module _ {U : Type 0} (last : U → Option CallNo) (counted : U → Counted) (se
     round = round;
     given = gone.0;
     goes = gone.1;
+    vain = ends_at_vain gone.0 gone.3;
     driver = gone.2;
     holds = inr (found, inl has);
   }
@@ -130,6 +141,7 @@ module _ {U : Type 0} (last : U → Option CallNo) (counted : U → Counted) (se
       round = ap (λ d. d.round) same.driver ∙ round;
       given = gone.0;
       goes = goes_still;
+      vain = ends_at_vain gone.0 gone.3;
       driver = same.driver ∙ gone.2;
       holds = inr (same.found ∙ found, inr (inr (subst (λ d. AsksBlock (todo d)) (sym same.driver) block)));
     }
@@ -143,6 +155,7 @@ module _ {U : Type 0} (last : U → Option CallNo) (counted : U → Counted) (se
       round = ap (λ d. d.round) same.driver ∙ round;
       given = gone.0;
       goes = goes_still;
+      vain = ends_at_vain gone.0 gone.3;
       driver = same.driver ∙ gone.2;
       holds = inl (finding, ap todo same.driver ∙ rests, refl);
     }
@@ -197,6 +210,7 @@ module _ {U : Type 0} (last : U → Option CallNo) (counted : U → Counted) (se
         round = drove.round;
         given = drove.given;
         goes = drove.goes;
+        vain = drove.vain;
         driver = drove.driver;
         holds = drove.holds;
       }))

@@ -54,6 +54,16 @@ abbrev pub EndsVain : List Given → Type 0
 EndsVain (GaveNothing ∷ given) = ⊤
 EndsVain given = ⊥
 
+-- an attempt gave an answer
+abbrev pub IsAnswered : Given → Type 0
+IsAnswered (Gave got) = ⊤
+IsAnswered _ = ⊥
+
+-- each attempt but the newest did: a worker stops where memory is wanting
+abbrev pub EndsAtVain : List Given → Type 0
+EndsAtVain [] = ⊤
+EndsAtVain (g ∷ given) = AllByRecursion IsAnswered given
+
 -- why a worker stops: no number is left for what its driver asks, or memory was wanting, for the answer to the newest
 -- attempt or for the copy of the block that comes next
 abbrev pub HasCause : DriverState → List Given → Type 0
@@ -92,6 +102,7 @@ module _ {U : Type 0} (last : U → Option CallNo) (counted : U → Counted) (se
     pub round : new.driver.round ≡ start.round
     pub given : List Given
     pub goes : Goes (bytes_of old.packages.now) start given old.subordinate new.subordinate
+    pub vain : EndsAtVain given
     pub driver : new.driver ≡ since start given
     pub holds : Holds new given
 
