@@ -1,5 +1,6 @@
 //! Shows what drivers and workers do. Without words it prints tables: a driver whose Sync is missed, what the end phase
-//! does with each status, answers of other kinds, whether two workers meet, and what nodes in memory did under drivers.
+//! does with each status, answers of other kinds, refusals and deletions at the end, whose numbers end, whether two workers
+//! meet, and what nodes in memory did under drivers.
 //! `driver_tries blocks N` prints the nanoseconds of `next` and `on` for the first blocks of a package and for those
 //! behind the N-th; `driver_tries round N` the microseconds of a round over N workers whose nodes wait; `driver_tries
 //! transfer N` those in which N workers transfer one package of 16 MB.
@@ -7,7 +8,9 @@
 //! Layer: stands on `sub_workers`, `node_core` and `report`; nothing stands on it. It promises no time.
 #![tactic(auto)]
 
+mod answer_rows;
 mod campaigns;
+mod findings;
 mod linked;
 mod meeting;
 mod node;
@@ -40,6 +43,7 @@ fn main(rt: HostRuntime) -> Result<()> {
     }
     if count == 0 {
         tables::print(&rt, rt.alloc())?;
+        answer_rows::print(&rt, rt.alloc())?;
         let met = meeting::meet(&rt, rt.alloc());
         println!(rt; "calls of a round and its end in which two workers met: {met:?}")?;
         return node_rows::print(&rt, rt.alloc());

@@ -1,6 +1,7 @@
 //! What nodes in memory did under drivers: each entry of their histories, as a report prints it.
 
 use crate::campaigns::{Campaign, Outcome, run};
+use crate::findings::print_finding;
 use crate::linked::Trouble;
 use crate::packing::{PartRow, install, packages, removal};
 use anyhow::Result;
@@ -33,20 +34,12 @@ fn report_of(alloc: Global, node: NodeHistory) -> Option<Vec<u8>> {
 }
 
 fn show_finding(rt: &impl Print, of: &str, found: Option<Finding>) -> Result<()> {
+    print!(rt; "{of}: ")?;
     match found {
-        None => println!(rt; "{of}: nothing")?,
-        Some(Finding::RoundDone) => println!(rt; "{of}: the round is done")?,
-        Some(Finding::Yes) => println!(rt; "{of}: Yes")?,
-        Some(Finding::Refused { no, refusal }) => {
-            let code = refusal.code();
-            println!(rt; "{of}: {no} refused with {code}")?;
-        }
-        Some(Finding::RolledBack) => println!(rt; "{of}: RolledBack")?,
-        Some(Finding::Unreached { losses, faults }) => {
-            println!(rt; "{of}: unreached, {losses} losses and {faults} faults")?;
-        }
-        Some(Finding::Ended { no }) => println!(rt; "{of}: at rest by {no}")?,
+        None => print!(rt; "nothing")?,
+        Some(finding) => print_finding(rt, finding)?,
     }
+    println!(rt; "")?;
     Ok(())
 }
 

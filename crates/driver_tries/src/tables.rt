@@ -30,8 +30,8 @@ fn next(driver: &Driver) -> Option<Todo> {
     }
 }
 
-/// What a Sync shows: a session of the master in this status, or none.
-fn shown(status: Option<Status>) -> Got {
+/// What a Sync shows: a session of the master in this status, or none, and these transfers.
+pub fn shown(status: Option<Status>, transfers: IdList) -> Got {
     let session = match (ClientId::of(0), status) {
         (Some(owner), Some(status)) => Some(SessionMark {
             owner,
@@ -43,7 +43,7 @@ fn shown(status: Option<Status>) -> Got {
     Got::Replied(Reply::Synced(Synced {
         session,
         ended: None,
-        transfers: IdList::new(),
+        transfers,
     }))
 }
 
@@ -57,7 +57,7 @@ fn missed_syncs(alloc: Global, misses: u32) -> Option<Option<(u64, u64)>> {
             faults: 0,
         });
     }
-    driver.on(shown(None));
+    driver.on(shown(None, IdList::new()));
     match next(&driver)? {
         Todo::Rest(Finding::RoundDone) => Some(None),
         Todo::Rest(Finding::Unreached { losses, faults }) => Some(Some((losses, faults))),
@@ -81,14 +81,14 @@ fn end_step(
     status: Option<Status>,
 ) -> Option<(u32, Option<SendStep>)> {
     let mut driver = begun(alloc, Round::End { commit })?;
-    driver.on(shown(status));
+    driver.on(shown(status, IdList::new()));
     asked(&driver)
 }
 
 /// What the end phase asks for after a Sync that showed Activated, where this answer comes to its call.
 fn after_other(alloc: Global, got: Got) -> Option<(u32, Option<SendStep>)> {
     let mut driver = begun(alloc, Round::End { commit: true })?;
-    driver.on(shown(Some(Status::Activated)));
+    driver.on(shown(Some(Status::Activated), IdList::new()));
     driver.on(got);
     asked(&driver)
 }
@@ -110,7 +110,7 @@ pub fn print(rt: &impl Print, alloc: Global) -> Result<()> {
     }
     let started = after_other(alloc, Got::Replied(Reply::Started { id: 1 }));
     println!(rt; "Commit, kActivated, and a start is answered: {started:?}")?;
-    let synced = after_other(alloc, shown(None));
+    let synced = after_other(alloc, shown(None, IdList::new()));
     println!(rt; "Commit, kActivated, and a Sync is answered: {synced:?}")?;
     let worked = after_other(
         alloc,
