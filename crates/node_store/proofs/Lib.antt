@@ -6,3 +6,4 @@ mod Staged
 mod Steps
 mod Blank
 mod Reopened
+mod Entries

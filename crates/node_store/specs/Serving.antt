@@ -1,5 +1,5 @@
 -- What an image of a node's disk stands for.
-use Rattle.std.specs.Prelude.{◌≡◌, ◌⊎◌, ℕ, List, Some}
+use Rattle.std.specs.Prelude.{◌≡◌, ◌⊎◌, ℕ, ◌+◌, List, Some}
 use Rattle.checkpoint.specs.Halves.{layout_2}
 use Rattle.event_log.specs.Holds.{StandsFor}
 use Rattle.event_log.specs.declared.revive.Revived.{Revived}
@@ -43,6 +43,10 @@ ServesEither before after image = Serves before image ⊎ Serves after image
 -- it is some node
 abbrev pub ServesSome : List ℕ → Type 0
 ServesSome image = (n : NodeState) × Serves n image
+
+-- an event made one entry, or left the node as it was
+abbrev pub MakesOne : NodeState → NodeState → Type 0
+MakesOne n m = (m ≡ n) ⊎ (m.entries ≡ n.entries + 1)
 
 -- the node that an event ended in, of the one before it and the one after it
 abbrev pub ended_in : Revived → NodeState → NodeState → NodeState

@@ -21,5 +21,5 @@ mod text;
 mod working;
 
 pub use answers::{NodeAnswer, WorkAnswer};
-pub use laws::what_serves_can_be_opened;
+pub use laws::{events_make_one_entry, what_is_open_serves, what_serves_can_be_opened};
 pub use node::Node;

@@ -1,12 +1,12 @@
 //! Opening a node that a fault has closed.
-ghost use Rattle.std.specs.Prelude.{◌≡◌, ◌⊎◌, ◌+◌, ◌≤◌, false, Some, IfOk, OnOk, OnErr, IsErrOf};
+ghost use Rattle.std.specs.Prelude.{◌≡◌, ◌≤◌, false, Some, IfOk, OnOk, OnErr, IsErrOf};
 ghost use Rattle.disk_core.specs.Images.{EachImage, Within};
 ghost use Rattle.disk_core.specs.Moments.{LeavesOnly};
 ghost use Rattle.fault_count.specs.Faults.{HasRisen};
 ghost use Rattle.pm_types.specs.NodeState.{NodeState as a_node};
 ghost use Rattle.node_recovery.specs.Images.{stored_in};
 ghost use Rattle.node_store.specs.Open.{IsOpen};
-ghost use Rattle.node_store.specs.Serving.{ServesEither, ServesSome, ended_in, node_on};
+ghost use Rattle.node_store.specs.Serving.{MakesOne, ServesEither, ServesSome, ended_in, node_on};
 
 use crate::laws::what_serves_can_be_opened;
 use crate::node::Node;
@@ -33,7 +33,7 @@ impl<D: Disk> Node<D> {
         // Of the nodes before an event and after it the disk stands for the one that the answer says.
         ensures ended { IfOk result (λ revived. (n m : a_node)
             → EachImage (D.images self.old.extents.disk) (ServesEither n m)
-            → n.entries ≡ self.old.ready.state.entries → (m ≡ n) ⊎ (m.entries ≡ n.entries + 1)
+            → n.entries ≡ self.old.ready.state.entries → MakesOne n m
             → node_on self.new.ready.state (D.seen self.new.extents.disk) ≡ ended_in revived n m) }
         ensures kept { OnErr result (self.new.ready ≡ self.old.ready) }
 
