@@ -1,0 +1,4 @@
+pub mod Lines
+pub mod Done
+pub mod Installed
+pub mod Standing
