@@ -1,2 +1,4 @@
 pub mod FirstWords
 pub mod Indexes
+pub mod Reached
+pub mod Forms
