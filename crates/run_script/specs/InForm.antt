@@ -14,8 +14,8 @@ use Rattle.scenario.specs.Blocks.{length_meant}
 use Rattle.run_script.specs.declared.above.Above.{Above}
 use Rattle.run_script.specs.declared.script.Script.{Script}
 use Rattle.run_script.specs.declared.lines.ClientLine.{ClientLine}
-use Rattle.run_script.specs.declared.lines.Fate.{Fate as AnyFate}
-use Rattle.run_script.specs.declared.lines.Fate.TheVariants.{Deliver, Lost, Unanswered, Twice, Late, Delayed}
+use Rattle.sub_core.specs.declared.subordinate.Fate.{Fate as AnyFate}
+use Rattle.sub_core.specs.declared.subordinate.Fate.TheVariants.{Deliver, Lost, Unanswered, Twice, Late, Delayed}
 use Rattle.run_script.specs.declared.lines.FateLine.{FateLine}
 use Rattle.run_script.specs.declared.lines.FaultLine.{FaultLine}
 use Rattle.run_script.specs.declared.lines.InstalledLine.{InstalledLine}

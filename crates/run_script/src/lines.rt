@@ -3,6 +3,7 @@
 use campaign_core::Phase;
 use disk_core::FailKind;
 use scenario::{Event, Installed};
+use sub_core::Fate;
 use ucm_base::{ClusterName, NodeId, Rows};
 
 /// After which record the campaign is cancelled.
@@ -83,15 +84,4 @@ pub struct Lines {
     pub stops: Rows<StopLine>,
     pub faults: Rows<FaultLine>,
     pub fates: Rows<FateLine>,
-}
-
-/// What a link makes of one attempt. Where nothing is said of when a message comes again, that is at the end.
-#[derive(Clone, Copy, Debug, PartialEq, Eq)]
-pub enum Fate {
-    Deliver,
-    Lost,
-    Unanswered,
-    Twice,
-    Late { after: Option<u64> },
-    Delayed { after: Option<u64> },
 }
