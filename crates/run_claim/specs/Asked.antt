@@ -36,6 +36,7 @@ line_meant attached l = done l.event
     line_of : ℕ → Deed → ClientLine
     line_of client deed =
         record { line = l.line; is_setup = l.is_setup; node = l.node; client = client; deed = deed }
+
     done : Event → ClientLine
     done (Call client at call) = line_of client (Calls at (call_meant attached call))
     done (Work client) = line_of client Works

@@ -3,6 +3,7 @@
 use campaign_core::Phase;
 use disk_core::FailKind;
 use scenario::{Event, Installed};
+use std::alloc::Global;
 use sub_core::Fate;
 use ucm_base::{ClusterName, NodeId, Rows};
 
@@ -84,4 +85,28 @@ pub struct Lines {
     pub stops: Rows<StopLine>,
     pub faults: Rows<FaultLine>,
     pub fates: Rows<FateLine>,
+}
+
+impl Lines {
+    ghost use Rattle.std.specs.Prelude.{◌≡◌};
+    ghost use Rattle.run_script.specs.Above.{no_lines};
+    ghost use Rattle.run_script.specs.InForm.{AreInForm};
+
+    /// No lines of any kind.
+    #[tactic(auto, using(crate::proofs::Forms::none_in_form))]
+    pub fn new(alloc: Global) -> Lines
+        ensures none { result ≡ no_lines }
+        ensures form { AreInForm result }
+    {
+        Lines {
+            time: None,
+            cancel: None,
+            installed: Rows::new(alloc),
+            fails: Rows::new(alloc),
+            clients: Rows::new(alloc),
+            stops: Rows::new(alloc),
+            faults: Rows::new(alloc),
+            fates: Rows::new(alloc),
+        }
+    }
 }
