@@ -5,3 +5,4 @@ pub mod Taken
 pub mod Plans
 pub mod Above
 pub mod Scripts
+pub mod Printed

@@ -1,11 +1,11 @@
 //! Scripts of a run, read line by line.
-ghost use Rattle.std.specs.Prelude.{◌≡◌, ◌≤◌, false, OnOk, IfOk};
+ghost use Rattle.std.specs.Prelude.{◌≡◌, ◌≤◌, false, OnOk, IfErr, IfOk};
 ghost use Rattle.scenario.specs.Readings.{Becomes, IsRead};
 ghost use Rattle.scenario.specs.Scripts.{is_passed_over, words_of};
 ghost use Rattle.run_script.specs.Above.{nothing_above};
 ghost use Rattle.run_script.specs.InForm.{IsCampaign, IsInForm, IsKnownInForm, IsLine};
 ghost use Rattle.run_script.specs.RunLines.{line_in};
-ghost use Rattle.run_script.specs.Scripts.{AreRead, IsScript, fault_of, line_read, needed, piece_of, script_of, vehicle_place, whole};
+ghost use Rattle.run_script.specs.Scripts.{AreRead, IsScript, IsTold, fault_of, line_read, needed, piece_of, script_of, vehicle_place, whole};
 ghost use Rattle.run_script.specs.Taken.{IsTaken};
 
 use crate::above::Above;
@@ -68,7 +68,8 @@ fn take_in<'a>(
 
 /// What a line's fault is at its number.
 fn fault_at(line: u64, fault: WordError) -> ScriptError
-    ensures { result ≡ fault_of line fault }
+    ensures fault { result ≡ fault_of line fault }
+    ensures told { IsTold result }
 {
     match fault {
         WordError::Refused(why) => ScriptError::Refused(Refusal::Line { line, why }),
@@ -81,6 +82,7 @@ fn fault_at(line: u64, fault: WordError) -> ScriptError
 fn read_lines(alloc: Global, above: &mut Above, input: &[u8]) -> Result<u64, ScriptError>
     requires { above.old ≡ nothing_above }
     ensures read { AreRead result above.new input.now }
+    ensures told { IfErr result IsTold }
     ensures form { OnOk result (IsKnownInForm above.new) }
 {
     let mut taken = Taken::new(alloc);
@@ -141,6 +143,7 @@ fn piece(attached: &[u8], place: Attached) -> &[u8]
 fn finish<'a>(alloc: Global, above: Above, attached: &'a [u8]) -> Result<Script<'a>, ScriptError>
     ensures read { IsScript result (whole above attached.now) }
     ensures form { IsKnownInForm above → IfOk result IsInForm }
+    ensures told { IfErr result IsTold }
 {
     let (campaign, place) = match needed(&above, attached.len() as u64) {
         Ok(found) => found,
@@ -163,6 +166,8 @@ pub fn read_script(alloc: Global, input: &[u8]) -> Result<Script<'_>, ScriptErro
     ensures read { IsScript result (script_of input.now) }
     // The campaign counts from 1, nodes are 1 to 8, clients 1 to 31 and disks 0 to 8, and what stands once stands once.
     ensures form { IfOk result IsInForm }
+    // Want of memory is no refusal, also where the vehicle package is read.
+    ensures told { IfErr result IsTold }
 {
     let mut above = Above::new(alloc);
     let at = match read_lines(alloc, &mut above, input) {
