@@ -2,3 +2,4 @@ pub mod FirstWords
 pub mod Indexes
 pub mod Reached
 pub mod Forms
+pub mod Fates
