@@ -1,5 +1,4 @@
-//! A node behind a turn: its clients call it, work it and ask it from several threads, and any seat polls it without
-//! waiting.
+//! A node behind a turn: its clients call it from several threads, each by a seat of its own.
 //!
 //! Layer: stands on `turn_gate` (one history behind a turn) and `node_store` (the node on its disk); the run of a
 //! campaign stands on it.
