@@ -17,9 +17,9 @@ use Rattle.sub_core.specs.declared.progress.EndProgress.{EndProgress}
 use Rattle.sub_core.specs.declared.answers.Round.{Round}
 use Rattle.sub_core.specs.declared.progress.Wish.{Wish}
 use Rattle.sub_core.specs.Driving.{after_delete, at_free, at_session, at_shown, at_status, end_after, end_wish, is_missed, next_no, todo, todo_for, unreached}
-use Rattle.sub_core.specs.Ending.{end_at}
+use Rattle.sub_core.specs.Ending.{end_at, has_end_answer}
 use Rattle.sub_core.specs.Given.{AreGiven, Given, IsTask, Task, after, told_of}
-use Rattle.sub_core.specs.Onward.{AreDeleted, DoneLeadsToUnits, EndGoesOn, GoesOn, ListedAreDeleted, RefusalsLeadToSync, ShowsNow}
+use Rattle.sub_core.specs.Onward.{AreDeleted, DoneLeadsToUnits, EndBeginsWithSync, EndGoesOn, GoesOn, ListedAreDeleted, RefusalsLeadToSync, ShowsNow}
 use Rattle.sub_core.specs.States.{DriverState}
 use Rattle.sub_core.proofs.Ends.{begun_of, end_sync_decided}
 use Rattle.sub_core.proofs.Turns.{end_is_asked}
@@ -147,6 +147,18 @@ module _ (by_size : GoesBySize) (lent : List (List ℕ)) (task : Task) (gs : Lis
   asks_at told at same leads =
       end_is_asked by_size lent task gs is given_ commit here
       ∙ ap (λ at. todo_for (after task gs) (end_wish at)) (ap (end_at commit) same ∙ leads)
+
+begins_at : (commit : Bool) (told : List Told) → has_end_answer told ≡ false
+    → end_at commit told ≡ EndProgress.Call SendStep.Sync
+begins_at commit [] none = refl
+begins_at commit (Answered m reply ∷ told) none = grind (arith, none)
+begins_at commit (Showed status ∷ told) none = grind (arith, none)
+
+pub end_begins_with_sync : GoesBySize → EndBeginsWithSync
+end_begins_with_sync by_size lent task gs is given_ commit here few none =
+    asks_at by_size lent task gs is given_ commit here few (told_of lent task gs) (EndProgress.Call SendStep.Sync) refl
+    (begins_at commit (told_of lent task gs) none)
+    ∙ sends_at (after task gs) few SendStep.Sync
 
 pub listed_are_deleted : GoesBySize → ListedAreDeleted
 listed_are_deleted by_size lent task gs is given_ commit here few ids count are =

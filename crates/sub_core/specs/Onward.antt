@@ -15,6 +15,7 @@ use Rattle.sub_core.specs.declared.answers.SendStep.{SendStep}
 use Rattle.sub_core.specs.declared.answers.Todo.{Todo}
 use Rattle.sub_core.specs.Calls.{call_of}
 use Rattle.sub_core.specs.Driving.{is_missed, next_no, todo}
+use Rattle.sub_core.specs.Ending.{has_end_answer}
 use Rattle.sub_core.specs.Given.{AreGiven, Given, IsTask, Task, after, told_of}
 use Rattle.sub_core.specs.Sends.{decision_of}
 
@@ -39,6 +40,14 @@ GoesOn lent commit status asked =
     ⊎ ((is_working status ≡ false)
     × ((call_no : CallNo) × (step : SendStep) × (asked ≡ Todo.Send call_no step)
     × IsNextAt commit status (call_of lent step)))
+
+-- until an answer to a message of it was told, the end phase asks for a Sync
+abbrev pub EndBeginsWithSync : Type 0
+EndBeginsWithSync =
+    (lent : List (List ℕ)) (task : Task) (gs : List Given) → IsTask lent task → AreGiven task gs
+    → (commit : Bool) → (after task gs).round ≡ Some (Round.End commit) → is_missed (after task gs) ≡ false
+    → has_end_answer (told_of lent task gs) ≡ false
+    → todo (after task gs) ≡ Todo.Send (next_no (after task gs)) SendStep.Sync
 
 -- behind each status that was told at the end the driver goes on so, unless eight attempts failed
 abbrev pub EndGoesOn : Type 0
