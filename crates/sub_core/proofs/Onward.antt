@@ -19,7 +19,7 @@ use Rattle.sub_core.specs.declared.progress.Wish.{Wish}
 use Rattle.sub_core.specs.Driving.{after_delete, at_free, at_session, at_shown, at_status, end_after, end_wish, is_missed, next_no, todo, todo_for, unreached}
 use Rattle.sub_core.specs.Ending.{end_at, has_end_answer}
 use Rattle.sub_core.specs.Given.{AreGiven, Given, IsTask, Task, after, told_of}
-use Rattle.sub_core.specs.Onward.{AreDeleted, DoneLeadsToUnits, EndBeginsWithSync, EndGoesOn, GoesOn, ListedAreDeleted, RefusalsLeadToSync, ShowsNow}
+use Rattle.sub_core.specs.Onward.{AreDeleted, DoneLeadsToUnits, EndBeginsWithSync, EndGoesOn, GoesOn, HasFew, ListedAreDeleted, RefusalsLeadToSync, ShowsNow}
 use Rattle.sub_core.specs.States.{DriverState}
 use Rattle.sub_core.proofs.Ends.{begun_of, end_sync_decided}
 use Rattle.sub_core.proofs.Turns.{end_is_asked}
@@ -59,10 +59,13 @@ first_of : (call_no : CallNo) (ids : List ℕ) → 0 < length ids → at_free ca
 first_of call_no [] some = absurd (omega (arith, some))
 first_of call_no (id ∷ ids) some = refl
 
-module _ (lent : List (List ℕ)) (d : DriverState) (few : is_missed d ≡ false) where
+few_missed : (d : DriverState) → HasFew d → is_missed d ≡ false
+few_missed d few = grind (arith, nat_tests, few)
+
+module _ (lent : List (List ℕ)) (d : DriverState) (few : HasFew d) where
   goes_at : (commit : Bool) (status : Status) (b : Bool) → is_working status ≡ b
       → todo d ≡ todo_for d (end_wish (at_status commit status)) → GoesOn lent commit status (todo d)
-  goes_at commit status b is asks = grind arith
+  goes_at commit status b is asks = grind (arith, few_missed d few)
 
 -- behind a status
 pub end_goes_on : GoesBySize → EndGoesOn
@@ -131,16 +134,16 @@ refused_leads : (commit : Bool) (m : Message) (why : Refusal) (older : List Told
 refused_leads commit m why older = grind arith
 
 -- what is asked for at a place of the end phase, where eight attempts didn't fail
-module _ (d : DriverState) (few : is_missed d ≡ false) where
+module _ (d : DriverState) (few : HasFew d) where
   sends_at : (asked : SendStep) → todo_for d (Wish.Send asked) ≡ Todo.Send (next_no d) asked
-  sends_at asked = ap (λ b. if b then Todo.Rest (unreached d.misses) else Todo.Send (next_no d) asked) few
+  sends_at asked = ap (λ b. if b then Todo.Rest (unreached d.misses) else Todo.Send (next_no d) asked) (few_missed d few)
 
   works_at : todo_for d Wish.Unit ≡ Todo.Unit
-  works_at = ap (λ b. if b then Todo.Rest (unreached d.misses) else Todo.Unit) few
+  works_at = ap (λ b. if b then Todo.Rest (unreached d.misses) else Todo.Unit) (few_missed d few)
 
 module _ (by_size : GoesBySize) (lent : List (List ℕ)) (task : Task) (gs : List Given) (is : IsTask lent task)
     (given_ : AreGiven task gs) (commit : Bool) (here : (after task gs).round ≡ Some (Round.End commit))
-    (few : is_missed (after task gs) ≡ false) where
+    (few : HasFew (after task gs)) where
   -- what is asked for, by where the end phase is
   asks_at : (told : List Told) (at : EndProgress) → told_of lent task gs ≡ told → end_at commit told ≡ at
       → todo (after task gs) ≡ todo_for (after task gs) (end_wish at)
