@@ -125,7 +125,8 @@ done_at commit call_no status = grind arith
 done_leads : (k epoch : ℕ) (commit : Bool) (m : Message) (status : Status) (older : List Told) → m.decided ≡ true
     → ShowsNow k epoch status older → end_at commit (Answered m Reply.Done ∷ older) ≡ EndProgress.Units
 done_leads k epoch commit m status older decided now =
-    ap (λ b. if b then end_after commit m.at (end_at commit older) Reply.Done else EndProgress.Call SendStep.Sync) decided
+    ap (λ b. if b then end_after commit m.at (end_at commit older) Reply.Done else EndProgress.Call SendStep.Sync)
+    decided
     ∙ (ap (λ at. end_after commit m.at at Reply.Done) (status_at k epoch commit status older now)
     ∙ done_at commit m.at status)
 
@@ -136,7 +137,8 @@ refused_leads commit m why older = grind arith
 -- what is asked for at a place of the end phase, where eight attempts didn't fail
 module _ (d : DriverState) (few : HasFew d) where
   sends_at : (asked : SendStep) → todo_for d (Wish.Send asked) ≡ Todo.Send (next_no d) asked
-  sends_at asked = ap (λ b. if b then Todo.Rest (unreached d.misses) else Todo.Send (next_no d) asked) (few_missed d few)
+  sends_at asked =
+      ap (λ b. if b then Todo.Rest (unreached d.misses) else Todo.Send (next_no d) asked) (few_missed d few)
 
   works_at : todo_for d Wish.Unit ≡ Todo.Unit
   works_at = ap (λ b. if b then Todo.Rest (unreached d.misses) else Todo.Unit) (few_missed d few)
