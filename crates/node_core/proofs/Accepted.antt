@@ -261,18 +261,6 @@ module _ {v w : Readied} (e : v ≡ w) (client : ℕ) (reply : Reply) (table : T
   abbrev old : Table
   old = table_of v.state
 
-  pub start-made : (size : ℕ) → SomeAccepted w client (TransferStart size)
-      → reply ≡ refused_or (Started v.state.next_id)
-      (first_refusal (start_refusals v.state.next_id (length v.state.transfers) size))
-      → table ≡ unless_refused reply old (with_fresh client size old)
-      → with_table table v.state ≡ accept (kept_by w) w.state client (TransferStart size)
-  start-made size accepted replies tables =
-      ap (λ t. with_table t v.state) (settled (Started v.state.next_id) reply _ old (with_fresh client size old) table
-      refl replies (ap (λ (r : Readied). first_refusal (start_refusals r.state.next_id (length r.state.transfers) size))
-      e
-      ∙ sym (start-refused (over accepted.0 w) client size) ∙ accepted.3) tables)
-      ∙ ap (λ r. accept (kept_by r) r.state client (TransferStart size)) e
-
   pub block-made : (id counter : ℕ) (block : List ℕ) → SomeAccepted w client (TransferData id counter block)
       → reply ≡ refused_or Done
       (first_refusal (data_refusals (stored_header v.state.transfers client id) counter (length block)))

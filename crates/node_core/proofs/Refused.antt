@@ -27,13 +27,6 @@ synced-by {w = w} e client areas =
     }) e ∙ synced-means (over areas w) client
 
 module _ {v w : Readied} (e : v ≡ w) (client : ℕ) (areas : Areas) where
-  pub start-by : (size : ℕ) (o : Option Refusal)
-      → o ≡ first_refusal (start_refusals v.state.next_id (length v.state.transfers) size)
-      → o ≡ refusal_by (over areas w) client (TransferStart size)
-  start-by size o is =
-      is ∙ ap (λ (r : Readied). first_refusal (start_refusals r.state.next_id (length r.state.transfers) size)) e
-      ∙ sym (start-refused (over areas w) client size)
-
   pub block-by : (id counter : ℕ) (block : List ℕ) (o : Option Refusal)
       → o ≡ first_refusal (data_refusals (stored_header v.state.transfers client id) counter (length block))
       → o ≡ refusal_by (over areas w) client (TransferData id counter block)
@@ -48,13 +41,6 @@ module _ {v w : Readied} (e : v ≡ w) (client : ℕ) (areas : Areas) where
   delete-by id o is =
       is ∙ ap (λ (r : Readied). first_refusal (delete_refusals (stored_header r.state.transfers client id))) e
       ∙ sym (delete-refused (over areas w) client id)
-
-  pub session-by : (call : Call) (o : Option Refusal)
-      → o ≡ first_refusal (session_refusals v.state client call)
-      → o ≡ first_refusal (session_refusals (node_of (over areas w)) client call)
-  session-by call o is =
-      is ∙ ap (λ (r : Readied). first_refusal (session_refusals r.state client call)) e
-      ∙ sym (session-refused (over areas w) client call)
 
   -- two refusals, the second of which counts where the first is none
   module _ (o q : Option Refusal) where

@@ -124,22 +124,6 @@ none-is : (o : Option State) → None ≡ option_map (λ (s : State). s.status) 
 none-is None e = refl
 none-is (Some s) e = absurd (cc)
 
--- it leaves the count of entries to its line
-pub unit-entries : (r : Readied) (passed : Bool) (n : State) → unit_stored r passed ≡ Some n
-    → n.entries ≡ r.state.entries
-unit-entries r passed n e = go r.state.session e
-  where
-    by : (x : SessionOf Extent) (status : Status) → work_on (kept_by r) (process_stored r x) r.state x passed status
-        ≡ Some n
-        → n.entries ≡ r.state.entries
-    by x status e = grind (arith, e)
-
-    go : (o : Option (SessionOf Extent)) → option_and_then (λ x.
-        work_on (kept_by r) (process_stored r x) r.state x passed r.state.status) o ≡ Some n
-        → n.entries ≡ r.state.entries
-    go None e = absurd (cc)
-    go (Some x) e = by x r.state.status e
-
 -- no unit, and one that was done, are the definition's work
 module _ (v : Holding) (fails : List (List ℕ)) (sound : IsSound v) (ready : IsReservedWork v) (passed : Bool)
     (passes : passed ≡ unit_passes fails (node_of v)) where

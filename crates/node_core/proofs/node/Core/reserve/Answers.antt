@@ -3,9 +3,6 @@ use Rattle.node_core.specs.Reserves.{Brings, Reserves}
 use Rattle.node_core.specs.Errors.{end_by}
 use Rattle.node_core.proofs.node.Core.reserve.Goals as goal
 
-pub returns-clause-node : goal.returns-clause-node
-returns-clause-node g c = c.reserve.ensures.node ∙ ap (λ v. node_of v.held) c.self.view_is
-
 pub returns-clause-reserves : goal.returns-clause-reserves
 returns-clause-reserves g c =
     subst (λ (v : Owning _). Reserves g.S.Staging.obeys g.S.Staging.areas v.held.state
