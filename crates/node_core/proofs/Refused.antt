@@ -67,15 +67,6 @@ module _ {v w : Readied} (e : v ≡ w) (client : ℕ) (areas : Areas) where
         (contents_of (stored_of r.state.transfers client id))))) e
         ∙ sym (process-refused (over areas w) sound client id tag)
 
-    pub activate-by : o ≡ first_refusal (session_refusals v.state client Activate)
-        → q ≡ unwrap_or (unmet_kept v.prepared) None → IsReady (over areas w) client Activate
-        → option_or o q ≡ refusal_by (over areas w) client Activate
-    activate-by session unmet ready =
-        (λ i. option_or (session i) (unmet i))
-        ∙ ap (λ (r : Readied). option_or (first_refusal (session_refusals r.state client Activate))
-        (unwrap_or (unmet_kept r.prepared) None)) e
-        ∙ sym (activate-refused (over areas w) client ready)
-
     pub cancel-by : (id : ℕ) → o ≡ first_refusal (session_refusals v.state client (Cancel id))
         → q ≡ first_refusal (cancel_refusals (stored_header v.state.transfers client id))
         → option_or o q ≡ refusal_by (over areas w) client (Cancel id)
