@@ -1,12 +1,5 @@
 -- What is seen of a node in memory that is the same.
-use Rattle.node_core.proofs.Names.{Areas, AreasFit, Call, CallNo, Err, Holding, IsReserved, IsReservedWork, IsSound}
-use Rattle.node_core.proofs.Names.{Ok, OnOk, Owning, Readied, Result, StandsFor, State, ap, meaning, node_of, over}
-use Rattle.node_core.proofs.Names.{package_reading, subst, sym, ℕ, ◌∙◌, ◌≡◌}
-use Rattle.node_core.proofs.Reserved.{reserves-ready, stand-sound}
-use Rattle.node_core.specs.Reserves.{Reserves}
-use Rattle.transfer_blocks.specs.Steps.{Step}
-use Rattle.node_core.specs.Errors.{end_by}
-use Rattle.node_core.specs.declared.node.ReserveError.{ReserveError}
+use Rattle.node_core.proofs.Names.{Call, CallNo, Holding, IsReserved, IsReservedWork, Owning, ap, subst, sym, ℕ, ◌≡◌}
 
 module _ {S : Type 0} {a b : Owning S} (e : a ≡ b) where
   pub held-is : a.held ≡ b.held

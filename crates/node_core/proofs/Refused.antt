@@ -1,15 +1,14 @@
 -- What a call is refused with by what is stored and ready is what the definition refuses it with.
-use Rattle.node_core.proofs.Names.{Activate, Areas, Call, Cancel, DeleteTransfer, Found, IsReady, IsSound, List, None}
-use Rattle.node_core.proofs.Names.{Option, ProcessSwPackage, Readied, Refusal, State, TransferData, TransferExit}
-use Rattle.node_core.proofs.Names.{TransferStart, ap, bad_refusal, cancel_refusals, changes_in, contents_of}
-use Rattle.node_core.proofs.Names.{data_refusals, delete_refusals, exit_refusals, first_refusal, found_of, length}
-use Rattle.node_core.proofs.Names.{mark_of, node_of, of_client, option_map, option_or, over, package_refusals}
-use Rattle.node_core.proofs.Names.{parts_refusal, refusal_by, session_refusals, start_refusals, stored_header}
-use Rattle.node_core.proofs.Names.{stored_ids, stored_of, sym, synced, unmet_kept, unwrap_or, verdict_in}
-use Rattle.node_core.proofs.Names.{verdict_kept, ℕ, [], ◌∙◌, ◌≡◌}
-use Rattle.node_core.proofs.Accepted.{block-refused, delete-refused, exit-refused, start-refused}
-use Rattle.node_core.proofs.Begun.{activate-refused, process-refused}
-use Rattle.node_core.proofs.Phased.{cancel-refused, session-refused}
+use Rattle.node_core.proofs.Names.{Areas, Cancel, DeleteTransfer, Found, IsReady, IsSound, List, Option}
+use Rattle.node_core.proofs.Names.{ProcessSwPackage, Readied, Refusal, State, TransferData, TransferExit, ap}
+use Rattle.node_core.proofs.Names.{bad_refusal, cancel_refusals, changes_in, contents_of, data_refusals}
+use Rattle.node_core.proofs.Names.{delete_refusals, exit_refusals, first_refusal, found_of, length, mark_of, node_of}
+use Rattle.node_core.proofs.Names.{of_client, option_map, option_or, over, package_refusals, parts_refusal}
+use Rattle.node_core.proofs.Names.{refusal_by, session_refusals, stored_header, stored_ids, stored_of, sym, synced}
+use Rattle.node_core.proofs.Names.{verdict_in, verdict_kept, ℕ, [], ◌∙◌, ◌≡◌}
+use Rattle.node_core.proofs.Accepted.{block-refused, delete-refused, exit-refused}
+use Rattle.node_core.proofs.Begun.{process-refused}
+use Rattle.node_core.proofs.Phased.{cancel-refused}
 use Rattle.node_core.proofs.Sound.{synced-means}
 use Rattle.node_core.proofs.Stored.{found-header}
 

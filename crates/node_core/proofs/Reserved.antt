@@ -211,14 +211,6 @@ reads-handed obeys areas {s} {Bring} {Q} {old} {new} e r is bring sound reads sa
     at-err (λ end. Reserves obeys areas s Bring Q end old new) e r is
     (reads-failed obeys areas s old new (fault_of e) bring sound reads same)
 
--- and it is ready over the node's own areas
-pub reserves-ready : {S : Type 0} {obeys : S → Step → S → Type 0} {areas : S → Areas} {s : State}
-    {Bring : Step → Type 0} {R : Areas → Type 0} {old new : S} → AreasFit (areas old)
-    → StandsFor (areas old) s (meaning package_reading (areas old) s)
-    → Reserves obeys areas s Bring R (Ok tt) old new → R (areas new)
-reserves-ready {areas = areas} {R = R} {old = old} fit stands r =
-    subst R (sym (r.moved refl)) (r.holds refl (areas old) fit stands).1
-
 -- a verdict that is ready is so over areas that stand for the node
 pub exit-ready : (v : Holding) (held : Areas) (client id : ℕ) → StandsFor held v.state (node_of v)
     → IsReady v client (TransferExit id) → IsReady (record v { areas = held }) client (TransferExit id)

@@ -8,7 +8,7 @@ use Rattle.node_core.specs.Reserves.{Writes}
 use Rattle.node_core.specs.declared.node.ReserveError.TheVariants.{OutOfMemory}
 use Rattle.node_core.proofs.Copied.{Needs, PieceNeeds, needs}
 use Rattle.node_core.proofs.Names.{IsSound, NextUnit, Option, Piece, Processing, State, option_map}
-use Rattle.node_core.proofs.Reserved.{failed-reserves, no-unit, none-ready, nothing-reserves, piece-own, reads-handed}
+use Rattle.node_core.proofs.Reserved.{failed-reserves, no-unit, none-ready, nothing-reserves, reads-handed}
 use Rattle.node_core.proofs.Reserved.{reads-reserve, sound-stands, unit-reserves}
 use Rattle.node_core.proofs.Runs.{reads-none, writes-then}
 use Rattle.node_core.proofs.copying.reserve_unit.Goals as goal

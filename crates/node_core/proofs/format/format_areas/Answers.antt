@@ -1,11 +1,10 @@
-use Rattle.node_core.proofs.Names.{AllByRecursion, Err, IsSound, Ok, ap, formatted, fresh_state, holding, in_order, length, meaning}
+use Rattle.node_core.proofs.Names.{AllByRecursion, IsSound, ap, formatted, fresh_state, holding, in_order, length, meaning}
 use Rattle.node_core.proofs.Names.{package_limit, package_reading, placed_from, refl, subst, sym, ◌∙◌, ◌≡◌, ◌≤◌}
 use Rattle.node_core.specs.Format.{Formats, IsFormatted, with_installed}
 use Rattle.transfer_blocks.specs.declared.fault.StagingError.TheVariants.{OutOfMemory}
-use Rattle.node_core.specs.Errors.{fault_of}
-use Rattle.node_core.proofs.Lists.{at-err, at-fault}
+use Rattle.node_core.proofs.Lists.{at-fault}
 use Rattle.node_core.proofs.Ordered.{order-each}
-use Rattle.node_core.proofs.Formatted.{formatted-node, none-formats, then-failed}
+use Rattle.node_core.proofs.Formatted.{formatted-node, none-formats}
 use Rattle.node_core.proofs.format.format_areas.Goals as goal
 
 pub install-requires-clause-short : goal.install-requires-clause-short

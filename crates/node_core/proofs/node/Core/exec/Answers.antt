@@ -1,4 +1,4 @@
-use Rattle.node_core.proofs.Names.{ap, state_after, step_by, under, ◌∙◌}
+use Rattle.node_core.proofs.Names.{ap, step_by, ◌∙◌}
 use Rattle.node_core.proofs.Owned.{held-is, reserved-is}
 use Rattle.node_core.proofs.node.Core.exec.Goals as goal
 

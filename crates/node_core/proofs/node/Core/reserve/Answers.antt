@@ -1,4 +1,4 @@
-use Rattle.node_core.proofs.Names.{IsReserved, Owning, ap, node_of, over, subst, ◌∙◌}
+use Rattle.node_core.proofs.Names.{IsReserved, Owning, over, subst}
 use Rattle.node_core.specs.Reserves.{Brings, Reserves}
 use Rattle.node_core.specs.Errors.{end_by}
 use Rattle.node_core.proofs.node.Core.reserve.Goals as goal

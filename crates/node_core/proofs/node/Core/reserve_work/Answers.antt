@@ -1,4 +1,4 @@
-use Rattle.node_core.proofs.Names.{IsReservedWork, Owning, ap, node_of, over, subst, ◌∙◌}
+use Rattle.node_core.proofs.Names.{IsReservedWork, Owning, over, subst}
 use Rattle.node_core.specs.Reserves.{Copies, Reserves}
 use Rattle.node_core.specs.Errors.{end_by}
 use Rattle.node_core.proofs.node.Core.reserve_work.Goals as goal

@@ -1,4 +1,4 @@
-use Rattle.node_core.proofs.Names.{None, Some, sym, refl, ◌∙◌}
+use Rattle.node_core.proofs.Names.{None, sym, ◌∙◌}
 use Rattle.node_core.proofs.Refused.{cancel-by}
 use Rattle.node_core.proofs.ready.Ready.cancel_refusal.Goals as goal
 

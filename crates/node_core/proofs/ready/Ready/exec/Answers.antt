@@ -1,5 +1,5 @@
 use Rattle.node_core.proofs.Names.{over, sym}
-use Rattle.node_core.proofs.Executed.{newer-executed, repeat-executed}
+use Rattle.node_core.proofs.Executed.{newer-executed}
 use Rattle.node_core.proofs.ready.Ready.exec.Goals as goal
 
 pub returns-clause-executed : goal.returns-clause-executed

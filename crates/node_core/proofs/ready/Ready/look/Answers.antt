@@ -1,5 +1,4 @@
-use Rattle.node_core.proofs.Names.{Readied, Some, activate_refusal, ap, over, subst, sym, ◌∙◌}
-use Rattle.node_core.specs.Core.{SomeSound}
+use Rattle.node_core.proofs.Names.{Readied, Some, activate_refusal, ap, over, ◌∙◌}
 use Rattle.node_core.proofs.Begun.{unmet-same}
 use Rattle.node_core.proofs.ready.Ready.look.Goals as goal
 

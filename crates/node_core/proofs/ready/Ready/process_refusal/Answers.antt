@@ -1,4 +1,4 @@
-use Rattle.node_core.proofs.Names.{None, Some, sym, refl, ◌∙◌}
+use Rattle.node_core.proofs.Names.{None, sym, ◌∙◌}
 use Rattle.node_core.proofs.Refused.{process-by}
 use Rattle.node_core.proofs.ready.Ready.process_refusal.Goals as goal
 

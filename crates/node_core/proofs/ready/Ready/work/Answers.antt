@@ -1,6 +1,6 @@
-use Rattle.node_core.proofs.Names.{IsWorked, Readied, ap, node_of, over, subst, sym, unit_passes, unit_stored, with_entry}
+use Rattle.node_core.proofs.Names.{Readied, ap, node_of, over, sym, unit_passes, unit_stored, with_entry}
 use Rattle.node_core.proofs.Names.{UnitAfter, ◌∙◌}
-use Rattle.node_core.proofs.UnitsDone.{Nothing, done-is, worked-none, worked-unit}
+use Rattle.node_core.proofs.UnitsDone.{done-is, worked-unit}
 use Rattle.node_core.proofs.ready.Ready.work.Goals as goal
 
 pub returns-clause-worked : goal.returns-clause-worked
