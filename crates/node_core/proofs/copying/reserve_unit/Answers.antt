@@ -24,13 +24,13 @@ module _ {areas : Areas} {s : State} {o : Option NextUnit} {next : NextUnit} (so
   needed = needs (holding areas s) sound busy unit
 
   module _ {es : List Extent} {p q : Option Piece} (sliced : es ≡ next.extents.items)
-      (got : p ≡ piece_of (content_of (Transfer next.slot) areas) (parts_place (length es)) next.done es) (there : p ≡ q)
-      where
+      (got : p ≡ piece_of (content_of (Transfer next.slot) areas) (parts_place (length es)) next.done es)
+      (there : p ≡ q) where
     found : piece_of (content_of (Transfer next.slot) areas) (parts_place (length next.extents.items)) next.done
         next.extents.items ≡ q
     found =
-        ap (λ (es : List Extent). piece_of (content_of (Transfer next.slot) areas) (parts_place (length es)) next.done es)
-        (sym sliced) ∙ sym got ∙ there
+        ap (λ (es : List Extent). piece_of (content_of (Transfer next.slot) areas) (parts_place (length es)) next.done
+        es) (sym sliced) ∙ sym got ∙ there
 
   owned : {es : List Extent} {p : Option Piece} {piece : Piece} → es ≡ next.extents.items
       → p ≡ piece_of (content_of (Transfer next.slot) areas) (parts_place (length es)) next.done es → p ≡ Some piece
