@@ -186,21 +186,21 @@ fn timed(rt: &impl Clock, driver: &mut Driver) -> Option<(u128, u64)> {
 }
 
 /// For the first blocks of a package, and for those behind this one: the nanoseconds that `next` and `on` take for one,
-/// on average, and the counter of the last.
+/// with the quickest of some drivers, and the counter of the last.
 pub fn blocks(rt: &impl Clock, alloc: Global, before: u32) -> Option<[(u128, u64); 2]> {
-    let mut sums = [0u128; 2];
+    let mut quickest = [u128::MAX; 2];
     let mut lasts = [0u64; 2];
     for _ in 0..DRIVERS {
         let mut driver = at_first_block(alloc)?;
         let first = timed(rt, &mut driver)?;
         go_on(&mut driver, before.saturating_sub(BLOCKS))?;
         let later = timed(rt, &mut driver)?;
-        sums = [
-            sums[0].saturating_add(first.0),
-            sums[1].saturating_add(later.0),
-        ];
+        quickest = [quickest[0].min(first.0), quickest[1].min(later.0)];
         lasts = [first.1, later.1];
     }
-    let times = (DRIVERS * BLOCKS) as u128;
-    Some([(sums[0] / times, lasts[0]), (sums[1] / times, lasts[1])])
+    let count = BLOCKS as u128;
+    Some([
+        (quickest[0] / count, lasts[0]),
+        (quickest[1] / count, lasts[1]),
+    ])
 }

@@ -10,7 +10,8 @@ use Rattle.ucm_base.specs.declared.parts.Part.{Part}
 use Rattle.package_reader.specs.Packed.{PackedOf}
 use Rattle.package_reader.specs.Printing.{package_text}
 use Rattle.vehicle_package.specs.declared.vehicle.Step.{Step}
-use Rattle.generator.specs.declared.script.DemoScript.{DemoScript}
+use Rattle.run_script.specs.Above.{no_lines}
+use Rattle.run_script.specs.Scripts.{Said}
 
 -- the sixteen packages are numbered from 0
 abbrev pub numbers : List ℕ
@@ -50,9 +51,11 @@ package_of number i =
 abbrev pub step_of : ℕ → Step
 step_of i = record { node = 1 + i / 2; «package» = i }
 
--- campaign 1, and a step for each package
-abbrev pub demo_of : ℕ → DemoScript
+-- campaign 1, and a step for each package; nothing is installed before, and no other line is there
+abbrev pub demo_of : ℕ → Said
 demo_of number = record {
   campaign = 1;
+  lines = no_lines;
   vehicle = record { steps = map step_of numbers; packages = map (package_of number) numbers };
+  attached = [];
 }

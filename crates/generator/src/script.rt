@@ -1,23 +1,19 @@
 //! The script of a number.
 ghost use Rattle.std.specs.Prelude.{◌≡◌, ◌<◌, IfOk, map};
 ghost use Rattle.std.specs.List.{range_with_len};
+ghost use Rattle.run_script.specs.InForm.{IsInForm};
+ghost use Rattle.run_script.specs.Scripts.{said};
 ghost use Rattle.generator.specs.Demo.{demo_of, numbers, package_of, step_of};
 
 use crate::packages::{PACKAGES, package_of};
 use package_reader::Packages;
+use run_script::{Lines, Script};
 use std::alloc::{AllocError, Global};
 use ucm_base::NodeId;
 use vehicle_package::{Step, Steps, Vehicle};
 
 /// The number of the campaign.
 const CAMPAIGN: u32 = 1;
-
-/// What a script has whose one campaign brings a vehicle package, with no other line.
-#[derive(Drop)]
-pub struct DemoScript {
-    pub campaign: u32,
-    pub vehicle: Vehicle,
-}
 
 /// The step that brings a package to its node.
 fn step_of(place: u16) -> Step
@@ -55,16 +51,20 @@ fn packages(alloc: Global, number: u32) -> Result<Packages, AllocError>
     Ok(packages)
 }
 
-/// The script of a number. Nothing but memory can be wanting.
-pub fn demo_script(alloc: Global, number: u32) -> Result<DemoScript, AllocError>
-    ensures { IfOk result (λ script. script ≡ demo_of number) }
+/// The script of a number, with nothing attached. Nothing but memory can be wanting.
+pub fn demo_script(alloc: Global, number: u32) -> Result<Script<'static>, AllocError>
+    ensures demo { IfOk result (λ script. said script ≡ demo_of number) }
+    ensures form { IfOk result IsInForm }
 {
-    Ok(DemoScript {
+    let vehicle = Vehicle {
+        steps: steps(alloc)?,
+        packages: packages(alloc, number)?,
+    };
+    Ok(Script {
         campaign: CAMPAIGN,
-        vehicle: Vehicle {
-            steps: steps(alloc)?,
-            packages: packages(alloc, number)?,
-        },
+        lines: Lines::new(alloc),
+        vehicle,
+        attached: b"".as_slice(),
     })
 }
 
@@ -74,7 +74,7 @@ mod tests {
     use std::test::Fail;
 
     /// The bytes of all payloads together.
-    fn payloads(script: &DemoScript) -> u64 {
+    fn payloads(script: &Script<'_>) -> u64 {
         let mut bytes = 0u64;
         for packed in script.vehicle.packages.as_slice() {
             for part in packed.parts() {

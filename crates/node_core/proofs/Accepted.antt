@@ -2,7 +2,7 @@
 use Rattle.node_core.proofs.Names.{AllByRecursion, Areas, DeleteTransfer, Done, ExitVerdict, Holding, IsBehind}
 use Rattle.node_core.proofs.Names.{IsBounded, IsCopiedIn, IsPlaced, IsReady, IsSound, IsTable, IsVerdictKept, Keeping}
 use Rattle.node_core.proofs.Names.{List, NodeState, None, Ok, Option, Readied, Refusal, Reply, Some, SomeAccepted}
-use Rattle.node_core.proofs.Names.{StandsFor, Started, StoredTransfer, Table, Transfer, TransferData, TransferExit}
+use Rattle.node_core.proofs.Names.{StandsFor, StoredTransfer, Table, Transfer, TransferData, TransferExit}
 use Rattle.node_core.proofs.Names.{TransferStart, Transferred, Transferring, Verdict, accept, accepted, ap, arith}
 use Rattle.node_core.proofs.Names.{bad_refusal, both-none, close, data_refusals, delete, delete_refusals, deleted}
 use Rattle.node_core.proofs.Names.{each-append, each-both, each-filter, each-imp, exit_refusals, exited, false}
@@ -10,14 +10,13 @@ use Rattle.node_core.proofs.Names.{filter-means, first_refusal, found-has, good_
 use Rattle.node_core.proofs.Names.{if◌then◌else◌, in_phase, is-transferring, is_in, is_of, kept_by, last_id, length}
 use Rattle.node_core.proofs.Names.{length-map, lowest_free, map, map-append, meaning, nat_le, nat_lt, nat_tests}
 use Rattle.node_core.proofs.Names.{node_of, not, not-false, option_map, option_map_or, option_or, over, package_limit}
-use Rattle.node_core.proofs.Names.{package_reading, parts_read, received, refl, refusal_by, refused_or}
-use Rattle.node_core.proofs.Names.{rows-clear, slice_index_or, slots_differ, slots_of, some_passes, start}
-use Rattle.node_core.proofs.Names.{start_refusals, started, stored_header, stored_of, subst, sym, table-filter}
-use Rattle.node_core.proofs.Names.{table-fresh, table_of, take, take_block, transfer_limit, transfer_meaning}
-use Rattle.node_core.proofs.Names.{transfer_of, true, under, unless_refused, verdict_in, verdict_kept, verdict_on}
-use Rattle.node_core.proofs.Names.{verdict_refusal, whole, with_block, with_bytes, with_fresh, with_length}
-use Rattle.node_core.proofs.Names.{with_stored, with_table, with_transfer, without, ℕ, [], ◌++◌, ◌+◌, ◌<◌, ◌==◌, ◌||◌}
-use Rattle.node_core.proofs.Names.{◌∙◌, ◌∷◌, ◌≡◌, ◌≤◌}
+use Rattle.node_core.proofs.Names.{package_reading, parts_read, received, refl, refusal_by, refused_or, rows-clear}
+use Rattle.node_core.proofs.Names.{slice_index_or, slots_differ, slots_of, some_passes, start, start_refusals}
+use Rattle.node_core.proofs.Names.{started, stored_header, stored_of, subst, sym, table-filter, table-fresh, table_of}
+use Rattle.node_core.proofs.Names.{take, take_block, transfer_limit, transfer_meaning, transfer_of, true, under}
+use Rattle.node_core.proofs.Names.{unless_refused, verdict_in, verdict_kept, verdict_on, verdict_refusal, whole}
+use Rattle.node_core.proofs.Names.{with_block, with_bytes, with_fresh, with_length, with_stored, with_table}
+use Rattle.node_core.proofs.Names.{with_transfer, without, ℕ, [], ◌++◌, ◌+◌, ◌<◌, ◌==◌, ◌||◌, ◌∙◌, ◌∷◌, ◌≡◌, ◌≤◌}
 use Rattle.node_core.proofs.Stored.{rise, found-is, only-has, changed-means, found-means, some-stored, staged-bytes}
 use Rattle.node_core.proofs.Lists.{change-each, each-second}
 use Rattle.node_core.proofs.Sound.{table-is}
@@ -245,13 +244,6 @@ module _ (v : Holding) (sound : IsSound v) (client : ℕ) where
             tt,
           )
 
--- what the four calls make of the table is what they make of the stored state
-settled : (otherwise reply : Reply) (o : Option Refusal) (old next table : Table)
-    → unless_refused otherwise old next ≡ next → reply ≡ refused_or otherwise o → o ≡ None
-    → table ≡ unless_refused reply old next → table ≡ next
-settled otherwise reply o old next table kept replies none tables =
-    tables ∙ ap (λ r. unless_refused r old next) (replies ∙ ap (refused_or otherwise) none) ∙ kept
-
 -- a node that is sound somewhere has a table
 pub table-within : {v w : Readied} → v ≡ w → (areas : Areas) → IsSound (over areas w) → IsTable (table_of v.state)
 table-within e areas sound =
@@ -261,39 +253,33 @@ module _ {v w : Readied} (e : v ≡ w) (client : ℕ) (reply : Reply) (table : T
   abbrev old : Table
   old = table_of v.state
 
-  pub start-made : (size : ℕ) → SomeAccepted w client (TransferStart size)
-      → reply ≡ refused_or (Started v.state.next_id)
-      (first_refusal (start_refusals v.state.next_id (length v.state.transfers) size))
-      → table ≡ unless_refused reply old (with_fresh client size old)
-      → with_table table v.state ≡ accept (kept_by w) w.state client (TransferStart size)
-  start-made size accepted replies tables =
-      ap (λ t. with_table t v.state) (settled (Started v.state.next_id) reply _ old (with_fresh client size old) table
-      refl replies (ap (λ (r : Readied). first_refusal (start_refusals r.state.next_id (length r.state.transfers) size))
-      e
-      ∙ sym (start-refused (over accepted.0 w) client size) ∙ accepted.3) tables)
-      ∙ ap (λ r. accept (kept_by r) r.state client (TransferStart size)) e
+  -- what the calls make of the table is what they make of the stored state
+  made : (refused : Readied → Option Refusal) (next : Readied → Table) → unless_refused Done old (next v) ≡ next v
+      → refused w ≡ None → reply ≡ refused_or Done (refused v) → table ≡ unless_refused reply old (next v)
+      → with_table table v.state ≡ with_table (next w) w.state
+  made refused next kept none replies tables =
+      ap (λ t. with_table t v.state) (tables ∙ ap (λ r. unless_refused r old (next v))
+      (replies ∙ ap (λ r. refused_or Done (refused r)) e ∙ ap (refused_or Done) none) ∙ kept)
+      ∙ ap (λ r. with_table (next r) r.state) e
 
   pub block-made : (id counter : ℕ) (block : List ℕ) → SomeAccepted w client (TransferData id counter block)
       → reply ≡ refused_or Done
       (first_refusal (data_refusals (stored_header v.state.transfers client id) counter (length block)))
       → table ≡ unless_refused reply old (with_stored id (received (length block)) old)
       → with_table table v.state ≡ accept (kept_by w) w.state client (TransferData id counter block)
-  block-made id counter block accepted replies tables =
-      ap (λ t. with_table t v.state) (settled Done reply _ old (with_stored id (received (length block)) old) table
-      refl replies (ap (λ (r : Readied). first_refusal
-      (data_refusals (stored_header r.state.transfers client id) counter (length block))) e
-      ∙ sym (block-refused (over accepted.0 w) client id counter block) ∙ accepted.3) tables)
-      ∙ ap (λ r. accept (kept_by r) r.state client (TransferData id counter block)) e
+  block-made id counter block accepted =
+      made (λ r. first_refusal (data_refusals (stored_header r.state.transfers client id) counter (length block)))
+      (λ r. with_stored id (received (length block)) (table_of r.state)) refl
+      (sym (block-refused (over accepted.0 w) client id counter block) ∙ accepted.3)
 
   pub delete-made : (id : ℕ) → SomeAccepted w client (DeleteTransfer id)
       → reply ≡ refused_or Done (first_refusal (delete_refusals (stored_header v.state.transfers client id)))
       → table ≡ unless_refused reply old (without id old)
       → with_table table v.state ≡ accept (kept_by w) w.state client (DeleteTransfer id)
-  delete-made id accepted replies tables =
-      ap (λ t. with_table t v.state) (settled Done reply _ old (without id old) table
-      refl replies (ap (λ (r : Readied). first_refusal (delete_refusals (stored_header r.state.transfers client id))) e
-      ∙ sym (delete-refused (over accepted.0 w) client id) ∙ accepted.3) tables)
-      ∙ ap (λ r. accept (kept_by r) r.state client (DeleteTransfer id)) e
+  delete-made id accepted =
+      made (λ r. first_refusal (delete_refusals (stored_header r.state.transfers client id)))
+      (λ r. without id (table_of r.state)) refl
+      (sym (delete-refused (over accepted.0 w) client id) ∙ accepted.3)
 
   pub close-made : (id : ℕ) (verdict : ExitVerdict) → verdict ≡ verdict_in (verdict_kept v.prepared)
       → SomeAccepted w client (TransferExit id)
@@ -302,11 +288,9 @@ module _ {v w : Readied} (e : v ≡ w) (client : ℕ) (reply : Reply) (table : T
       → table ≡ unless_refused reply old (with_stored id (whole (good_parts verdict)) old)
       → with_table table v.state ≡ accept (kept_by w) w.state client (TransferExit id)
   close-made id verdict is accepted replies tables =
-      ap (λ t. with_table t v.state) (settled Done reply _ old (with_stored id (whole (good_parts verdict)) old) table
-      refl replies (ap (λ q. option_or (first_refusal (exit_refusals (stored_header v.state.transfers client id)))
-      (bad_refusal q)) is
-      ∙ ap (λ (r : Readied). option_or (first_refusal (exit_refusals (stored_header r.state.transfers client id)))
-      (bad_refusal (verdict_in (verdict_kept r.prepared)))) e
-      ∙ sym (exit-refused (over accepted.0 w) client id accepted.2) ∙ accepted.3) tables)
-      ∙ ap (λ q. with_table (with_stored id (whole (good_parts q)) old) v.state) is
-      ∙ ap (λ r. accept (kept_by r) r.state client (TransferExit id)) e
+      let rows = λ (r : Readied). first_refusal (exit_refusals (stored_header r.state.transfers client id)) in
+      made (λ r. option_or (rows r) (bad_refusal (verdict_in (verdict_kept r.prepared))))
+      (λ r. with_stored id (whole (good_parts (verdict_in (verdict_kept r.prepared)))) (table_of r.state)) refl
+      (sym (exit-refused (over accepted.0 w) client id accepted.2) ∙ accepted.3)
+      (replies ∙ ap (λ q. refused_or Done (option_or (rows v) (bad_refusal q))) is)
+      (tables ∙ ap (λ q. unless_refused reply old (with_stored id (whole (good_parts q)) old)) is)

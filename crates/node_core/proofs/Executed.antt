@@ -147,12 +147,6 @@ module _ (v : Holding) (client : ℕ) (at : CallNo) (call : Call) where
       → reply ≡ reply_by v client call → Answered reply ≡ (step_by v client at call).1
   answer-is reply none e = ap Answered e ∙ sym (ap (λ p. p.1) (newer none))
 
-  -- a repeat changes nothing
-  pub repeat-executed : IsSound v → (r : Reached) → repeat_of at (of_client v.state.last client) ≡ Some r
-      → IsExecuted v client at call r v
-  repeat-executed sound r e =
-      record { reached = again-is r e; node = sym (ap (λ p. p.0) (repeats r e)); sound = sound }
-
   -- a newer call makes the definition's step
   pub newer-executed : client < client_limit → IsSound v → IsReady v client call
       → repeat_of at (of_client v.state.last client) ≡ None

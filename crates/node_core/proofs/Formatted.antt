@@ -273,16 +273,6 @@ none-formats obeys all old = record {
   whole = λ e. absurd (cc e);
 }
 
-pub then-failed : {S : Type 0} {obeys : S → Step → S → Type 0} {all : List (Cluster Bytes)} {old new : S}
-    → Formats obeys all (Ok tt) old new → Formats obeys all (Err OutOfMemory) old new
-then-failed f = record {
-  steps = f.steps;
-  ran = f.ran;
-  sides = f.sides;
-  faultless = λ e. f.faultless ok-faultless;
-  whole = λ e. absurd (cc e);
-}
-
 -- a node that begins with clusters, over areas that they were put to
 pub formatted-node : (held : Areas) (ordered cs : List (Cluster Bytes)) → ordered ≡ in_order cs
     → length ordered ≡ length cs → length cs ≤ cluster_limit → AreShort cs → AreasFit held

@@ -312,9 +312,6 @@ module _ {v w : Holding} (e : v ≡ w) (x : SessionOf Extent) (id : ℕ) (is : x
       plan-ready = changes-ready v x id v.prepared whole hand ready-now
           (le-ltb (x.units_done + 1) (all_units hand.parts) (subst (λ n. n ≤ x.units_done + 1) same-units last))
 
-      pub some-plan : plan_kept v.prepared ≡ None → ⊥
-      some-plan none = let z = sym none ∙ plan-ready in let f : ⊥ = cc in f
-
       pub has-room : (plan : List (Change Extent)) → plan_kept v.prepared ≡ Some plan
           → length x.changes + length plan ≤ cluster_limit
       has-room plan kept =

@@ -1,15 +1,14 @@
 -- What a call is refused with by what is stored and ready is what the definition refuses it with.
-use Rattle.node_core.proofs.Names.{Activate, Areas, Call, Cancel, DeleteTransfer, Found, IsReady, IsSound, List, None}
-use Rattle.node_core.proofs.Names.{Option, ProcessSwPackage, Readied, Refusal, State, TransferData, TransferExit}
-use Rattle.node_core.proofs.Names.{TransferStart, ap, bad_refusal, cancel_refusals, changes_in, contents_of}
-use Rattle.node_core.proofs.Names.{data_refusals, delete_refusals, exit_refusals, first_refusal, found_of, length}
-use Rattle.node_core.proofs.Names.{mark_of, node_of, of_client, option_map, option_or, over, package_refusals}
-use Rattle.node_core.proofs.Names.{parts_refusal, refusal_by, session_refusals, start_refusals, stored_header}
-use Rattle.node_core.proofs.Names.{stored_ids, stored_of, sym, synced, unmet_kept, unwrap_or, verdict_in}
-use Rattle.node_core.proofs.Names.{verdict_kept, ℕ, [], ◌∙◌, ◌≡◌}
-use Rattle.node_core.proofs.Accepted.{block-refused, delete-refused, exit-refused, start-refused}
-use Rattle.node_core.proofs.Begun.{activate-refused, process-refused}
-use Rattle.node_core.proofs.Phased.{cancel-refused, session-refused}
+use Rattle.node_core.proofs.Names.{Areas, Cancel, DeleteTransfer, Found, IsReady, IsSound, List, Option}
+use Rattle.node_core.proofs.Names.{ProcessSwPackage, Readied, Refusal, State, TransferData, TransferExit, ap}
+use Rattle.node_core.proofs.Names.{bad_refusal, cancel_refusals, changes_in, contents_of, data_refusals}
+use Rattle.node_core.proofs.Names.{delete_refusals, exit_refusals, first_refusal, found_of, length, mark_of, node_of}
+use Rattle.node_core.proofs.Names.{of_client, option_map, option_or, over, package_refusals, parts_refusal}
+use Rattle.node_core.proofs.Names.{refusal_by, session_refusals, stored_header, stored_ids, stored_of, sym, synced}
+use Rattle.node_core.proofs.Names.{verdict_in, verdict_kept, ℕ, [], ◌∙◌, ◌≡◌}
+use Rattle.node_core.proofs.Accepted.{block-refused, delete-refused, exit-refused}
+use Rattle.node_core.proofs.Begun.{process-refused}
+use Rattle.node_core.proofs.Phased.{cancel-refused}
 use Rattle.node_core.proofs.Sound.{synced-means}
 use Rattle.node_core.proofs.Stored.{found-header}
 
@@ -27,13 +26,6 @@ synced-by {w = w} e client areas =
     }) e ∙ synced-means (over areas w) client
 
 module _ {v w : Readied} (e : v ≡ w) (client : ℕ) (areas : Areas) where
-  pub start-by : (size : ℕ) (o : Option Refusal)
-      → o ≡ first_refusal (start_refusals v.state.next_id (length v.state.transfers) size)
-      → o ≡ refusal_by (over areas w) client (TransferStart size)
-  start-by size o is =
-      is ∙ ap (λ (r : Readied). first_refusal (start_refusals r.state.next_id (length r.state.transfers) size)) e
-      ∙ sym (start-refused (over areas w) client size)
-
   pub block-by : (id counter : ℕ) (block : List ℕ) (o : Option Refusal)
       → o ≡ first_refusal (data_refusals (stored_header v.state.transfers client id) counter (length block))
       → o ≡ refusal_by (over areas w) client (TransferData id counter block)
@@ -48,13 +40,6 @@ module _ {v w : Readied} (e : v ≡ w) (client : ℕ) (areas : Areas) where
   delete-by id o is =
       is ∙ ap (λ (r : Readied). first_refusal (delete_refusals (stored_header r.state.transfers client id))) e
       ∙ sym (delete-refused (over areas w) client id)
-
-  pub session-by : (call : Call) (o : Option Refusal)
-      → o ≡ first_refusal (session_refusals v.state client call)
-      → o ≡ first_refusal (session_refusals (node_of (over areas w)) client call)
-  session-by call o is =
-      is ∙ ap (λ (r : Readied). first_refusal (session_refusals r.state client call)) e
-      ∙ sym (session-refused (over areas w) client call)
 
   -- two refusals, the second of which counts where the first is none
   module _ (o q : Option Refusal) where
@@ -80,15 +65,6 @@ module _ {v w : Readied} (e : v ≡ w) (client : ℕ) (areas : Areas) where
         (parts_refusal r.state.running (changes_in r.state) []
         (contents_of (stored_of r.state.transfers client id))))) e
         ∙ sym (process-refused (over areas w) sound client id tag)
-
-    pub activate-by : o ≡ first_refusal (session_refusals v.state client Activate)
-        → q ≡ unwrap_or (unmet_kept v.prepared) None → IsReady (over areas w) client Activate
-        → option_or o q ≡ refusal_by (over areas w) client Activate
-    activate-by session unmet ready =
-        (λ i. option_or (session i) (unmet i))
-        ∙ ap (λ (r : Readied). option_or (first_refusal (session_refusals r.state client Activate))
-        (unwrap_or (unmet_kept r.prepared) None)) e
-        ∙ sym (activate-refused (over areas w) client ready)
 
     pub cancel-by : (id : ℕ) → o ≡ first_refusal (session_refusals v.state client (Cancel id))
         → q ≡ first_refusal (cancel_refusals (stored_header v.state.transfers client id))

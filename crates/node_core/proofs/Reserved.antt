@@ -124,22 +124,22 @@ pub nothing-reserves : {S : Type 0} (obeys : S → Step → S → Type 0) (areas
 nothing-reserves obeys areas s Bring R end old bring stands ready =
     reads-reserve obeys areas s Bring R old old end bring (reads-none obeys end old) refl stands ready
 
--- what reserves for one thing reserves for what follows from it, over areas that stand for the node
-pub reserves-for : {S : Type 0} {obeys : S → Step → S → Type 0} {areas : S → Areas} {s : State} {Bring : Step → Type 0}
-    {R Q : Areas → Type 0} {old new : S} {end : End}
-    → ((held : Areas) → StandsFor held s (meaning package_reading (areas old) s) → R held → Q held)
-    → Reserves obeys areas s Bring R end old new → Reserves obeys areas s Bring Q end old new
-reserves-for to r = record {
+-- what reserves for one thing reserves for what follows from it, and brings what follows
+pub reserves-for : {S : Type 0} {obeys : S → Step → S → Type 0} {areas : S → Areas} {s : State}
+    {Bring More : Step → Type 0} {R Q : Areas → Type 0} {old new : S} {end : End}
+    → ((step : Step) → Bring step → More step) → ((held : Areas) → R held → Q held)
+    → Reserves obeys areas s Bring R end old new → Reserves obeys areas s More Q end old new
+reserves-for {Bring = Bring} {More = More} more to r = record {
   steps = r.steps;
   ran = r.ran;
   once = r.once;
-  brings = r.brings;
+  brings = each-imp Bring More more r.steps r.brings;
   spares = r.spares;
   stands = r.stands;
   done = r.done;
   faultless = r.faultless;
   moved = r.moved;
-  holds = λ e held fit stand. let h = r.holds e held fit stand in (h.0, to _ h.0 h.1);
+  holds = λ e held fit stand. let h = r.holds e held fit stand in (h.0, to _ h.1);
 }
 
 -- of a call and a state that are the same
@@ -149,7 +149,7 @@ pub reserves-at : {S : Type 0} {obeys : S → Step → S → Type 0} {areas : S 
     → Reserves obeys areas v.state (BringsNew v.state client a) R end old new
     → Reserves obeys areas w.state (BringsNew w.state client b) Q end old new
 reserves-at {obeys = obeys} {areas = areas} e same client {R = R} {end = end} {old = old} {new = new} to r =
-    reserves-for (λ held stand ready. to held ready)
+    reserves-for (λ step brought. brought) to
     (subst (λ (k : Readied × Call). Reserves obeys areas k.0.state (BringsNew k.0.state client k.1) R end old new)
     (λ i. (e i, sym same i)) r)
 
@@ -167,18 +167,7 @@ pub reserves-same : {S : Type 0} {obeys : S → Step → S → Type 0} {areas : 
     → ((held : Areas) → R held → Q held)
     → Reserves obeys areas k.1 (Bring k.0 k.1) R end k.0 new → Reserves obeys areas l.1 (More l.0 l.1) Q end l.0 new
 reserves-same {S = S} {obeys = obeys} {areas = areas} Bring More {l = l} e {R = R} {end = end} {new = new} more to r =
-    let same = subst (λ (k : S × State). Reserves obeys areas k.1 (Bring k.0 k.1) R end k.0 new) e r in record {
-      steps = same.steps;
-      ran = same.ran;
-      once = same.once;
-      brings = each-imp (Bring l.0 l.1) (More l.0 l.1) more same.steps same.brings;
-      spares = same.spares;
-      stands = same.stands;
-      done = same.done;
-      faultless = same.faultless;
-      moved = same.moved;
-      holds = λ e held fit stand. let h = same.holds e held fit stand in (h.0, to _ h.1);
-    }
+    reserves-for more to (subst (λ (k : S × State). Reserves obeys areas k.1 (Bring k.0 k.1) R end k.0 new) e r)
 
 -- after a failure nothing is ready
 pub only-failed : {S : Type 0} {obeys : S → Step → S → Type 0} {areas : S → Areas} {s : State} {Bring : Step → Type 0}
@@ -221,14 +210,6 @@ pub reads-handed : {S X : Type 0} (obeys : S → Step → S → Type 0) (areas :
 reads-handed obeys areas {s} {Bring} {Q} {old} {new} e r is bring sound reads same =
     at-err (λ end. Reserves obeys areas s Bring Q end old new) e r is
     (reads-failed obeys areas s old new (fault_of e) bring sound reads same)
-
--- and it is ready over the node's own areas
-pub reserves-ready : {S : Type 0} {obeys : S → Step → S → Type 0} {areas : S → Areas} {s : State}
-    {Bring : Step → Type 0} {R : Areas → Type 0} {old new : S} → AreasFit (areas old)
-    → StandsFor (areas old) s (meaning package_reading (areas old) s)
-    → Reserves obeys areas s Bring R (Ok tt) old new → R (areas new)
-reserves-ready {areas = areas} {R = R} {old = old} fit stands r =
-    subst R (sym (r.moved refl)) (r.holds refl (areas old) fit stands).1
 
 -- a verdict that is ready is so over areas that stand for the node
 pub exit-ready : (v : Holding) (held : Areas) (client id : ℕ) → StandsFor held v.state (node_of v)

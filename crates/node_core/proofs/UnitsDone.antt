@@ -1,13 +1,12 @@
 -- A unit of work on the stored state is the definition's, over each areas over which all is ready for it.
 use Rattle.node_core.proofs.Names.{Activated, Activating, Bool, Change, CleaningUp, Extent, Holding, Idle, IfSome}
 use Rattle.node_core.proofs.Names.{IsReservedWork, IsSound, IsUnitReady, IsWorked, List, NodeState, None, Option}
-use Rattle.node_core.proofs.Names.{Prepared, Processing, Readied, Ready, RolledBack, RollingBack, SessionOf, Some}
-use Rattle.node_core.proofs.Names.{StandsFor, State, Status, UnitAfter, Verifying, Worked, after_work, all_units}
-use Rattle.node_core.proofs.Names.{answer_to, ap, arith, contents_of, false, if◌then◌else◌, kept_by, length, meaning}
-use Rattle.node_core.proofs.Names.{nat_lt, node_of, option_and_then, option_map, package_reading, plan_kept, process}
-use Rattle.node_core.proofs.Names.{process_stored, refl, stored_of, stored_units, subst, sym, true, under, unit}
-use Rattle.node_core.proofs.Names.{unit_passes, unit_stored, unwrap_or, with_entry, with_slots, work_on, worked, ℕ}
-use Rattle.node_core.proofs.Names.{[], ◌+◌, ◌∙◌, ◌≡◌}
+use Rattle.node_core.proofs.Names.{Prepared, Processing, Ready, RolledBack, RollingBack, SessionOf, Some, StandsFor}
+use Rattle.node_core.proofs.Names.{State, Status, UnitAfter, Verifying, Worked, after_work, all_units, answer_to, ap}
+use Rattle.node_core.proofs.Names.{contents_of, false, if◌then◌else◌, length, meaning, nat_lt, node_of}
+use Rattle.node_core.proofs.Names.{option_and_then, option_map, package_reading, plan_kept, process, process_stored}
+use Rattle.node_core.proofs.Names.{refl, stored_of, stored_units, subst, sym, true, under, unit, unit_passes}
+use Rattle.node_core.proofs.Names.{unit_stored, unwrap_or, with_entry, with_slots, worked, ℕ, [], ◌+◌, ◌∙◌, ◌≡◌}
 use Rattle.node_core.proofs.Handled.{InHand, at_process, busy, changes-ready, in-hand, more-unit, stored-same}
 use Rattle.node_core.proofs.Lastly.{last-unit, processed_with}
 use Rattle.node_core.proofs.Worked.{IsUnit, activated-unit, at-work, at_work, cleaned-unit, rolled-unit, turned-unit, verified-unit, worked-fit}
@@ -120,42 +119,9 @@ done-is None after n e is = absurd (cc)
 done-is (Some s) after n e is =
     (ap Some (sym is), ap (λ (k : State). k.status) is ∙ (let same : s.status ≡ after = cc in same))
 
-none-is : (o : Option State) → None ≡ option_map (λ (s : State). s.status) o → o ≡ None
-none-is None e = refl
-none-is (Some s) e = absurd (cc)
-
--- it leaves the count of entries to its line
-pub unit-entries : (r : Readied) (passed : Bool) (n : State) → unit_stored r passed ≡ Some n
-    → n.entries ≡ r.state.entries
-unit-entries r passed n e = go r.state.session e
-  where
-    by : (x : SessionOf Extent) (status : Status) → work_on (kept_by r) (process_stored r x) r.state x passed status
-        ≡ Some n
-        → n.entries ≡ r.state.entries
-    by x status e = grind (arith, e)
-
-    go : (o : Option (SessionOf Extent)) → option_and_then (λ x.
-        work_on (kept_by r) (process_stored r x) r.state x passed r.state.status) o ≡ Some n
-        → n.entries ≡ r.state.entries
-    go None e = absurd (cc)
-    go (Some x) e = by x r.state.status e
-
--- no unit, and one that was done, are the definition's work
+-- a unit that was done is the definition's work
 module _ (v : Holding) (fails : List (List ℕ)) (sound : IsSound v) (ready : IsReservedWork v) (passed : Bool)
     (passes : passed ≡ unit_passes fails (node_of v)) where
-  pub worked-none : None ≡ option_map (λ (s : State). s.status) (unit_stored (under v) passed)
-      → IsWorked v fails (Nothing v.state.status) v
-  worked-none none = record {
-    answer = foreseen v fails passed sound ready passes None none;
-    node = ap (λ o. unwrap_or (option_map (λ (t : NodeState). with_entry (UnitAfter t.status) t) o) (node_of v)) nothing
-        ∙ ap (λ b. unwrap_or (worked (node_of v) b) (node_of v)) passes;
-    sound = sound;
-  }
-    where
-      nothing : None ≡ unit (node_of v) passed
-      nothing =
-          sym (subst (UnitIs v passed) (none-is (unit_stored (under v) passed) none) (unit-of v passed sound ready))
-
   pub worked-unit : (n : State) → unit_stored (under v) passed ≡ Some n → (after : Status) → n.status ≡ after
       → (s : State) → s ≡ with_entry (UnitAfter n.status) n → (p : Prepared)
       → IsWorked v fails (Worked_Unit passed after) (record { areas = v.areas; state = s; prepared = p })

@@ -1,5 +1,5 @@
 mod Asked
-mod Entered
+pub mod Entered
 mod EnteredWork
 mod Recorded
 mod Staged

@@ -109,12 +109,53 @@ impl<D: Disk> Node<D> {
             ≤ self.old.ready.state.entries + 1 }
         ensures plan { D.armed self.new.extents.disk ≡ D.armed self.old.extents.disk }
     {
-        self.stage(alloc, client, no, call)?;
-        match self.ready.foresee(client, no, call) {
+        match self.foresee(alloc, client, no, call)? {
             Reached::Done(reply) => self.enter(alloc, client, no, call, &reply),
             Reached::Again(reply) => Ok(Reached::Again(reply)),
             Reached::Stale { last } => Ok(Reached::Stale { last }),
         }
+    }
+
+    /// Makes ready what a call needs, puts the block that it brings, and foresees what it gives. The node stays as it
+    /// is, and nothing is pending after a fault.
+    pub fn foresee(
+        &mut self,
+        alloc: Global,
+        client: ClientId,
+        no: CallNo,
+        call: &Call,
+    ) -> Result<Reached, StoreError>
+        requires known { IsOpen self.old.log self.old.ready
+            (D.seen self.old.extents.disk) (D.images self.old.extents.disk) }
+        ensures reached { IfOk result (λ reached. reached
+            ≡ (stepped (node_on self.old.ready.state (D.seen self.old.extents.disk))
+            client no call.now).1) }
+        ensures known { OnOk result (IsOpen self.new.log self.new.ready
+            (D.seen self.new.extents.disk) (D.images self.new.extents.disk)) }
+        ensures memory { IsErrOf result StoreError.OutOfMemory
+            → IsOpen self.new.log self.new.ready
+            (D.seen self.new.extents.disk) (D.images self.new.extents.disk) }
+        ensures node { node_on self.new.ready.state (D.seen self.new.extents.disk)
+            ≡ node_on self.old.ready.state (D.seen self.old.extents.disk) }
+        ensures state { self.new.ready.state ≡ self.old.ready.state }
+        ensures reserved { OnOk result (IsReserved
+            (over (held_in node_places (D.seen self.new.extents.disk)) self.new.ready)
+            client no call.now) }
+
+        // A crash at any moment of the call leaves the node.
+        ensures any_moment { LeavesOnly D.moment D.left_since
+            self.old.extents.disk self.new.extents.disk
+            (Serves (node_on self.old.ready.state (D.seen self.old.extents.disk))) }
+        ensures closed { self.new.is_closed ≡ self.old.is_closed }
+        ensures cause { IsErrOf result StoreError.Failed
+            → HasRisen (D.fault_count self.old.extents.disk)
+            (D.fault_count self.new.extents.disk) }
+        ensures faults { D.fault_count self.old.extents.disk
+            ≤ D.fault_count self.new.extents.disk }
+        ensures plan { D.armed self.new.extents.disk ≡ D.armed self.old.extents.disk }
+    {
+        self.stage(alloc, client, no, call)?;
+        Ok(self.ready.foresee(client, no, call))
     }
 
     /// Makes ready what the call needs, and puts the block that it brings.

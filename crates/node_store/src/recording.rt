@@ -25,8 +25,8 @@ use std::alloc::Global;
 use ucm_base::{CallNo, ClientId};
 
 impl<D: Disk> Node<D> {
-    /// Records a newer call for which all is ready, and does it.
-    pub(crate) fn enter(
+    /// Records a newer call that was foreseen, for which all is ready, and does it.
+    pub fn enter(
         &mut self,
         alloc: Global,
         client: ClientId,

@@ -10,7 +10,8 @@ use Rattle.campaign_core.specs.declared.events.MasterEvent.TheVariants.{Start, B
 use Rattle.campaign_core.specs.declared.events.Vote.{Vote}
 use Rattle.campaign_core.specs.declared.fold.Fold.{Fold}
 use Rattle.campaign_core.specs.Campaign.{after_event, is_yes, nothing_yet}
-use Rattle.run_claim.specs.Script.{Point, packages_of}
+use Rattle.run_script.specs.declared.lines.Point.{Point}
+use Rattle.run_claim.specs.Script.{packages_of}
 use Rattle.run_claim.specs.Ended.{Series, OfVote}
 use Rattle.run_claim.specs.Evidence.{votes_on, InVotes, is_of_node}
 use Rattle.run_claim.specs.FailedAttempts.{IsBounded, OneSeries, HasSums, VoteHasSeries, series_of}

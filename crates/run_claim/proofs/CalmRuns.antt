@@ -18,7 +18,8 @@ use Rattle.campaign_core.specs.declared.events.CampaignResult.TheVariants.{Succe
 use Rattle.campaign_core.specs.declared.events.Vote.{Vote}
 use Rattle.node_laws.specs.Fit.{IsReading, IsInstalled}
 use Rattle.world.specs.Law.{parts_in}
-use Rattle.run_claim.specs.Script.{Script, ClientLine, Deed, Calls, Point, packages_of, installed_on, failing_on}
+use Rattle.run_script.specs.declared.lines.Point.{Point}
+use Rattle.run_claim.specs.Script.{Script, ClientLine, Deed, Calls, packages_of, installed_on, failing_on}
 use Rattle.run_claim.specs.Script.{lines_on, is_named, every_node, named_nodes}
 use Rattle.run_claim.specs.Ended.{Ended, history_of}
 use Rattle.run_claim.specs.Masters.{epoch_of_begin}

@@ -4,7 +4,8 @@ use Rattle.std.specs.List.{AllByRecursion, list_all}
 use Rattle.std.proofs.Common.{refl, inl, inr, sym, ◌∙◌, subst, arith}
 use Rattle.std.proofs.lemmas.Bool.{and_parts, eqb-true, eq-eqb}
 use Rattle.std.proofs.lemmas.List.Sums.{sum_by-cons}
-use Rattle.run_claim.specs.Script.{Script, FateLine}
+use Rattle.run_script.specs.declared.lines.FateLine.{FateLine}
+use Rattle.run_claim.specs.Script.{Script}
 use Rattle.run_claim.specs.Ended.{Ended, Series, Unfinished, Failure, is_unformatted}
 use Rattle.sub_core.specs.declared.answers.Rises.{Rises}
 use Rattle.sub_core.specs.Made.{has_none}

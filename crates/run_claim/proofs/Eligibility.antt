@@ -3,7 +3,8 @@ use Rattle.std.specs.Prelude.{◌≡◌, true, false, [], ◌∷◌, drop, repli
 use Rattle.std.proofs.Common.{refl}
 use Rattle.ucm_base.specs.declared.parts.Action.TheVariants.{Install}
 use Rattle.pm_types.specs.Histories.{Reading}
-use Rattle.run_claim.specs.Script.{Step, Voted}
+use Rattle.run_script.specs.declared.lines.Point.TheVariants.{Voted}
+use Rattle.run_claim.specs.Script.{Step}
 use Rattle.sub_core.specs.declared.subordinate.Fate.TheVariants.{Lost}
 use Rattle.run_claim.specs.Eligible.{is_eligible, is_calm}
 use Rattle.run_claim.proofs.Removal as removal
@@ -18,7 +19,7 @@ failing_cluster : is_eligible failing.read failing.script ≡ false
 failing_cluster = refl
 
 failing_elsewhere : is_eligible failing.read
-    (record failing.script { fails = record { node = 1; name = 98 ∷ [] } ∷ [] }) ≡ true
+    (record failing.script { fails = record { line = 1; node = 1; name = 98 ∷ [] } ∷ [] }) ≡ true
 failing_elsewhere = refl
 
 with_client : is_eligible removal.read client.script ≡ false
@@ -28,7 +29,7 @@ with_cancel : is_eligible removal.read (record removal.script { cancel = Some Vo
 with_cancel = refl
 
 with_fate : is_eligible removal.read
-    (record removal.script { fates = record { node = 1; first = 1; last = 1; fate = Lost } ∷ [] }) ≡ false
+    (record removal.script { fates = record { line = 1; node = 1; first = 1; last = 1; fate = Lost } ∷ [] }) ≡ false
 with_fate = refl
 
 with_plan : is_eligible removal.read (record removal.script { plans = 0 ∷ [] }) ≡ false

@@ -107,7 +107,7 @@ script = record {
       record { node = 1; bytes = package_1 } ∷ record { node = 2; bytes = package_1 }
       ∷ record { node = 2; bytes = package_2 } ∷ [];
   installed = [];
-  fails = record { node = 2; name = (98 ∷ []) } ∷ [];
+  fails = record { line = 1; node = 2; name = (98 ∷ []) } ∷ [];
   lines = [];
   cancel = None;
   fates = [];

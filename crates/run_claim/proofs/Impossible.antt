@@ -25,7 +25,9 @@ use Rattle.campaign_core.specs.declared.events.CampaignResult.TheVariants.{Faile
 use Rattle.campaign_core.specs.declared.events.Vote.TheVariants as Vote
 use Rattle.world.specs.Messages.{is_status}
 use Rattle.world.specs.RoundCalls.{round_calls}
-use Rattle.run_claim.specs.Script.{ClientLine, Calls, Asks, FateLine, Syncing, Voted, packages_of}
+use Rattle.run_script.specs.declared.lines.FateLine.{FateLine}
+use Rattle.run_script.specs.declared.lines.Point.TheVariants.{Syncing, Voted}
+use Rattle.run_claim.specs.Script.{ClientLine, Calls, Asks, packages_of}
 use Rattle.sub_core.specs.declared.subordinate.Fate.TheVariants.{Lost}
 use Rattle.run_claim.specs.Ended.{Series, OfEnd, OfVote, Saw, LineReply}
 use Rattle.sub_core.specs.declared.answers.Rises.{Rises}
@@ -178,7 +180,7 @@ abbrev risen : Rises
 risen = record { losses = 1; faults = 0 }
 
 abbrev lost : FateLine
-lost = record { node = 1; first = 7; last = 14; fate = Lost }
+lost = record { line = 1; node = 1; first = 7; last = 14; fate = Lost }
 
 abbrev series_with : Rises → Series
 series_with r = record { failure = OfEnd; disk = 1; rises = r ∷ replicate 7 risen }

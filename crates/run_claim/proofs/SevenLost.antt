@@ -10,7 +10,7 @@ use Rattle.run_claim.proofs.Removal as removal
 
 -- the removal's script, and what becomes of seven attempts
 abbrev pub script : Script
-script = record removal.script { fates = record { node = 1; first = 7; last = 13; fate = Lost } ∷ [] }
+script = record removal.script { fates = record { line = 1; node = 1; first = 7; last = 13; fate = Lost } ∷ [] }
 
 node_1 : NodeFits read script counted ended 1
 node_1 = record {

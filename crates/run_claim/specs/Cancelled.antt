@@ -11,7 +11,8 @@ use Rattle.campaign_core.specs.declared.fold.Current.{Current}
 use Rattle.campaign_core.specs.declared.fold.Fold.{Fold}
 use Rattle.campaign_core.specs.Campaign.{nothing_yet, after_event, is_activating}
 use Rattle.campaign_core.specs.Nodes.{all_flagged}
-use Rattle.run_claim.specs.Script.{Point, Syncing, InPhase, Voted, Decided}
+use Rattle.run_script.specs.declared.lines.Point.{Point}
+use Rattle.run_script.specs.declared.lines.Point.TheVariants.{Syncing, InPhase, Voted, Decided}
 use Rattle.run_claim.specs.Masters.{has_decision}
 
 -- whether both are the same phase

@@ -6,7 +6,8 @@ use Rattle.campaign_core.specs.declared.events.MasterEvent.{MasterEvent}
 use Rattle.campaign_core.specs.declared.events.MasterEvent.TheVariants.{VoteOf}
 use Rattle.campaign_core.specs.declared.events.Vote.{Vote}
 use Rattle.sub_core.specs.Failures.{faults_in, is_losing, last_count, losses_in}
-use Rattle.run_claim.specs.Script.{ClientLine, FateLine}
+use Rattle.run_script.specs.declared.lines.FateLine.{FateLine}
+use Rattle.run_claim.specs.Script.{ClientLine}
 use Rattle.run_claim.specs.Ended.{Failure, OfVote, OfEnd, OfLine, OfFormatting, OfMaster, Series, Unfinished, LineReply, Gave, NoReply, gave_of, is_no_reply}
 use Rattle.sub_core.specs.declared.answers.Rises.{Rises}
 

@@ -13,7 +13,9 @@ use Rattle.campaign_core.specs.declared.events.MasterEvent.TheVariants.{Start}
 use Rattle.campaign_core.specs.Campaign.{IsLegal as IsLegalList}
 use Rattle.node_laws.specs.Fit.{IsReading, IsInstalled, IsFit}
 use Rattle.world.specs.Messages.{is_activate}
-use Rattle.run_claim.specs.Script.{Script, Point, Syncing, InPhase, packages_of, installed_on, failing_on, lines_on, named_nodes, used_nodes, is_named}
+use Rattle.run_script.specs.declared.lines.Point.{Point}
+use Rattle.run_script.specs.declared.lines.Point.TheVariants.{Syncing, InPhase}
+use Rattle.run_claim.specs.Script.{Script, packages_of, installed_on, failing_on, lines_on, named_nodes, used_nodes, is_named}
 use Rattle.run_claim.specs.Ended.{Ended, Unfinished, LineReply, history_of, gave_of, is_unformatted, is_ended_by_master}
 use Rattle.run_claim.specs.Masters.{made_by, GoesInOrder, GoesByDecision, epoch_of_begin, has_decision, has_end}
 use Rattle.sub_core.specs.Made.{has_none}

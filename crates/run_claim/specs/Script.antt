@@ -9,8 +9,9 @@ use Rattle.pm_types.specs.declared.clusters.Cluster.{Cluster}
 use Rattle.pm_types.specs.declared.queries.Query.{Query}
 use Rattle.pm_types.specs.declared.queries.Query.TheVariants.{GetHistory}
 use Rattle.pm_types.specs.Clusters.{with_cluster}
-use Rattle.campaign_core.specs.declared.events.Phase.{Phase}
-use Rattle.sub_core.specs.declared.subordinate.Fate.{Fate}
+use Rattle.run_script.specs.declared.lines.FailsLine.{FailsLine}
+use Rattle.run_script.specs.declared.lines.FateLine.{FateLine}
+use Rattle.run_script.specs.declared.lines.Point.{Point}
 
 -- a step of the vehicle package: these bytes go to this node
 pub record Step : Type 0 where
@@ -21,11 +22,6 @@ pub record Step : Type 0 where
 pub record Installed : Type 0 where
   pub node : ℕ
   pub cluster : Cluster Bytes
-
--- a cluster whose check fails on a node
-pub record Failing : Type 0 where
-  pub node : ℕ
-  pub name : List ℕ
 
 -- what a client's line does on its node
 pub data Deed : Type 0 where
@@ -41,27 +37,13 @@ pub record ClientLine : Type 0 where
   pub client : ℕ
   pub deed : Deed
 
--- after which record the campaign is cancelled
-pub data Point : Type 0 where
-  Syncing : Point
-  InPhase : (phase : Phase) → Point
-  Voted : Point
-  Decided : Point
-
--- the fate of these attempts at a node
-pub record FateLine : Type 0 where
-  pub node : ℕ
-  pub first : ℕ
-  pub last : ℕ
-  pub fate : Fate
-
 -- a script and its vehicle package; `plans` has the disk of each line that stops a disk or has it fail
 pub record Script : Type 0 where
   pub campaign : ℕ
   pub time : ℕ
   pub steps : List Step
   pub installed : List Installed
-  pub fails : List Failing
+  pub fails : List FailsLine
   pub lines : List ClientLine
   pub cancel : Option Point
   pub fates : List FateLine

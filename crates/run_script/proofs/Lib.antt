@@ -1,2 +1,5 @@
 pub mod FirstWords
 pub mod Indexes
+pub mod Reached
+pub mod Forms
+pub mod Fates

@@ -17,6 +17,7 @@ use Rattle.scenario.specs.Scripts.{attached_with}
 use Rattle.run_script.specs.declared.lines.FateLine.{FateLine}
 use Rattle.run_script.specs.declared.lines.FaultLine.{FaultLine}
 use Rattle.run_script.specs.declared.lines.InstalledLine.{InstalledLine}
+use Rattle.run_script.specs.declared.lines.Lines.{Lines}
 use Rattle.run_script.specs.declared.lines.Point.{Point}
 use Rattle.run_script.specs.declared.lines.StopLine.{StopLine}
 use Rattle.run_script.specs.declared.read.RunLine.{RunLine}
@@ -24,24 +25,23 @@ use Rattle.run_script.specs.declared.read.RunLine.TheVariants.{Shared, Setup, St
 use Rattle.run_script.specs.declared.above.Above.{Above}
 use Rattle.run_script.specs.Taken.{attempts_of, faults_of, stops_of}
 
+-- no lines of any kind
+abbrev pub no_lines : Lines
+no_lines =
+    record {
+      time = None;
+      cancel = None;
+      installed = [];
+      fails = [];
+      clients = [];
+      stops = [];
+      faults = [];
+      fates = [];
+    }
+
 -- what is known before the first line
 abbrev pub nothing_above : Above
-nothing_above =
-    record {
-      campaign = None;
-      lines = record {
-        time = None;
-        cancel = None;
-        installed = [];
-        fails = [];
-        clients = [];
-        stops = [];
-        faults = [];
-        fates = [];
-      };
-      attachments = [];
-      attached = 0;
-    }
+nothing_above = record { campaign = None; lines = no_lines; attachments = []; attached = 0 }
 
 abbrev pub time_added : Above → ℕ → Result Above Why
 time_added above n =

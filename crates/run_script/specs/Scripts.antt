@@ -1,6 +1,7 @@
 -- Scripts: what the lines above `end` say, and what lies behind it.
-use Rattle.std.specs.Prelude.{◌≡◌, ℕ, IfErr, IfOk, ◌+◌, ◌==◌, if◌then◌else◌, List, [], ◌∷◌, length, take, drop, codes, ok_or, unwrap_or, Result, Ok, Err}
+use Rattle.std.specs.Prelude.{◌≡◌, ⊤, ℕ, IfErr, IfOk, ◌+◌, ◌==◌, if◌then◌else◌, List, [], ◌∷◌, length, take, drop, codes, ok_or, unwrap_or, Result, Ok, Err}
 use Rattle.vehicle_package.specs.declared.fault.VehicleError.{VehicleError}
+use Rattle.vehicle_package.specs.declared.fault.VehicleError.TheVariants.{OutOfMemory as NoMemory}
 use Rattle.vehicle_package.specs.declared.vehicle.Vehicle.{Vehicle as AnyVehicle}
 use Rattle.vehicle_package.specs.Reading.{vehicle_of}
 use Rattle.scenario.specs.declared.why.Why.{Why}
@@ -116,6 +117,11 @@ AreRead result above input =
     IfOk result (λ at. (lines_read nothing_above 1 (above_end (lines_of input)) ≡ Ok above)
     × (at ≡ end_at (lines_of input)))
     × IsRefusedAs result (lines_read nothing_above 1 (above_end (lines_of input)))
+
+-- want of memory is told as such, and never as a refusal
+abbrev pub IsTold : ScriptError → Type 0
+IsTold (Refused (Vehicle NoMemory)) = ⊥
+IsTold e = ⊤
 
 -- what is answered is the script, or its refusal, unless memory was wanting
 abbrev pub IsScript : Result Script ScriptError → Result Said Refusal → Type 0

@@ -5,8 +5,8 @@ use Rattle.ucm_base.specs.Limits.{node_limit}
 use Rattle.campaign_core.specs.declared.events.Phase.TheVariants.{Transferring, Processing, Activating}
 use Rattle.disk_core.specs.declared.plan.FailKind.{FailKind}
 use Rattle.disk_core.specs.declared.plan.FailKind.TheVariants.{Read, Write, Sync}
-use Rattle.run_script.specs.declared.lines.Fate.{Fate}
-use Rattle.run_script.specs.declared.lines.Fate.TheVariants.{Lost, Unanswered, Twice, Late, Delayed}
+use Rattle.sub_core.specs.declared.subordinate.Fate.{Fate}
+use Rattle.sub_core.specs.declared.subordinate.Fate.TheVariants.{Lost, Unanswered, Twice, Late, Delayed}
 use Rattle.scenario.specs.declared.why.Why.{Why}
 use Rattle.scenario.specs.declared.why.Why.TheVariants.{Value}
 use Rattle.scenario.specs.Readings.{◌>>=◌, given}

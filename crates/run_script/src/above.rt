@@ -9,7 +9,7 @@ use crate::lines::{ClientLine, FailsLine, InstalledLine, Lines, Point};
 use scenario::{Attached, Attachments, Installed, NodeEvent, ScriptLine, Why, WordError};
 use std::alloc::Global;
 use ucm_base::limits::{CLUSTER_LIMIT, INPUT_LIMIT, PACKAGE_LIMIT};
-use ucm_base::{ClusterName, NodeId, Rows};
+use ucm_base::{ClusterName, NodeId};
 
 /// What the lines above say.
 #[derive(Drop)]
@@ -28,16 +28,7 @@ impl Above {
     {
         Above {
             campaign: None,
-            lines: Lines {
-                time: None,
-                cancel: None,
-                installed: Rows::new(alloc),
-                fails: Rows::new(alloc),
-                clients: Rows::new(alloc),
-                stops: Rows::new(alloc),
-                faults: Rows::new(alloc),
-                fates: Rows::new(alloc),
-            },
+            lines: Lines::new(alloc),
             attachments: Attachments::new(alloc),
             attached: 0,
         }

@@ -2,6 +2,7 @@
 
 use scenario::Why;
 use std::alloc::AllocError;
+use std::fmt;
 use vehicle_package::VehicleError;
 
 /// The first refusal.
@@ -11,6 +12,20 @@ pub enum Refusal {
     Line { line: u64, why: Why },
     /// The attached vehicle package is none.
     Vehicle(VehicleError),
+}
+
+impl fmt::Display for Refusal {
+    ghost use Rattle.std.specs.Prelude.{Some};
+    ghost use Rattle.run_script.specs.Printed.{refusal_text};
+
+    ghost output = { λ refusal. Some (refusal_text refusal) };
+
+    fn fmt<W: fmt::Write>(&self, f: &mut fmt::Formatter<W>) -> fmt::Result {
+        match self {
+            Refusal::Line { line, why } => write!(f, "line {line} {why}"),
+            Refusal::Vehicle(fault) => write!(f, "{fault}"),
+        }
+    }
 }
 
 /// Why no script was read.

@@ -3,6 +3,8 @@
 use campaign_core::Phase;
 use disk_core::FailKind;
 use scenario::{Event, Installed};
+use std::alloc::Global;
+use sub_core::Fate;
 use ucm_base::{ClusterName, NodeId, Rows};
 
 /// After which record the campaign is cancelled.
@@ -85,13 +87,26 @@ pub struct Lines {
     pub fates: Rows<FateLine>,
 }
 
-/// What a link makes of one attempt. Where nothing is said of when a message comes again, that is at the end.
-#[derive(Clone, Copy, Debug, PartialEq, Eq)]
-pub enum Fate {
-    Deliver,
-    Lost,
-    Unanswered,
-    Twice,
-    Late { after: Option<u64> },
-    Delayed { after: Option<u64> },
+impl Lines {
+    ghost use Rattle.std.specs.Prelude.{◌≡◌};
+    ghost use Rattle.run_script.specs.Above.{no_lines};
+    ghost use Rattle.run_script.specs.InForm.{AreInForm};
+
+    /// No lines of any kind.
+    #[tactic(auto, using(crate::proofs::Forms::none_in_form))]
+    pub fn new(alloc: Global) -> Lines
+        ensures none { result ≡ no_lines }
+        ensures form { AreInForm result }
+    {
+        Lines {
+            time: None,
+            cancel: None,
+            installed: Rows::new(alloc),
+            fails: Rows::new(alloc),
+            clients: Rows::new(alloc),
+            stops: Rows::new(alloc),
+            faults: Rows::new(alloc),
+            fates: Rows::new(alloc),
+        }
+    }
 }

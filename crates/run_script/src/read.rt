@@ -1,6 +1,8 @@
 //! Lines of a run, as their words give them.
 ghost use Rattle.std.specs.Prelude.{◌≡◌, ◌∷◌, [], map, IfOk};
-ghost use Rattle.run_script.specs.InForm.{IsLine};
+ghost use Rattle.run_script.specs.InForm.{IsDone, IsLine, IsShared};
+ghost use Rattle.scenario.specs.declared.words.Reach.TheVariants.{Vehicle};
+ghost use Rattle.scenario.specs.Lines.{event_line, shared_line};
 ghost use Rattle.scenario.specs.Readings.{IsRead};
 ghost use Rattle.run_script.specs.RunLines.{as_word, campaign_line, cancel_line, event_behind, fate_line, fault_line, is_own, is_setup_form, line_in, line_named, own_line, setup_line, stop_line};
 
@@ -121,6 +123,7 @@ fn read_cancel(words: &[&[u8]]) -> Result<RunLine, Why>
 }
 
 /// What becomes of attempts, by its words.
+#[tactic(auto, using(crate::proofs::Reached::is_node))]
 fn fate_of(line: u64, at: &[u8], attempts: &[u8], word: &[u8]) -> Result<RunLine, Why>
     ensures read { result ≡ fate_line line (at.now ∷ attempts.now ∷ word.now ∷ []) }
     ensures form { IfOk result IsLine }
@@ -164,6 +167,34 @@ fn as_word(why: Why) -> Why
     }
 }
 
+/// What a client does, by the first word of its line and those behind it.
+fn read_done(
+    alloc: Global,
+    attachments: &Attachments,
+    first: &[u8],
+    words: &[&[u8]],
+) -> Result<NodeEvent, WordError>
+    ensures read { IsRead result
+        (event_line Vehicle attachments.now first.now (map (λ w. w.now) words.now)) }
+    ensures form { IfOk result IsDone }
+{
+    read_event(alloc, Reach::Vehicle, attachments, first, words)
+}
+
+/// A line that `replay` has, too, by its first word and those behind it.
+fn read_common(
+    alloc: Global,
+    attachments: &Attachments,
+    first: &[u8],
+    words: &[&[u8]],
+) -> Result<ScriptLine, WordError>
+    ensures read { IsRead result
+        (shared_line Vehicle attachments.now first.now (map (λ w. w.now) words.now)) }
+    ensures form { IfOk result IsShared }
+{
+    read_shared(alloc, Reach::Vehicle, attachments, first, words)
+}
+
 /// What a client does in the setup, by the words behind `setup`.
 fn read_event_behind(
     alloc: Global,
@@ -178,7 +209,7 @@ fn read_event_behind(
     if !is_event_word(first) {
         return Err(WordError::Refused(Why::Value));
     }
-    match read_event(alloc, Reach::Vehicle, attachments, first, words) {
+    match read_done(alloc, attachments, first, words) {
         Ok(event) => Ok(RunLine::Setup(event)),
         Err(WordError::Refused(why)) => Err(WordError::Refused(as_word(why))),
         Err(WordError::OutOfMemory) => Err(WordError::OutOfMemory),
@@ -258,7 +289,7 @@ fn read_named(
     } else if is_own(first) {
         Ok(read_own(line, first, words)?)
     } else {
-        let shared = read_shared(alloc, Reach::Vehicle, attachments, first, words)?;
+        let shared = read_common(alloc, attachments, first, words)?;
         Ok(RunLine::Shared(shared))
     }
 }

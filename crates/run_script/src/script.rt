@@ -1,11 +1,11 @@
 //! Scripts of a run, read line by line.
-ghost use Rattle.std.specs.Prelude.{◌≡◌, false, OnOk, IfOk};
+ghost use Rattle.std.specs.Prelude.{◌≡◌, ◌≤◌, false, OnOk, IfErr, IfOk};
 ghost use Rattle.scenario.specs.Readings.{Becomes, IsRead};
 ghost use Rattle.scenario.specs.Scripts.{is_passed_over, words_of};
 ghost use Rattle.run_script.specs.Above.{nothing_above};
-ghost use Rattle.run_script.specs.InForm.{IsLine};
+ghost use Rattle.run_script.specs.InForm.{IsCampaign, IsInForm, IsKnownInForm, IsLine};
 ghost use Rattle.run_script.specs.RunLines.{line_in};
-ghost use Rattle.run_script.specs.Scripts.{AreRead, IsScript, fault_of, line_read, needed, piece_of, script_of, vehicle_place, whole};
+ghost use Rattle.run_script.specs.Scripts.{AreRead, IsScript, IsTold, fault_of, line_read, needed, piece_of, script_of, vehicle_place, whole};
 ghost use Rattle.run_script.specs.Taken.{IsTaken};
 
 use crate::above::Above;
@@ -57,8 +57,10 @@ fn take_in<'a>(
 ) -> Result<(), WordError>
     requires written { is_passed_over line.now ≡ false }
     requires taken { IsTaken taken.old above.old.lines }
+    requires form { IsKnownInForm above.old }
     ensures read { Becomes result above.new (line_read number above.old line.now) }
     ensures taken { OnOk result (IsTaken taken.new above.new.lines) }
+    ensures form { OnOk result (IsKnownInForm above.new) }
 {
     let read = read_words(alloc, &above.attachments, words, number, line)?;
     add(above, taken, number, read)
@@ -66,7 +68,8 @@ fn take_in<'a>(
 
 /// What a line's fault is at its number.
 fn fault_at(line: u64, fault: WordError) -> ScriptError
-    ensures { result ≡ fault_of line fault }
+    ensures fault { result ≡ fault_of line fault }
+    ensures told { IsTold result }
 {
     match fault {
         WordError::Refused(why) => ScriptError::Refused(Refusal::Line { line, why }),
@@ -75,9 +78,12 @@ fn fault_at(line: u64, fault: WordError) -> ScriptError
 }
 
 /// Reads the lines of an input, and gives the place behind the line `end`.
+#[tactic(auto, using(crate::proofs::Forms::none_in_form))]
 fn read_lines(alloc: Global, above: &mut Above, input: &[u8]) -> Result<u64, ScriptError>
     requires { above.old ≡ nothing_above }
-    ensures { AreRead result above.new input.now }
+    ensures read { AreRead result above.new input.now }
+    ensures told { IfErr result IsTold }
+    ensures form { OnOk result (IsKnownInForm above.new) }
 {
     let mut taken = Taken::new(alloc);
     let mut at = 0u64;
@@ -112,7 +118,8 @@ fn vehicle_place(attachments: &Attachments) -> Result<Attached, Why>
 
 /// The campaign and the vehicle package's place, where as many bytes are attached as the lines say.
 fn needed(above: &Above, size: u64) -> Result<(u32, Attached), Why>
-    ensures { result ≡ needed above.now size }
+    ensures needed { result ≡ needed above.now size }
+    ensures form { IsCampaign above.now.campaign → IfOk result (λ found. 1 ≤ found.0) }
 {
     if u64::from(above.attached) != size {
         return Err(Why::Bytes);
@@ -134,7 +141,9 @@ fn piece(attached: &[u8], place: Attached) -> &[u8]
 
 /// The script of all lines and of what is attached.
 fn finish<'a>(alloc: Global, above: Above, attached: &'a [u8]) -> Result<Script<'a>, ScriptError>
-    ensures { IsScript result (whole above attached.now) }
+    ensures read { IsScript result (whole above attached.now) }
+    ensures form { IsKnownInForm above → IfOk result IsInForm }
+    ensures told { IfErr result IsTold }
 {
     let (campaign, place) = match needed(&above, attached.len() as u64) {
         Ok(found) => found,
@@ -154,7 +163,11 @@ fn finish<'a>(alloc: Global, above: Above, attached: &'a [u8]) -> Result<Script<
 
 /// The script that an input is. It is read line by line; blocks are not spelled out, and ranges are kept as ranges.
 pub fn read_script(alloc: Global, input: &[u8]) -> Result<Script<'_>, ScriptError>
-    ensures { IsScript result (script_of input.now) }
+    ensures read { IsScript result (script_of input.now) }
+    // The campaign counts from 1, nodes are 1 to 8, clients 1 to 31 and disks 0 to 8, and what stands once stands once.
+    ensures form { IfOk result IsInForm }
+    // Want of memory is no refusal, also where the vehicle package is read.
+    ensures told { IfErr result IsTold }
 {
     let mut above = Above::new(alloc);
     let at = match read_lines(alloc, &mut above, input) {

@@ -4,10 +4,11 @@ ghost use Rattle.ucm_base.specs.Limits.{node_limit};
 ghost use Rattle.run_script.specs.InForm.{IsFate, IsLater, IsRange};
 ghost use Rattle.run_script.specs.Words.{after_in, campaign_in, disk_in, fate_in, kind_in, named_fate, point_in, range_at, range_between, range_in, timed_fate};
 
-use crate::lines::{Fate, Point};
+use crate::lines::Point;
 use campaign_core::Phase;
 use disk_core::FailKind;
 use scenario::{Why, cut, from_one, number, small};
+use sub_core::Fate;
 use ucm_base::limits::NODE_LIMIT;
 
 /// Numbers from a first to a last one.

@@ -1,5 +1,5 @@
 //! The rows.
-use crate::show::{show_refusal, show_script};
+use crate::show::show_script;
 use run_script::{ScriptError, read_script};
 use std::alloc::{AllocError, Global};
 use std::io;
@@ -51,7 +51,7 @@ fn print_row<R: Print + AllocGlobal>(
 fn print_read<R: Print + AllocGlobal>(rt: &R, input: &[u8]) -> io::Result<()> {
     match read_script(rt.alloc(), input) {
         Ok(script) => show_script(rt, &script),
-        Err(ScriptError::Refused(refusal)) => show_refusal(rt, &refusal),
+        Err(ScriptError::Refused(refusal)) => println!(rt; "refused {refusal}"),
         Err(ScriptError::OutOfMemory) => println!(rt; "no memory"),
     }
 }

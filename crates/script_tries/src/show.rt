@@ -1,8 +1,7 @@
 //! What is printed of a script.
-use run_script::{ClientLine, Lines, Point, Refusal, Script};
+use run_script::{ClientLine, Lines, Point, Script};
 use scenario::Event;
 use std::io;
-use vehicle_package::VehicleError;
 
 /// Prints what a script says, one line for each of its own.
 pub fn show_script<R: Print>(rt: &R, script: &Script<'_>) -> io::Result<()> {
@@ -89,28 +88,4 @@ fn show_mishaps<R: Print>(rt: &R, lines: &Lines) -> io::Result<()> {
         println!(rt; "  {line}: fate {node} {first}-{last} {fate:?}")?;
     }
     Ok(())
-}
-
-/// Prints a refusal.
-pub fn show_refusal<R: Print>(rt: &R, refusal: &Refusal) -> io::Result<()> {
-    match refusal {
-        Refusal::Line { line, why } => println!(rt; "refused line {line} {why}"),
-        Refusal::Vehicle(fault) => show_fault(rt, *fault),
-    }
-}
-
-fn show_fault<R: Print>(rt: &R, fault: VehicleError) -> io::Result<()> {
-    match fault {
-        VehicleError::VehicleInconsistent { place } => {
-            println!(rt; "refused VehicleInconsistent {place}")
-        }
-        VehicleError::InvalidPlan => println!(rt; "refused InvalidPlan"),
-        VehicleError::PackageRefused { index, fault } => {
-            println!(rt; "refused package {index} {fault:?}")
-        }
-        VehicleError::ClusterTwice { node, name } => {
-            println!(rt; "refused ClusterTwice {node} {name}")
-        }
-        VehicleError::OutOfMemory => println!(rt; "no memory"),
-    }
 }

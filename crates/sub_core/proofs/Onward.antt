@@ -17,9 +17,9 @@ use Rattle.sub_core.specs.declared.progress.EndProgress.{EndProgress}
 use Rattle.sub_core.specs.declared.answers.Round.{Round}
 use Rattle.sub_core.specs.declared.progress.Wish.{Wish}
 use Rattle.sub_core.specs.Driving.{after_delete, at_free, at_session, at_shown, at_status, end_after, end_wish, is_missed, next_no, todo, todo_for, unreached}
-use Rattle.sub_core.specs.Ending.{end_at}
+use Rattle.sub_core.specs.Ending.{end_at, has_end_answer}
 use Rattle.sub_core.specs.Given.{AreGiven, Given, IsTask, Task, after, told_of}
-use Rattle.sub_core.specs.Onward.{AreDeleted, DoneLeadsToUnits, EndGoesOn, GoesOn, ListedAreDeleted, RefusalsLeadToSync, ShowsNow}
+use Rattle.sub_core.specs.Onward.{AreDeleted, DoneLeadsToUnits, EndBeginsWithSync, EndGoesOn, GoesOn, HasFew, ListedAreDeleted, RefusalsLeadToSync, ShowsNow}
 use Rattle.sub_core.specs.States.{DriverState}
 use Rattle.sub_core.proofs.Ends.{begun_of, end_sync_decided}
 use Rattle.sub_core.proofs.Turns.{end_is_asked}
@@ -59,10 +59,13 @@ first_of : (call_no : CallNo) (ids : List ℕ) → 0 < length ids → at_free ca
 first_of call_no [] some = absurd (omega (arith, some))
 first_of call_no (id ∷ ids) some = refl
 
-module _ (lent : List (List ℕ)) (d : DriverState) (few : is_missed d ≡ false) where
+few_missed : (d : DriverState) → HasFew d → is_missed d ≡ false
+few_missed d few = grind (arith, nat_tests, few)
+
+module _ (lent : List (List ℕ)) (d : DriverState) (few : HasFew d) where
   goes_at : (commit : Bool) (status : Status) (b : Bool) → is_working status ≡ b
       → todo d ≡ todo_for d (end_wish (at_status commit status)) → GoesOn lent commit status (todo d)
-  goes_at commit status b is asks = grind arith
+  goes_at commit status b is asks = grind (arith, few_missed d few)
 
 -- behind a status
 pub end_goes_on : GoesBySize → EndGoesOn
@@ -122,7 +125,8 @@ done_at commit call_no status = grind arith
 done_leads : (k epoch : ℕ) (commit : Bool) (m : Message) (status : Status) (older : List Told) → m.decided ≡ true
     → ShowsNow k epoch status older → end_at commit (Answered m Reply.Done ∷ older) ≡ EndProgress.Units
 done_leads k epoch commit m status older decided now =
-    ap (λ b. if b then end_after commit m.at (end_at commit older) Reply.Done else EndProgress.Call SendStep.Sync) decided
+    ap (λ b. if b then end_after commit m.at (end_at commit older) Reply.Done else EndProgress.Call SendStep.Sync)
+    decided
     ∙ (ap (λ at. end_after commit m.at at Reply.Done) (status_at k epoch commit status older now)
     ∙ done_at commit m.at status)
 
@@ -131,22 +135,35 @@ refused_leads : (commit : Bool) (m : Message) (why : Refusal) (older : List Told
 refused_leads commit m why older = grind arith
 
 -- what is asked for at a place of the end phase, where eight attempts didn't fail
-module _ (d : DriverState) (few : is_missed d ≡ false) where
+module _ (d : DriverState) (few : HasFew d) where
   sends_at : (asked : SendStep) → todo_for d (Wish.Send asked) ≡ Todo.Send (next_no d) asked
-  sends_at asked = ap (λ b. if b then Todo.Rest (unreached d.misses) else Todo.Send (next_no d) asked) few
+  sends_at asked =
+      ap (λ b. if b then Todo.Rest (unreached d.misses) else Todo.Send (next_no d) asked) (few_missed d few)
 
   works_at : todo_for d Wish.Unit ≡ Todo.Unit
-  works_at = ap (λ b. if b then Todo.Rest (unreached d.misses) else Todo.Unit) few
+  works_at = ap (λ b. if b then Todo.Rest (unreached d.misses) else Todo.Unit) (few_missed d few)
 
 module _ (by_size : GoesBySize) (lent : List (List ℕ)) (task : Task) (gs : List Given) (is : IsTask lent task)
     (given_ : AreGiven task gs) (commit : Bool) (here : (after task gs).round ≡ Some (Round.End commit))
-    (few : is_missed (after task gs) ≡ false) where
+    (few : HasFew (after task gs)) where
   -- what is asked for, by where the end phase is
   asks_at : (told : List Told) (at : EndProgress) → told_of lent task gs ≡ told → end_at commit told ≡ at
       → todo (after task gs) ≡ todo_for (after task gs) (end_wish at)
   asks_at told at same leads =
       end_is_asked by_size lent task gs is given_ commit here
       ∙ ap (λ at. todo_for (after task gs) (end_wish at)) (ap (end_at commit) same ∙ leads)
+
+begins_at : (commit : Bool) (told : List Told) → has_end_answer told ≡ false
+    → end_at commit told ≡ EndProgress.Call SendStep.Sync
+begins_at commit [] none = refl
+begins_at commit (Answered m reply ∷ told) none = grind (arith, none)
+begins_at commit (Showed status ∷ told) none = grind (arith, none)
+
+pub end_begins_with_sync : GoesBySize → EndBeginsWithSync
+end_begins_with_sync by_size lent task gs is given_ commit here few none =
+    asks_at by_size lent task gs is given_ commit here few (told_of lent task gs) (EndProgress.Call SendStep.Sync) refl
+    (begins_at commit (told_of lent task gs) none)
+    ∙ sends_at (after task gs) few SendStep.Sync
 
 pub listed_are_deleted : GoesBySize → ListedAreDeleted
 listed_are_deleted by_size lent task gs is given_ commit here few ids count are =

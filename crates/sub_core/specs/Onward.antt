@@ -1,5 +1,6 @@
 -- How the end phase goes on, in the campaign law's words.
 use Rattle.std.specs.Prelude.{◌≡◌, ◌⊎◌, ◌<◌, ℕ, zero, suc, Bool, true, false, is_some, List, [], ◌∷◌, length, slice_index_or, Some}
+use Rattle.ucm_base.specs.Limits.{attempt_limit}
 use Rattle.ucm_base.specs.declared.ids.CallNo.{CallNo}
 use Rattle.campaign_core.specs.declared.events.Cause.{Cause}
 use Rattle.pm_types.specs.NodeState.{is_working}
@@ -14,9 +15,11 @@ use Rattle.sub_core.specs.declared.answers.Round.{Round}
 use Rattle.sub_core.specs.declared.answers.SendStep.{SendStep}
 use Rattle.sub_core.specs.declared.answers.Todo.{Todo}
 use Rattle.sub_core.specs.Calls.{call_of}
-use Rattle.sub_core.specs.Driving.{is_missed, next_no, todo}
+use Rattle.sub_core.specs.Driving.{next_no, todo}
+use Rattle.sub_core.specs.Ending.{has_end_answer}
 use Rattle.sub_core.specs.Given.{AreGiven, Given, IsTask, Task, after, told_of}
 use Rattle.sub_core.specs.Sends.{decision_of}
+use Rattle.sub_core.specs.States.{DriverState}
 
 -- the newest that was told is this status of the master's session, by a Sync of the end phase or by a unit after one
 abbrev pub ShowsNow : ℕ → ℕ → Status → List Told → Type 0
@@ -40,11 +43,23 @@ GoesOn lent commit status asked =
     × ((call_no : CallNo) × (step : SendStep) × (asked ≡ Todo.Send call_no step)
     × IsNextAt commit status (call_of lent step)))
 
+-- not eight attempts in a row failed at what is asked
+abbrev pub HasFew : DriverState → Type 0
+HasFew d = length d.misses < attempt_limit
+
+-- until an answer to a message of it was told, the end phase asks for a Sync
+abbrev pub EndBeginsWithSync : Type 0
+EndBeginsWithSync =
+    (lent : List (List ℕ)) (task : Task) (gs : List Given) → IsTask lent task → AreGiven task gs
+    → (commit : Bool) → (after task gs).round ≡ Some (Round.End commit) → HasFew (after task gs)
+    → has_end_answer (told_of lent task gs) ≡ false
+    → todo (after task gs) ≡ Todo.Send (next_no (after task gs)) SendStep.Sync
+
 -- behind each status that was told at the end the driver goes on so, unless eight attempts failed
 abbrev pub EndGoesOn : Type 0
 EndGoesOn =
     (lent : List (List ℕ)) (task : Task) (gs : List Given) → IsTask lent task → AreGiven task gs
-    → (commit : Bool) → (after task gs).round ≡ Some (Round.End commit) → is_missed (after task gs) ≡ false
+    → (commit : Bool) → (after task gs).round ≡ Some (Round.End commit) → HasFew (after task gs)
     → (status : Status) → ShowsNow task.campaign task.epoch status (told_of lent task gs)
     → GoesOn lent commit status (todo (after task gs))
 
@@ -63,7 +78,7 @@ AreDeleted k epoch ids (suc count) (Answered m reply ∷ told) =
 abbrev pub ListedAreDeleted : Type 0
 ListedAreDeleted =
     (lent : List (List ℕ)) (task : Task) (gs : List Given) → IsTask lent task → AreGiven task gs
-    → (commit : Bool) → (after task gs).round ≡ Some (Round.End commit) → is_missed (after task gs) ≡ false
+    → (commit : Bool) → (after task gs).round ≡ Some (Round.End commit) → HasFew (after task gs)
     → (ids : List ℕ) (count : ℕ) → AreDeleted task.campaign task.epoch ids count (told_of lent task gs)
     → (count < length ids
     → todo (after task gs) ≡ Todo.Send (next_no (after task gs)) (SendStep.Delete (slice_index_or ids count 0)))
@@ -73,7 +88,7 @@ ListedAreDeleted =
 abbrev pub DoneLeadsToUnits : Type 0
 DoneLeadsToUnits =
     (lent : List (List ℕ)) (task : Task) (gs : List Given) → IsTask lent task → AreGiven task gs
-    → (commit : Bool) → (after task gs).round ≡ Some (Round.End commit) → is_missed (after task gs) ≡ false
+    → (commit : Bool) → (after task gs).round ≡ Some (Round.End commit) → HasFew (after task gs)
     → (m : Message) (older : List Told) → told_of lent task gs ≡ Answered m Done ∷ older → m.decided ≡ true
     → (status : Status) → ShowsNow task.campaign task.epoch status older → todo (after task gs) ≡ Todo.Unit
 
@@ -81,6 +96,6 @@ DoneLeadsToUnits =
 abbrev pub RefusalsLeadToSync : Type 0
 RefusalsLeadToSync =
     (lent : List (List ℕ)) (task : Task) (gs : List Given) → IsTask lent task → AreGiven task gs
-    → (commit : Bool) → (after task gs).round ≡ Some (Round.End commit) → is_missed (after task gs) ≡ false
+    → (commit : Bool) → (after task gs).round ≡ Some (Round.End commit) → HasFew (after task gs)
     → (m : Message) (why : Refusal) (older : List Told) → told_of lent task gs ≡ Answered m (Refused why) ∷ older
     → todo (after task gs) ≡ Todo.Send (next_no (after task gs)) SendStep.Sync

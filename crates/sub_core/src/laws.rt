@@ -1,7 +1,7 @@
 //! The laws of drivers.
 ghost use Rattle.sub_core.specs.Evidence.{DoneIsFound, EndIsFound, FindingsAreShown, MissesAreKept, OthersLeaveAll, RepliesFit, UnitsAreDue, UnreachedIsFound, VotesAreFound};
 ghost use Rattle.sub_core.specs.Counting.{AnswersAreOfKind, NumbersLast, RestsStay, UnitsTell};
-ghost use Rattle.sub_core.specs.Onward.{DoneLeadsToUnits, EndGoesOn, ListedAreDeleted, RefusalsLeadToSync};
+ghost use Rattle.sub_core.specs.Onward.{DoneLeadsToUnits, EndBeginsWithSync, EndGoesOn, ListedAreDeleted, RefusalsLeadToSync};
 ghost use Rattle.sub_core.specs.Sends.{CallsAreNext, RepliesAreRead, SendsAreAllowed, SendsAreNumbered};
 ghost use Rattle.sub_core.specs.Turns.{CallsAreInTurn, EndIsAsked, EndIsMade, MessagesAreInTurn, RoundsAreMade, VotesAreMade};
 
@@ -29,6 +29,7 @@ pub fn driver_law()
     ensures messages { MessagesAreInTurn }
     ensures at_end { EndIsAsked }
     ensures rest { EndIsMade }
+    ensures begins { EndBeginsWithSync }
     ensures goes_on { EndGoesOn }
     ensures deletes { ListedAreDeleted }
     ensures done { DoneLeadsToUnits }

@@ -83,12 +83,12 @@ module _ (d : DriverState) (s m t : Counted) (so_far : AreCounted d.misses s m) 
   counted_sent asked (Sent.Lost faults) got is rises =
       let same : Got.Miss 1 faults ≡ got = cc is in
       subst (λ g. AreCounted (after_send asked g d).misses s t) same
-      (counted_miss d.misses s m t 1 faults so_far counts (omega arith) rises.0 rises.1)
+      (counted_miss d.misses s m t 1 faults so_far counts (omega arith) (omega (arith, rises.0)) rises.1)
   counted_sent asked (Sent.NoReply faults) got is rises =
       let same : Got.Miss 0 faults ≡ got = cc is in
       subst (λ g. AreCounted (after_send asked g d).misses s t) same
       (counted_miss d.misses s m t 0 faults so_far counts (omega (arith, rises.0))
-      (risen_none m.losses t.losses last_count counts.0) rises.1)
+      (risen_none m.losses t.losses last_count counts.0) rises.2)
   counted_sent asked Sent.OutOfMemory got is rises = absurd (cc is)
 
   counted_unit : (answer : UnitSent) (got : Got) → got_unit answer ≡ Some got → IsCountedUnit answer m t
@@ -101,7 +101,7 @@ module _ (d : DriverState) (s m t : Counted) (so_far : AreCounted d.misses s m) 
       let same : Got.Miss 0 faults ≡ got = cc is in
       subst (λ g. AreCounted (after_unit g d).misses s t) same
       (counted_miss d.misses s m t 0 faults so_far counts (omega (arith, rises.0))
-      (risen_none m.losses t.losses last_count counts.0) rises.1)
+      (risen_none m.losses t.losses last_count counts.0) rises.2)
   counted_unit UnitSent.OutOfMemory got is rises = absurd (cc is)
 
   counted_vain : (asked : Todo) → AreCounted (unanswered_at asked d).misses s t

@@ -31,19 +31,6 @@ number_at-requires-clause-lies g c =
     subst (λ (a : Areas). c.loop-extent.place + 4 ≤ length (content_of (Transfer c.args.slot) a))
     (sym c.loop-extent.invariant.areas) (omega (arith, inside))
 
-pub overflow_add-start-in-loop-extent : goal.overflow_add-start-in-loop-extent
-overflow_add-start-in-loop-extent g c =
-    let content = content_of (Transfer c.args.slot) (g.S.Staging.areas c.args.staging.now) in
-    let here =
-    lie-here content c.loop-extent.place c.loop-extent.extent-index c.args.extents.now none c.loop-extent-test.true
-    c.loop-extent.invariant.lie in
-    let inside = here.0 in
-    let short = c.requires.short in
-    let number = c.in_ok-start.ensures.number
-    ∙ ap (λ (a : Areas). number_at (content_of (Transfer c.args.slot) a) c.loop-extent.place)
-    c.loop-extent.invariant.areas in
-    omega (arith, inside, short, number)
-
 pub loop-extent-init : goal.loop-extent-init
 loop-extent-init g c = record {
   piece = search rules;

@@ -1,11 +1,10 @@
-use Rattle.node_core.proofs.Names.{AllByRecursion, Err, IsSound, Ok, ap, formatted, fresh_state, holding, in_order, length, meaning}
+use Rattle.node_core.proofs.Names.{AllByRecursion, IsSound, ap, formatted, fresh_state, holding, in_order, length, meaning}
 use Rattle.node_core.proofs.Names.{package_limit, package_reading, placed_from, refl, subst, sym, ◌∙◌, ◌≡◌, ◌≤◌}
 use Rattle.node_core.specs.Format.{Formats, IsFormatted, with_installed}
 use Rattle.transfer_blocks.specs.declared.fault.StagingError.TheVariants.{OutOfMemory}
-use Rattle.node_core.specs.Errors.{fault_of}
-use Rattle.node_core.proofs.Lists.{at-err, at-fault}
+use Rattle.node_core.proofs.Lists.{at-fault}
 use Rattle.node_core.proofs.Ordered.{order-each}
-use Rattle.node_core.proofs.Formatted.{formatted-node, none-formats, then-failed}
+use Rattle.node_core.proofs.Formatted.{formatted-node, none-formats}
 use Rattle.node_core.proofs.format.format_areas.Goals as goal
 
 pub install-requires-clause-short : goal.install-requires-clause-short
@@ -46,18 +45,3 @@ pub returns-in_err-ordered-clause-formats : goal.returns-in_err-ordered-clause-f
 returns-in_err-ordered-clause-formats g c =
     at-fault (λ end. Formats g.S.Staging.obeys (in_order c.args.installed.now) end c.args.staging.now
     c.args.staging.now) OutOfMemory _ c.from_residual.ensures.1 (none-formats _ _ _)
-
-pub returns-in_err-running-clause-formats : goal.returns-in_err-running-clause-formats
-returns-in_err-running-clause-formats g c =
-    at-err (λ end. Formats g.S.Staging.obeys (in_order c.args.installed.now) end c.args.staging.now
-    c.install.new.staging) _ _ c.from_residual-in_err-running.ensures.1
-    (subst (λ l. Formats g.S.Staging.obeys l (Err (fault_of c.in_err-running.field-0.0)) c.args.staging.now
-    c.install.new.staging) c.in_ok-ordered.ensures.sorted
-    c.in_err-running.ensures.formats)
-
-pub returns-in_err-state-clause-formats : goal.returns-in_err-state-clause-formats
-returns-in_err-state-clause-formats g c =
-    at-fault (λ end. Formats g.S.Staging.obeys (in_order c.args.installed.now) end c.args.staging.now
-    c.install.new.staging) OutOfMemory _ c.from_residual-in_err-state.ensures.1
-    (then-failed (subst (λ l. Formats g.S.Staging.obeys l (Ok tt) c.args.staging.now c.install.new.staging)
-    c.in_ok-ordered.ensures.sorted c.in_ok-running.ensures.formats))

@@ -89,11 +89,3 @@ returns-in_default g c =
       cause = λ is. absurd (cc is);
       faults = omega arith;
     }
-
-pub look-requires : goal.look-requires
-look-requires g c = record {
-  sound = let own = c.requires.sound in (
-    g.S.Staging.areas c.args.staging.now,
-    record { fit = own.fit; order = own.order; copied = own.copied },
-  );
-}

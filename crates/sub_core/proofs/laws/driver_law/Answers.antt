@@ -1,7 +1,7 @@
 use Rattle.sub_core.proofs.Counting.{answers_are_of_kind, numbers_last, rests_stay, units_tell}
 use Rattle.sub_core.proofs.Findings.{done_is_found, findings_are_shown, misses_are_kept, replies_fit, sends_are_numbered}
 use Rattle.sub_core.proofs.Misses.{unreached_is_found}
-use Rattle.sub_core.proofs.Onward.{done_leads_to_units, end_goes_on, listed_are_deleted, refusals_lead_to_sync}
+use Rattle.sub_core.proofs.Onward.{done_leads_to_units, end_begins_with_sync, end_goes_on, listed_are_deleted, refusals_lead_to_sync}
 use Rattle.sub_core.proofs.Sending.{calls_are_next, end_is_found, replies_are_read, sends_are_allowed}
 use Rattle.sub_core.proofs.Turns.{calls_are_in_turn, end_is_asked, end_is_made, messages_are_in_turn, rounds_are_made, votes_are_made}
 use Rattle.sub_core.proofs.Units.{others_leave_all, units_are_due}
@@ -31,6 +31,7 @@ returns c =
       messages = messages_are_in_turn law.by_size;
       at_end = end_is_asked law.by_size;
       rest = end_is_made law.by_size;
+      begins = end_begins_with_sync law.by_size;
       goes_on = end_goes_on law.by_size;
       deletes = listed_are_deleted law.by_size;
       done = done_leads_to_units law.by_size;

@@ -1,13 +1,6 @@
-use Rattle.node_core.proofs.Names.{ap, state_after, step_by, under, ◌∙◌}
+use Rattle.node_core.proofs.Names.{ap, step_by, ◌∙◌}
 use Rattle.node_core.proofs.Owned.{held-is, reserved-is}
 use Rattle.node_core.proofs.node.Core.exec.Goals as goal
-
-pub exec-requires-clause-reserved : goal.exec-requires-clause-reserved
-exec-requires-clause-reserved g c = (
-  g.S.Staging.areas c.self.inside.staging,
-  c.self.invariant.0,
-  reserved-is c.self.view_is c.args.client c.args.no c.args.call.now c.requires.reserved,
-)
 
 pub invariant_of-self : goal.invariant_of-self
 invariant_of-self g c = (
@@ -27,11 +20,6 @@ returns-clause-node g c =
     (c.exec.ensures.executed (g.S.Staging.areas c.self.inside.staging) c.self.invariant.0
     (reserved-is c.self.view_is c.args.client c.args.no c.args.call.now c.requires.reserved)).node
     ∙ ap (λ h. (step_by h c.args.client c.args.no c.args.call.now).0) (held-is c.self.view_is)
-
-pub returns-clause-state : goal.returns-clause-state
-returns-clause-state g c =
-    c.exec.ensures.state
-    ∙ ap (λ h. state_after (under h) c.args.client c.args.no c.args.call.now c.exec.result) (held-is c.self.view_is)
 
 pub returns-clause-valid : goal.returns-clause-valid
 returns-clause-valid g c =

@@ -1,10 +1,7 @@
-use Rattle.node_core.proofs.Names.{IsReservedWork, Owning, ap, node_of, over, subst, ◌∙◌}
+use Rattle.node_core.proofs.Names.{IsReservedWork, Owning, over, subst}
 use Rattle.node_core.specs.Reserves.{Copies, Reserves}
 use Rattle.node_core.specs.Errors.{end_by}
 use Rattle.node_core.proofs.node.Core.reserve_work.Goals as goal
-
-pub returns-clause-node : goal.returns-clause-node
-returns-clause-node g c = c.reserve_work.ensures.node ∙ ap (λ v. node_of v.held) c.self.view_is
 
 pub returns-clause-reserves : goal.returns-clause-reserves
 returns-clause-reserves g c =

@@ -2,20 +2,6 @@ use Rattle.node_core.proofs.Names.{after_work, answer_to, ap, node_of, state_wor
 use Rattle.node_core.proofs.Owned.{held-is, work-reserved-is}
 use Rattle.node_core.proofs.node.Core.work.Goals as goal
 
-pub work-requires-clause-reserved : goal.work-requires-clause-reserved
-work-requires-clause-reserved g c = (
-  g.S.Staging.areas c.self.inside.staging,
-  c.self.invariant.0,
-  work-reserved-is c.self.view_is c.requires.reserved,
-)
-
-pub invariant_of-self : goal.invariant_of-self
-invariant_of-self g c = (
-  (c.work.ensures.worked (g.S.Staging.areas c.self.inside.staging) c.self.invariant.0
-      (work-reserved-is c.self.view_is c.requires.reserved)).sound,
-  c.self.invariant.1,
-)
-
 pub returns-clause-answer : goal.returns-clause-answer
 returns-clause-answer g c =
     (c.work.ensures.worked (g.S.Staging.areas c.self.inside.staging) c.self.invariant.0
@@ -31,8 +17,3 @@ returns-clause-node g c =
 pub returns-clause-state : goal.returns-clause-state
 returns-clause-state g c =
     c.work.ensures.state ∙ ap (λ h. state_worked (under h) c.work.result) (held-is c.self.view_is)
-
-pub returns-clause-valid : goal.returns-clause-valid
-returns-clause-valid g c =
-    (c.work.ensures.worked (g.S.Staging.areas c.self.inside.staging) c.self.invariant.0
-    (work-reserved-is c.self.view_is c.requires.reserved)).sound.fit

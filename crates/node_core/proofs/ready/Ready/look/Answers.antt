@@ -1,5 +1,4 @@
-use Rattle.node_core.proofs.Names.{Readied, Some, activate_refusal, ap, over, subst, sym, ◌∙◌}
-use Rattle.node_core.specs.Core.{SomeSound}
+use Rattle.node_core.proofs.Names.{Readied, Some, activate_refusal, ap, over, ◌∙◌}
 use Rattle.node_core.proofs.Begun.{unmet-same}
 use Rattle.node_core.proofs.ready.Ready.look.Goals as goal
 
@@ -7,8 +6,3 @@ pub returns : goal.returns
 returns c = λ areas sound none.
     ap Some (c.in_ok-why.ensures ∙ ap (λ (r : Readied). activate_refusal r.state) c.self.view_is
     ∙ unmet-same (over areas c.args.self.now))
-
-pub find_unmet-requires : goal.find_unmet-requires
-find_unmet-requires c = record {
-  sound = subst (λ (r : Readied). SomeSound r.state) (sym c.self.view_is) c.requires.sound;
-}

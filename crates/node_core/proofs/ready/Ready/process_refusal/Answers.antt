@@ -1,11 +1,6 @@
-use Rattle.node_core.proofs.Names.{None, Some, sym, refl, ◌∙◌}
+use Rattle.node_core.proofs.Names.{None, sym, ◌∙◌}
 use Rattle.node_core.proofs.Refused.{process-by}
 use Rattle.node_core.proofs.ready.Ready.process_refusal.Goals as goal
-
-pub returns-in-Some : goal.returns-in-Some
-returns-in-Some c = λ areas sound.
-    process-by c.self.view_is c.args.client areas (Some c.in-Some.refusal) _ c.args.id c.args.tag
-    (sym c.in-Some.is ∙ c.session_refusal-refused.ensures) refl sound
 
 pub returns-in-None : goal.returns-in-None
 returns-in-None c = λ areas sound.

@@ -1,17 +1,7 @@
-use Rattle.node_core.proofs.Names.{IsWorked, Readied, ap, node_of, over, subst, sym, unit_passes, unit_stored, with_entry}
+use Rattle.node_core.proofs.Names.{Readied, ap, node_of, over, sym, unit_passes, unit_stored, with_entry}
 use Rattle.node_core.proofs.Names.{UnitAfter, ◌∙◌}
-use Rattle.node_core.proofs.UnitsDone.{Nothing, done-is, worked-none, worked-unit}
+use Rattle.node_core.proofs.UnitsDone.{done-is, worked-unit}
 use Rattle.node_core.proofs.ready.Ready.work.Goals as goal
-
-pub returns-in_default-clause-worked : goal.returns-in_default-clause-worked
-returns-in_default-clause-worked c = λ areas sound ready.
-    let v = over areas c.args.self.now in
-    subst (λ answer. IsWorked v c.args.fails.now answer v)
-    (ap (λ (r : Readied). Nothing r.state.status) (sym c.self.view_is) ∙ sym c.nothing.ensures)
-    (worked-none v c.args.fails.now sound ready c.unit_passes-passed.result
-    (c.unit_passes-passed.ensures areas
-    ∙ ap (λ (r : Readied). unit_passes c.args.fails.now (node_of (over areas r))) c.self.view_is)
-    (sym c.in_default.is ∙ c.status_after.ensures))
 
 pub returns-clause-worked : goal.returns-clause-worked
 returns-clause-worked c = λ areas sound ready.

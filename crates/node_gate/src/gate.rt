@@ -1,0 +1,159 @@
+//! The gate of a node, and its seats.
+ghost use Rattle.std.specs.Prelude.{◌≡◌, ◌+◌, ◌<◌, ◌≤◌, false, [], Some, None, IfOk, IfErr, IfSome, length};
+ghost use mathlib.Core.List.{IsPrefix};
+ghost use Rattle.turn_gate.specs.Parts.{AllDiffer, at_most_last, parts_of};
+ghost use Rattle.turn_gate.specs.Seats.{AllRest, AllSawBeginnings, HaveAll, OneSaw, fixed_in, notes_in, one_each, parts_in, rises_in};
+ghost use Rattle.turn_gate.specs.Rule.{NotesFit};
+ghost use Rattle.turn_gate.specs.Views.{account, first_view, fixed_to};
+ghost use Rattle.node_store.specs.Open.{IsOpen};
+ghost use Rattle.node_gate.specs.Calls.{rise_of};
+ghost use Rattle.node_gate.specs.Plans.{fixed_numbers};
+ghost use Rattle.node_gate.specs.Seats.{Called, IsClientSeat, IsHandedBack};
+ghost use Rattle.node_gate.specs.Stands.{opening, status_code_after, tells};
+
+use crate::shared::SharedNode;
+use disk_core::Disk;
+use node_store::{Node, NodeAnswer};
+use pm_types::{Call, Entry};
+use std::alloc::{AllocError, Global};
+use std::marker::Model;
+use std::sync::Wait;
+use turn_gate::{Gate, Seat, Seats};
+use ucm_base::{CallNo, ClientId, ClusterName};
+
+/// A seat of a node's gate.
+pub type NodeSeat<D> = Seat<SharedNode<D>>;
+
+/// Seats of a node's gate, in the order of its clients.
+pub type NodeSeats<D> = Seats<SharedNode<D>>;
+
+/// A node behind a turn. Clauses see its name, which its seats have too.
+#[derive(Drop)]
+pub struct NodeGate<D: Disk> {
+    gate: Gate<SharedNode<D>>,
+    alloc: Global,
+}
+
+impl<D: Disk> Model for NodeGate<D> {
+    ghost use Rattle.atomic_table.specs.Seated.{TableId, table_id_coded};
+
+    ghost Value = { TableId };
+
+    ghost coded = { table_id_coded };
+
+    ghost view = { λ g. g.gate };
+}
+
+/// The numbers of clients, as parts.
+fn parts_of_clients(alloc: Global, clients: &[ClientId]) -> Result<Vec<u8>, AllocError>
+    ensures { IfOk result (λ parts. parts.items ≡ clients.now) }
+{
+    let mut parts = Vec::with_capacity(alloc, clients.len())?;
+    for client in clients {
+        parts.push(client.number())?;
+    }
+    Ok(parts)
+}
+
+/// The faults that an answer carries.
+fn faults_of(answer: &NodeAnswer) -> u64
+    ensures { result ≡ rise_of answer.now }
+{
+    match answer {
+        NodeAnswer::NoReply { faults } => *faults,
+        NodeAnswer::Reached(_) | NodeAnswer::OutOfMemory => 0,
+    }
+}
+
+impl<D: Disk> NodeGate<D> {
+    /// A gate of an open node, and one seat for each of these clients, where clusters of these names fail when they are
+    /// verified.
+    pub fn new(
+        alloc: Global,
+        node: Node<D>,
+        clients: &[ClientId],
+        fails: Vec<ClusterName>,
+    ) -> Result<(NodeGate<D>, NodeSeats<D>), (Node<D>, AllocError)>
+        requires known { IsOpen node.log node.ready
+            (D.seen node.extents.disk) (D.images node.extents.disk) }
+        requires open { node.is_closed ≡ false }
+        requires some { 0 < length clients.now }
+        requires differ { AllDiffer clients.now }
+        ensures seats { IfOk result (λ made. made.1.items ≡ one_each made.0
+            (first_view (fixed_to (opening node)
+            (fixed_numbers fails.items (D.armed node.extents.disk))
+            (D.fault_count node.extents.disk) clients.now)
+            (account [] None (D.fault_count node.extents.disk)))
+            (parts_of tells (account [] None (D.fault_count node.extents.disk)) clients.now)) }
+        ensures handed_back { IfErr result (λ refused. refused.0 ≡ node) }
+    {
+        let Ok(parts) = parts_of_clients(alloc, clients) else {
+            return Err((node, AllocError));
+        };
+        let shared = SharedNode {
+            node,
+            entries: Vec::new(alloc),
+            pending: None,
+            fails,
+        };
+        match Gate::new(alloc, shared, parts.as_slice()) {
+            Ok((gate, seats)) => Ok((NodeGate { gate, alloc }, seats)),
+            Err((shared, e)) => {
+                let SharedNode { node, .. } = shared;
+                Err((node, e))
+            }
+        }
+    }
+
+    /// One turn: a client's numbered call. A closed node is opened again first.
+    pub fn call<R: Wait>(
+        &self,
+        rt: &R,
+        seat: &mut NodeSeat<D>,
+        client: ClientId,
+        no: CallNo,
+        call: Call,
+    ) -> NodeAnswer
+        requires ours { IsClientSeat client self.now seat.old }
+        ensures ours { IsClientSeat client self.now seat.new }
+        ensures fixed { seat.new.view.fixed ≡ seat.old.view.fixed }
+        ensures goes_on { IsPrefix seat.old.view.seen seat.new.view.seen }
+        ensures called { Called D.seen client no call result seat.old.view seat.new.view }
+        ensures rises { seat.new.view.rises ≡ seat.old.view.rises + rise_of result }
+        ensures notes { seat.new.view.notes ≡ seat.old.view.notes }
+    {
+        let mut shared = self.gate.turn(rt, seat);
+        let answer = shared.call(self.alloc, client, no, call);
+        self.gate.publish(seat, &shared, faults_of(&answer));
+        self.gate.give(seat, shared);
+        answer
+    }
+
+    /// Ends the gate, by seats that together have all its clients, and hands back the node and its entries since the
+    /// gate was made. The node may be closed, with one entry more pending.
+    pub fn close(self, seats: NodeSeats<D>) -> (Node<D>, Vec<Entry>)
+        requires rest { AllRest self seats.items }
+        requires all_clients { HaveAll seats.items }
+        ensures list { OneSaw result.1.items seats.items }
+        ensures all_saw { AllSawBeginnings result.1.items seats.items }
+        ensures left { IfSome (fixed_in seats.items) (λ f. IsHandedBack D.moment D.left_since D.seen
+            D.images D.armed D.fault_count f result.0 result.1.items (parts_in seats.items)) }
+        ensures polled { IfSome (fixed_in seats.items) (λ f. NotesFit (status_code_after D.seen)
+            f.opening result.1.items (notes_in seats.items)) }
+        ensures faults { IfSome (fixed_in seats.items)
+            (λ f. at_most_last (f.faults + rises_in seats.items)
+            ≤ D.fault_count result.0.extents.disk) }
+    {
+        let NodeGate { gate, alloc: _ } = self;
+        let SharedNode { node, entries, .. } = gate.close(seats);
+        (node, entries)
+    }
+}
+
+/// Threads share a gate, and a seat goes from one to another.
+fn asserts_that_threads_share_it<D: Disk + Send>() {
+    fn shares<T: Sync + Send>() {}
+    fn moves<T: Send>() {}
+    shares::<NodeGate<D>>();
+    moves::<NodeSeat<D>>();
+}

@@ -1,0 +1,58 @@
+-- What a script that is read asks of a run.
+use Rattle.std.specs.Prelude.{ℕ, List, [], map, slice_get}
+use Rattle.std.specs.Option.{option_map_or}
+use Rattle.ucm_base.specs.Parts.{Bytes}
+use Rattle.pm_types.specs.declared.clusters.Cluster.{Cluster}
+use Rattle.vehicle_package.specs.declared.vehicle.Step.{Step as Brings}
+use Rattle.vehicle_package.specs.declared.vehicle.Vehicle.{Vehicle}
+use Rattle.scenario.specs.declared.events.Event.{Event}
+use Rattle.scenario.specs.declared.events.Event.TheVariants.{Call, Work, Ask}
+use Rattle.scenario.specs.declared.lines.Installed.{Installed as Formatted}
+use Rattle.scenario.specs.Blocks.{bytes_meant}
+use Rattle.scenario.specs.Events.{call_meant}
+use Rattle.run_script.specs.declared.lines.ClientLine.{ClientLine as Line}
+use Rattle.run_script.specs.declared.lines.InstalledLine.{InstalledLine}
+use Rattle.run_script.specs.Plans.{disks_of}
+use Rattle.run_script.specs.Scripts.{Said, start_time}
+use Rattle.run_claim.specs.Script.{Script, Step, Installed, ClientLine, Deed, Calls, Works, Asks}
+
+-- the bytes that a step of the vehicle brings to its node
+abbrev pub step_meant : Vehicle → Brings → Step
+step_meant v s =
+    record { node = s.node; bytes = option_map_or (λ p. p.bytes) (slice_get v.packages s.«package») [] }
+
+-- a cluster of a line, with its block's bytes among those attached
+abbrev pub cluster_meant : Bytes → Formatted → Cluster Bytes
+cluster_meant attached c =
+    record { name = c.name; version = c.version; needs = c.needs; content = bytes_meant attached c.block }
+
+abbrev pub installed_meant : Bytes → InstalledLine → Installed
+installed_meant attached l = record { node = l.node; cluster = cluster_meant attached l.cluster }
+
+-- a line of a client, with its call's bytes among those attached
+abbrev pub line_meant : Bytes → Line → ClientLine
+line_meant attached l = done l.event
+  where
+    line_of : ℕ → Deed → ClientLine
+    line_of client deed =
+        record { line = l.line; is_setup = l.is_setup; node = l.node; client = client; deed = deed }
+
+    done : Event → ClientLine
+    done (Call client at call) = line_of client (Calls at (call_meant attached call))
+    done (Work client) = line_of client Works
+    done (Ask client query) = line_of client (Asks query)
+
+-- the script of a run, as a run's claim speaks of it
+abbrev pub asked : Said → Script
+asked s =
+    record {
+      campaign = s.campaign;
+      time = start_time s;
+      steps = map (step_meant s.vehicle) s.vehicle.steps;
+      installed = map (installed_meant s.attached) s.lines.installed;
+      fails = s.lines.fails;
+      lines = map (line_meant s.attached) s.lines.clients;
+      cancel = s.lines.cancel;
+      fates = s.lines.fates;
+      plans = disks_of s.lines;
+    }
