@@ -1,12 +1,16 @@
 -- What a replay did: for each line what it gave, and what it added to the history, the newest first.
-use Rattle.std.specs.Prelude.{◌≡◌, ◌⊎◌, ℕ, zero, suc, ◌+◌, ◌≤◌, ⊤, List, [], ◌∷◌, ◌++◌, length, Option, Some, None}
+use Rattle.std.specs.Prelude.{◌≡◌, ◌⊎◌, ℕ, zero, suc, ◌<◌, ◌≤◌, ⊤, List, [], ◌∷◌, ◌++◌, length, Option, Some, None}
+use Rattle.std.specs.List.{AllByRecursion}
 use Rattle.disk_core.specs.Images.{EachImage}
 use Rattle.fault_count.specs.Faults.{HasRisen}
+use Rattle.ucm_base.specs.Limits.{client_limit}
 use Rattle.pm_types.specs.declared.history.Entry.{Entry}
 use Rattle.pm_types.specs.Histories.{state_after}
 use Rattle.pm_types.specs.NodeState.{NodeState}
 use Rattle.node_core.specs.Packages.{package_reading}
 use Rattle.node_store.specs.Serving.{ServesEither}
+use Rattle.scenario.specs.declared.events.Event.{Event}
+use Rattle.scenario.specs.declared.events.Event.TheVariants.{Call}
 use Rattle.scenario.specs.declared.events.EventLine.{EventLine}
 use Rattle.scenario.specs.declared.script.Script.{Script}
 use Rattle.node_replay.specs.declared.given.Given.{Given}
@@ -51,6 +55,14 @@ AreDone script attached start before (d ∷ done) =
     let n = state_after package_reading start (history_of done) in
     IsGiven (given_by script attached n d.line.event) (entry_of script attached n d.line.event) d.given d.added
     (faults_behind before done) d.faults × AreDone script attached start before done
+
+-- a call's client is one that there is
+abbrev pub IsOfClient : Event → Type 0
+IsOfClient (Call client call_no call) = client < client_limit
+IsOfClient _ = ⊤
+
+abbrev pub AreOfClients : List Did → Type 0
+AreOfClients done = AllByRecursion (λ d. IsOfClient d.line.event) done
 
 -- these lines were done, and printed this
 pub record IsDoneOf (script : Script) (attached : List ℕ) (lines : List EventLine) (text : List ℕ) (before now : ℕ)

@@ -9,7 +9,9 @@
 mod events;
 mod forming;
 mod given;
+mod laws;
 mod running;
 
 pub use given::Given;
+pub use laws::what_is_done_is_legal;
 pub use running::{Replayed, replay};
