@@ -311,8 +311,8 @@ module _ (script : Script) (attached : List ℕ) (before : ℕ) where
   }
 
   -- and behind the last one
-  pub ends : (lines : List EventLine) (text : List ℕ) (now : ℕ) (closed : Bool) (log : Log) (r : Readied) (seen : List ℕ)
-      (images : List ℕ → Type 0) → (IsOpen log r seen images → EachImage images (Serves (node_on r.state seen)))
+  pub ends : (lines : List EventLine) (text : List ℕ) (now : ℕ) (closed : Bool) (log : Log) (r : Readied)
+      (seen : List ℕ) (images : List ℕ → Type 0) → (IsOpen log r seen images → EachImage images (Serves (node_on r.state seen)))
       → SoFar lines text now closed log r seen images → IsReplayed script attached lines text before now images
   ends lines text now closed log r seen images serves so = record {
     done = so.done;

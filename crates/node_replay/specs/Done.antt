@@ -42,8 +42,8 @@ abbrev pub faults_behind : ℕ → List Did → ℕ
 faults_behind before [] = before
 faults_behind before (d ∷ done) = d.faults
 
--- a line gives what its event gives the node, whose entry it adds; without a reply, which takes a fault of the disk, the
--- entry may stand or be absent
+-- a line gives what its event gives the node, whose entry it adds; without a reply, which takes a fault of the disk,
+-- the entry may stand or be absent
 abbrev pub IsGiven : Given → List Entry → Option Given → List Entry → ℕ → ℕ → Type 0
 IsGiven given entry (Some g) added before now = (g ≡ given) × (added ≡ entry) × (before ≤ now)
 IsGiven given entry None added before now = ((added ≡ []) ⊎ (added ≡ entry)) × HasRisen before now

@@ -58,8 +58,8 @@ returns-in-Worked-clause-stands g c =
     ap (after_event c.args.script.now c.args.attached.now n) c.in-Work.is ∙ ap (λ f. after_work f n) (sym fails) in (
       ap (λ w. Worked w) e.answers.0 ∙ (ap (λ f. Worked (answer_to f n)) fails
           ∙ sym (ap (given_by c.args.script.now c.args.attached.now n) c.in-Work.is)),
-      open-at (after_event c.args.script.now c.args.attached.now n c.args.event.now) (after_work c.as_slice.result.now n)
-          new.is_closed new.log new.ready (D.seen new.extents.disk) (D.images new.extents.disk) e.closed made
+      open-at (after_event c.args.script.now c.args.attached.now n c.args.event.now) 
+          (after_work c.as_slice.result.now n) new.is_closed new.log new.ready (D.seen new.extents.disk) (D.images new.extents.disk) e.closed made
           (e.known e.closed) e.answers.1,
     )
 

@@ -47,8 +47,8 @@ events-preserved g c =
           (D.fault_count new.extents.disk) c.in_ok-given.given node.is_closed node.log node.ready
           (D.seen node.extents.disk) (D.images node.extents.disk) new.is_closed new.log new.ready
           (D.seen new.extents.disk) (D.images new.extents.disk) (λ k. made k line.event)
-          (rw (← all) c.event-item.is) (rw (← all) c.events-test.true) (i.so_far before first) less c.in_ok-given.ensures.rises
-          c.in_ok-given.ensures.stands c.in_ok-add_line.ensures;
+          (rw (← all) c.event-item.is) (rw (← all) c.events-test.true) (i.so_far before first) less
+          c.in_ok-given.ensures.rises c.in_ok-given.ensures.stands c.in_ok-add_line.ensures;
       faults = omega (arith, i.faults, less);
       plan = c.give_line.ensures.plan ∙ i.plan;
     }
@@ -62,8 +62,8 @@ returns-clause-replayed g c = λ before less.
     (λ ls. IsReplayed script c.args.attached.now ls (string_bytes c.events.text) before
     (D.fault_count node.extents.disk) (D.images node.extents.disk))
     (take_all c.events.event-index script.events (rw (← c.as_slice-event-items.ensures) c.events-test.false))
-    (ends script c.args.attached.now before (take c.events.event-index script.events) (string_bytes c.events.text) (D.fault_count node.extents.disk)
-    node.is_closed node.log node.ready (D.seen node.extents.disk) (D.images node.extents.disk)
+    (ends script c.args.attached.now before (take c.events.event-index script.events) (string_bytes c.events.text)
+    (D.fault_count node.extents.disk) node.is_closed node.log node.ready (D.seen node.extents.disk) (D.images node.extents.disk)
     (c.what_is_open_serves.ensures node.log node.ready node.extents.disk) (c.events.invariant.so_far before less))
 
 pub give_line-requires : goal.give_line-requires
