@@ -34,62 +34,9 @@ use Rattle.scenario.specs.Events.{call_meant}
 use Rattle.node_replay.specs.declared.given.Given.{Given}
 use Rattle.node_replay.specs.Done.{AreDone, Did, IsDoneOf, IsGiven, IsReplayed, faults_behind, history_of, lines_of, node_behind, text_of}
 use Rattle.node_replay.specs.Lines.{after_event, answer_line, begun, entry_of, entry_of_call, entry_of_unit, given_by}
+use Rattle.node_replay.proofs.Calm.{calm_text}
+use Rattle.node_replay.proofs.Made.{after_more, event-made, few-made}
 use Rattle.node_replay.specs.Standing.{Rises, StandsAfter, StandsAt, StandsBehind}
-
--- what an entry makes of a node
-
-after_more : (es gs : List Entry) (n : NodeState)
-    → state_after package_reading n (es ++ gs) ≡ state_after package_reading (state_after package_reading n es) gs
-after_more [] gs n = refl
-after_more (e ∷ es) gs n = after_more es gs (after_entry package_reading n e)
-
-module _ (n : NodeState) (client : ℕ) (call_no : CallNo) (call : NumberedCall) where
-  abbrev made : NodeState × CallReached
-  made = executed n client call_no call (verdict_for package_reading n client call)
-
-  -- an executed call makes its entry, and another one none
-  abbrev IsMade : NodeState × CallReached → Type 0
-  IsMade gave = state_after package_reading n (entry_of_call client call_no call gave.1) ≡ gave.0
-
-  by-order : (kept : Kept) (order : Ordering) → IsMade (by_order n made kept order)
-  by-order kept Less = refl
-  by-order kept Equal = refl
-  by-order kept Greater = refl
-
-  by-kept : (o : Option Kept) → IsMade (by_last n made call_no o)
-  by-kept None = refl
-  by-kept (Some kept) = by-order kept (call_no_cmp call_no kept.no)
-
-unit-made : (n : NodeState) (passed : Bool) (o : Option NodeState) → unit n passed ≡ o
-    → state_after package_reading n (entry_of_unit (answer_of n.status passed o))
-    ≡ unwrap_or (option_map (λ (t : NodeState). with_entry (UnitAfter t.status) t) o) n
-unit-made n passed None is = refl
-unit-made n passed (Some m) is =
-    ap (λ o. unwrap_or (option_map (λ (t : NodeState). with_entry (UnitAfter t.status) t) o) n) is
-
-event-made : (script : Script) (attached : List ℕ) (n : NodeState) (event : Event)
-    → state_after package_reading n (entry_of script attached n event) ≡ after_event script attached n event
-event-made script attached n (Call client call_no call) =
-    by-kept n client call_no (call_meant attached call) (of_client n.last client)
-event-made script attached n (Work client) =
-    unit-made n (unit_passes script.fails n) (unit n (unit_passes script.fails n)) refl
-event-made script attached n (Ask client query) = refl
-
-call-few : (client : ℕ) (call_no : CallNo) (call : NumberedCall) (gave : CallReached)
-    → length (entry_of_call client call_no call gave) ≤ 1
-call-few client call_no call (Done reply) = omega arith
-call-few client call_no call (Again reply) = omega arith
-call-few client call_no call (Stale last) = omega arith
-
-unit-few : (gave : WorkGave) → length (entry_of_unit gave) ≤ 1
-unit-few (Unit passed after) = omega arith
-unit-few (Nothing status) = omega arith
-
-few-made : (script : Script) (attached : List ℕ) (n : NodeState) (event : Event)
-    → length (entry_of script attached n event) ≤ 1
-few-made script attached n (Call client call_no call) = call-few client call_no (call_meant attached call) _
-few-made script attached n (Work client) = unit-few _
-few-made script attached n (Ask client query) = omega arith
 
 -- an event makes one entry, as its call or unit does
 pub event_makes : (script : Script) (attached : List ℕ)
@@ -231,7 +178,7 @@ module _ (script : Script) (attached : List ℕ) (before : ℕ) where
       gives g same stands =
           let behind = behind_given lines text was now line base is less g in
           let now_few : (node_behind script attached (with_given lines text was now line base is less g)).entries
-              ≤ length (lines ++ line ∷ []) =
+          ≤ length (lines ++ line ∷ []) =
           subst (λ (x : NodeState). x.entries ≤ length (lines ++ line ∷ [])) (sym behind)
           (one_longer k (after_event script attached k line.event) (makes k) few) in
           record {
@@ -323,6 +270,7 @@ module _ (script : Script) (attached : List ℕ) (before : ℕ) where
     few = so.few;
     more = so.more;
     serves = at closed so.stands;
+    calm = calm_text script attached lines text before now so.done so.done_so;
   }
     where
       at : (c : Bool)

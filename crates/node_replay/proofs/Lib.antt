@@ -1,3 +1,6 @@
+mod Calm
 mod Doing
-mod Meant
 mod Legal
+mod Made
+mod Meant
+pub mod Zeros

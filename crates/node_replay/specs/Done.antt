@@ -14,7 +14,7 @@ use Rattle.scenario.specs.declared.events.Event.TheVariants.{Call}
 use Rattle.scenario.specs.declared.events.EventLine.{EventLine}
 use Rattle.scenario.specs.declared.script.Script.{Script}
 use Rattle.node_replay.specs.declared.given.Given.{Given}
-use Rattle.node_replay.specs.Lines.{answer_line, begun, entry_of, given_by}
+use Rattle.node_replay.specs.Lines.{answer_line, begun, entry_of, given_by, texts_of}
 
 -- a line, what it gave, the entries that it added, and the count of the disk's faults behind it
 pub record Did : Type 0 where
@@ -77,7 +77,7 @@ abbrev pub node_behind : Script → List ℕ → List Did → NodeState
 node_behind script attached done = state_after package_reading (begun attached script.installed) (history_of done)
 
 -- a replay did and printed this: without the event of the last line that has no reply, if it isn't known whether it
--- stands, or with it, and each image serves for one of these nodes
+-- stands, or with it, and each image serves for one of these nodes; without a fault it printed the fold of the events
 pub record IsReplayed (script : Script) (attached : List ℕ) (lines : List EventLine) (text : List ℕ) (before now : ℕ)
     (images : List ℕ → Type 0) : Type 0 where
   pub done : List Did
@@ -89,6 +89,7 @@ pub record IsReplayed (script : Script) (attached : List ℕ) (lines : List Even
   pub more : history_of also ≡ history_of done ++ pending
   pub serves : EachImage images
       (ServesEither (node_behind script attached done) (node_behind script attached also))
+  pub calm : (HasRisen before now → ⊥) → text ≡ texts_of script attached (begun attached script.installed) lines
 
 -- so many attempts in a row raised the count of faults
 abbrev pub RoseIn : ℕ → ℕ → ℕ → Type 0

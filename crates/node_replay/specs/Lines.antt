@@ -24,6 +24,7 @@ use Rattle.node_store.specs.Serving.{stepped}
 use Rattle.report.specs.Answers.{answer_text as queried_text}
 use Rattle.scenario.specs.declared.events.Event.{Event}
 use Rattle.scenario.specs.declared.events.Event.TheVariants.{Call, Work, Ask}
+use Rattle.scenario.specs.declared.events.EventLine.{EventLine}
 use Rattle.scenario.specs.declared.lines.Installed.{Installed}
 use Rattle.scenario.specs.declared.script.Script.{Script}
 use Rattle.scenario.specs.Blocks.{bytes_meant}
@@ -85,3 +86,10 @@ answer_text start None = codes "NoReply"
 -- the line's number, what was given, and a line feed
 abbrev pub answer_line : ℕ → ℕ → Option Given → List ℕ
 answer_line start line given = decimal line ++ codes " " ++ answer_text start given ++ 10 ∷ []
+
+-- what is printed where no disk fails: a line for each event, by the fold of the node's step, its units and its queries
+abbrev pub texts_of : Script → List ℕ → NodeState → List EventLine → List ℕ
+texts_of script attached n [] = []
+texts_of script attached n (e ∷ events) =
+    answer_line script.time e.line (Some (given_by script attached n e.event))
+    ++ texts_of script attached (after_event script attached n e.event) events

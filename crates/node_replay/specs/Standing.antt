@@ -1,6 +1,8 @@
 -- What is known of a node between two lines.
-use Rattle.std.specs.Prelude.{◌≡◌, ◌⊎◌, ℕ, ◌-◌, ◌≤◌, Bool, true, false, List, string_bytes, Option, Some, None}
+use Rattle.std.specs.Prelude.{◌≡◌, ◌⊎◌, ℕ, ◌-◌, ◌≤◌, Bool, true, false, List, string_bytes, Option, Some, None, Result, Ok, Err}
+use Rattle.disk_core.specs.declared.plan.FaultPlan.{FaultPlan}
 use Rattle.disk_core.specs.Images.{EachImage}
+use Rattle.disk_core.specs.Plans.{no_faults}
 use Rattle.event_log.specs.declared.log.Log.{Log}
 use Rattle.fault_count.specs.Faults.{HasRisen}
 use Rattle.ucm_base.specs.Limits.{attempt_limit}
@@ -49,3 +51,9 @@ IsEnded script attached before now images (Printed text) =
     IsReplayed script attached script.events (string_bytes text) before now images
 IsEnded script attached before now images (Unformatted faults) =
     RoseIn attempt_limit before now × (faults ≡ now - before)
+
+-- the plan of the disk of a replay that ended so: the one that it was to have, or none where it wasn't formatted
+abbrev pub IsArmed : {E : Type 0} → Result Replayed E → FaultPlan → FaultPlan → Type 0
+IsArmed (Ok (Printed text)) plan armed = armed ≡ plan
+IsArmed (Ok (Unformatted faults)) plan armed = armed ≡ no_faults
+IsArmed (Err refused) plan armed = (armed ≡ no_faults) ⊎ (armed ≡ plan)

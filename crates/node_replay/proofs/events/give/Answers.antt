@@ -37,7 +37,7 @@ returns-in-NoReply-clause-stands g c =
     let call = c.in_ok-call-in-Call.call in
     let e = c.in-NoReply.ensures in
     let made : after_event c.args.script.now c.args.attached.now n c.args.event.now
-        ≡ (stepped n client c.in-Call.no call).0 =
+    ≡ (stepped n client c.in-Call.no call).0 =
     ap (after_event c.args.script.now c.args.attached.now n) c.in-Call.is
     ∙ ap (λ k. (stepped n client c.in-Call.no k).0) (sym c.in_ok-call-in-Call.ensures) in
     closed-at n (after_event c.args.script.now c.args.attached.now n c.args.event.now)
@@ -54,11 +54,11 @@ returns-in-Worked-clause-stands g c =
     let e = c.in-Worked.ensures in
     let fails : c.as_slice.result.now ≡ c.args.script.now.fails = c.as_slice.ensures in
     let made : after_event c.args.script.now c.args.attached.now n c.args.event.now
-        ≡ after_work c.as_slice.result.now n =
+    ≡ after_work c.as_slice.result.now n =
     ap (after_event c.args.script.now c.args.attached.now n) c.in-Work.is ∙ ap (λ f. after_work f n) (sym fails) in (
       ap (λ w. Worked w) e.answers.0 ∙ (ap (λ f. Worked (answer_to f n)) fails
           ∙ sym (ap (given_by c.args.script.now c.args.attached.now n) c.in-Work.is)),
-      open-at (after_event c.args.script.now c.args.attached.now n c.args.event.now) 
+      open-at (after_event c.args.script.now c.args.attached.now n c.args.event.now)
           (after_work c.as_slice.result.now n) new.is_closed new.log new.ready (D.seen new.extents.disk) (D.images new.extents.disk) e.closed made
           (e.known e.closed) e.answers.1,
     )
@@ -71,7 +71,7 @@ returns-in-NoReply-work-clause-stands g c =
     let n = node_on old.ready.state (D.seen old.extents.disk) in
     let e = c.in-NoReply-work.ensures in
     let made : after_event c.args.script.now c.args.attached.now n c.args.event.now
-        ≡ after_work c.as_slice.result.now n =
+    ≡ after_work c.as_slice.result.now n =
     ap (after_event c.args.script.now c.args.attached.now n) c.in-Work.is
     ∙ ap (λ f. after_work f n) (sym c.as_slice.ensures) in
     closed-at n (after_event c.args.script.now c.args.attached.now n c.args.event.now)

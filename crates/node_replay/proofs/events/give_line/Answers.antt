@@ -54,7 +54,7 @@ give-requires-clause-entries g c =
     old.is_closed stands in
     few-of n m (node_on at.ready.state (D.seen at.extents.disk)) entry_limit one c.requires.stands.2
     (elim c.if-is_closed.branch [
-      then-is_closed+in-Ok w ↦
+      | then-is_closed+in-Ok w ↦
           let s = as-closed n m old.is_closed old.log old.ready (D.seen old.extents.disk) (D.images old.extents.disk)
           stands (sym c.is_closed.ensures ∙ w.if-is_closed.true) in
           one-of n m (node_on at.ready.state (D.seen at.extents.disk)) w.in-Ok.field-0
@@ -82,15 +82,19 @@ returns-clause-stands g c =
     → StandsAt n m old.is_closed old.log old.ready (D.seen old.extents.disk) (D.images old.extents.disk)
     → StandsBehind script attached event n m given new.is_closed new.log new.ready (D.seen new.extents.disk)
     (D.images new.extents.disk))
-    (λ given behind n m stands. inr (k, elim c.if-is_closed.branch [
-      then-is_closed+in-Ok w ↦
-          let s = as-closed n m old.is_closed old.log old.ready (D.seen old.extents.disk) (D.images old.extents.disk)
-          stands (sym c.is_closed.ensures ∙ w.if-is_closed.true) in
-          one-of n m k w.in-Ok.field-0
-          (ap (λ x. node_on x.ready.state (D.seen x.extents.disk)) w.node-is ∙ w.in-Ok.ensures.ended n m s.0 s.1 s.2)
-      | else-is_closed w ↦
-          let s = as-open n m old.is_closed old.log old.ready (D.seen old.extents.disk) (D.images old.extents.disk)
-          stands (sym c.is_closed.ensures ∙ w.if-is_closed.false) in
-          inl (ap (λ x. node_on x.ready.state (D.seen x.extents.disk)) w.node-is ∙ s.1)
-    ], behind))
+    (λ given behind n m stands. inr (
+      k,
+      elim c.if-is_closed.branch [
+        | then-is_closed+in-Ok w ↦
+            let s = as-closed n m old.is_closed old.log old.ready (D.seen old.extents.disk) (D.images old.extents.disk)
+            stands (sym c.is_closed.ensures ∙ w.if-is_closed.true) in
+            one-of n m k w.in-Ok.field-0
+            (ap (λ x. node_on x.ready.state (D.seen x.extents.disk)) w.node-is ∙ w.in-Ok.ensures.ended n m s.0 s.1 s.2)
+        | else-is_closed w ↦
+            let s = as-open n m old.is_closed old.log old.ready (D.seen old.extents.disk) (D.images old.extents.disk)
+            stands (sym c.is_closed.ensures ∙ w.if-is_closed.false) in
+            inl (ap (λ x. node_on x.ready.state (D.seen x.extents.disk)) w.node-is ∙ s.1)
+      ],
+      behind,
+    ))
     c.give.ensures.stands

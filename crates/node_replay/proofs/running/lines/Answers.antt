@@ -72,6 +72,13 @@ give_line-requires g c =
     let attached = c.args.attached.now in
     let so = c.events.invariant.so_far (g.D.Disk.fault_count c.args.node.now.extents.disk) (omega arith) in
     let few : (node_behind script attached so.also).entries < entry_limit =
-    omega (arith, so.also_count, length-take c.events.event-index script.events, c.events-test.true,
-    ap length c.as_slice-event-items.ensures, c.as_slice-event-items.type_inv.0, c.as_slice-event-items.type_inv.1) in
+    omega (
+      arith,
+      so.also_count,
+      length-take c.events.event-index script.events,
+      c.events-test.true,
+      ap length c.as_slice-event-items.ensures,
+      c.as_slice-event-items.type_inv.0,
+      c.as_slice-event-items.type_inv.1,
+    ) in
     record { stands = (node_behind script attached so.done, node_behind script attached so.also, few, so.stands) }
