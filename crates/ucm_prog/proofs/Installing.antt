@@ -21,7 +21,7 @@ use Rattle.scenario.specs.Attached.{attached_by}
 use Rattle.scenario.specs.Blocks.{length_meant}
 use Rattle.scenario.specs.Lines.{line_in}
 use Rattle.scenario.specs.Scripts.{Refused, added, attached_to, attached_with, finished, followed, has_installed, has_room, is_end, is_passed_over, line_read, lines_of, nothing_above, read_from, script, script_of, words_of}
-use Rattle.ucm_prog.specs.Installed.{IsAllowed}
+use Rattle.node_replay.specs.Installed.{IsAllowed}
 
 each-append : {X : Type 0} (P : X → Type 0) (xs ys : List X) → AllByRecursion P xs → AllByRecursion P ys
     → AllByRecursion P (xs ++ ys)

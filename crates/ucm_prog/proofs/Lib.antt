@@ -1,4 +1,5 @@
-pub mod Installing
-pub mod Meant
-pub mod Printing
-pub mod Outputs
+mod Installing
+mod MemDisks
+mod Outputs
+mod Replays
+mod Unused

@@ -5,17 +5,19 @@
 //! cause.
 #![tactic(auto)]
 
-mod answers;
+ghost use Rattle.std.specs.Prelude.{IfOk};
+ghost use Rattle.ucm_prog.specs.Disks.{AreDisks, IsUnused};
+
 mod commands;
 mod inspect;
 mod inspect_vehicle;
-mod node;
 mod output;
 mod pack;
 mod plain;
 mod replay;
 mod status;
 
+use disk_core::Disk;
 use disk_mem::MemDisk;
 use status::ExitStatus;
 use std::alloc::{AllocError, Global};
@@ -27,7 +29,7 @@ use ucm_base::limits::NODE_LIMIT;
 use ucm_ports::{StdSink, StdSource};
 
 /// The bytes of a node's disk.
-const NODE_DISK: u64 = 46_137_344;
+const NODE_DISK: u64 = 2_348_810_240;
 
 /// The bytes of the master's disk.
 const MASTER_DISK: u64 = 4_194_304;
@@ -41,13 +43,15 @@ fn words<R: Env + Alloc<A = Global>>(rt: &R) -> io::Result<Vec<String>> {
     Ok(words)
 }
 
-/// The master's disk and those of eight nodes, each of zeros.
-fn disks(alloc: Global) -> Result<Vec<MemDisk>, AllocError> {
+/// The master's disk, and behind it those of eight nodes, each of zeros.
+fn new_disks(alloc: Global) -> Result<Vec<MemDisk>, AllocError>
+    ensures { IfOk result (λ v. AreDisks (λ size d. IsUnused size (⟦<MemDisk as Disk>⟧.seen d)
+        (⟦<MemDisk as Disk>⟧.images d) (⟦<MemDisk as Disk>⟧.armed d)) v.items) }
+{
     let mut disks = Vec::new(alloc);
-    for node in 0..=NODE_LIMIT {
-        let size = if node == 0 { MASTER_DISK } else { NODE_DISK };
-        let disk = MemDisk::new(alloc, size)?;
-        disks.push(disk)?;
+    disks.push(MemDisk::new(alloc, MASTER_DISK)?)?;
+    'nodes: for node in 0..NODE_LIMIT {
+        disks.push(MemDisk::new(alloc, NODE_DISK)?)?;
     }
     Ok(disks)
 }
@@ -56,7 +60,7 @@ fn main(rt: HostRuntime) -> ExitCode {
     let alloc = rt.alloc();
     let mut source = StdSource::new(rt.stdin());
     let mut sink = StdSink::new(rt.stdout());
-    let Ok(disks) = disks(alloc) else {
+    let Ok(disks) = new_disks(alloc) else {
         return ExitCode::from(ExitStatus::OutOfMemory.code());
     };
     let (status, _) = match words(&rt) {

@@ -1,6 +1,6 @@
 //! What a command writes, and with what status it ends.
 ghost use Rattle.std.specs.Prelude.{◌≡◌, IfOk, string_bytes};
-ghost use Rattle.ucm_prog.specs.Outputs.{IsOutput};
+ghost use Rattle.ucm_prog.specs.Outputs.{IsOutput, unformatted_line};
 ghost use Rattle.ucm_prog.specs.Refusals.{line_refusal, refused_output, too_long_output};
 
 use crate::status::ExitStatus;
@@ -30,6 +30,19 @@ pub fn refused_line(alloc: Global, line: u64, why: Why) -> Result<Output, AllocE
     let mut text = String::new(alloc);
     write!(text, "refused line {line} {why}\n")?;
     Ok(refused(text))
+}
+
+/// What is written where no attempt formatted the disk of node 1, in which its faults rose by this much.
+pub fn unformatted(alloc: Global, faults: u64) -> Result<Output, AllocError>
+    ensures { IfOk result (λ o. (o.status ≡ ExitStatus.LeftUnfinished)
+        × (o.bytes.items ≡ unformatted_line faults)) }
+{
+    let mut text = String::new(alloc);
+    write!(text, "open node 1 losses 0 faults {faults}\n")?;
+    Ok(Output {
+        status: ExitStatus::LeftUnfinished,
+        bytes: text.into_bytes(),
+    })
 }
 
 /// A refusal of this text.

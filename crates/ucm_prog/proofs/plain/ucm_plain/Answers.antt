@@ -1,40 +1,13 @@
-use Rattle.std.proofs.Common.{◌≡◌, List, ℕ, sym, ◌∙◌}
-use Rattle.std.specs.Prelude.{◌↔◌}
-use Rattle.ucm_prog.specs.declared.status.ExitStatus.{ExitStatus}
-use Rattle.ucm_prog.specs.declared.status.ExitStatus.TheVariants.{Successful, InputRefused}
-use Rattle.ucm_prog.specs.Outcome.{IsWritten, Puts, PutsPrefix}
-use Rattle.ucm_prog.proofs.Outputs.{of-output}
+use Rattle.std.proofs.Common.{subst}
+use Rattle.ucm_prog.specs.Outcome.{IsWritten}
+use Rattle.ucm_prog.proofs.Outputs.{written_so}
 use Rattle.ucm_prog.proofs.plain.ucm_plain.Goals as goal
 
-pub returns-in-Ok-clause-judged : goal.returns-in-Ok-clause-judged
-returns-in-Ok-clause-judged g c = λ h.
-    let says : ExitStatus → List ℕ → Type 0 = λ status text. (c.write.result ≡ InputRefused) ↔
-    (status ≡ InputRefused) in
-    of-output _ c.in-Some.command _ c.in-Ok.output.status c.as_slice.result.now says
-    (sym c.command_in.ensures ∙ c.in-Some.is)
-    (rw c.as_slice.ensures.value c.in-Ok.ensures.output) c.write.ensures.exactly
-
-pub returns-in-Ok-clause-accepted : goal.returns-in-Ok-clause-accepted
-returns-in-Ok-clause-accepted g c = λ h.
-    let says : ExitStatus → List ℕ → Type 0 = λ status text. (status ≡ Successful)
-    × Puts (g.K.Sink.written c.args.sink.now) (g.K.Sink.written c.write.new.sink) text in
-    of-output _ c.in-Some.command _ c.in-Ok.output.status c.as_slice.result.now says
-    (sym c.command_in.ensures ∙ c.in-Some.is)
-    (rw c.as_slice.ensures.value c.in-Ok.ensures.output) (c.write.ensures.accepted h)
-
-pub returns-in-Ok-clause-refused : goal.returns-in-Ok-clause-refused
-returns-in-Ok-clause-refused g c = λ h.
-    let says : ExitStatus → List ℕ → Type 0 = λ status text. (status ≡ InputRefused)
-    × IsWritten (g.K.Sink.written c.args.sink.now) (g.K.Sink.written c.write.new.sink) text
-    (g.K.Sink.fault_count c.args.sink.now) (g.K.Sink.fault_count c.write.new.sink) in
-    of-output _ c.in-Some.command _ c.in-Ok.output.status c.as_slice.result.now says
-    (sym c.command_in.ensures ∙ c.in-Some.is)
-    (rw c.as_slice.ensures.value c.in-Ok.ensures.output) (c.write.ensures.refused h)
-
-pub returns-in-Ok-clause-write_fault_leaves_a_prefix : goal.returns-in-Ok-clause-write_fault_leaves_a_prefix
-returns-in-Ok-clause-write_fault_leaves_a_prefix g c = λ h.
-    let says : ExitStatus → List ℕ → Type 0 = λ status text. (status ≡ Successful)
-    × PutsPrefix (g.K.Sink.written c.args.sink.now) (g.K.Sink.written c.write.new.sink) text in
-    of-output _ c.in-Some.command _ c.in-Ok.output.status c.as_slice.result.now says
-    (sym c.command_in.ensures ∙ c.in-Some.is)
-    (rw c.as_slice.ensures.value c.in-Ok.ensures.output) (c.write.ensures.prefix h)
+pub returns-in_default-clause-usage_is_written : goal.returns-in_default-clause-usage_is_written
+returns-in_default-clause-usage_is_written g c = λ is.
+    let K = g.K.Sink in
+    subst
+    (λ t. IsWritten (K.written c.args.sink.now) (K.written c.put_all.new.sink) t (K.fault_count c.args.sink.now)
+    (K.fault_count c.put_all.new.sink))
+    c.as_bytes.ensures.value
+    (written_so c.put_all.result _ _ _ _ _ c.put_all.ensures.all c.put_all.ensures.prefix c.put_all.ensures.cause)
