@@ -10,7 +10,7 @@ use Rattle.std.proofs.lemmas.List.Folds.{list_any-append}
 use Rattle.disk_core.specs.declared.plan.FailKind.{FailKind}
 use Rattle.disk_core.specs.declared.plan.FailKind.TheVariants.{Read, Write, Sync}
 use Rattle.disk_mem.specs.Strikes.{same_kind}
-use Rattle.range_set.specs.Ranges.{is_met, meets, track_range}
+use Rattle.range_set.specs.Ranges.{is_met, track_range}
 use Rattle.ucm_base.specs.Limits.{cluster_limit, package_limit}
 use Rattle.scenario.specs.declared.why.Why.{Why}
 use Rattle.scenario.specs.declared.lines.ScriptLine.TheVariants.{Time, Installed, Happens, Fails as FailsOn, Attach}

@@ -3,3 +3,4 @@ pub mod Indexes
 pub mod Reached
 pub mod Forms
 pub mod Fates
+pub mod Vehicles

@@ -140,6 +140,7 @@ fn piece(attached: &[u8], place: Attached) -> &[u8]
 }
 
 /// The script of all lines and of what is attached.
+#[tactic(auto, using(crate::proofs::Vehicles::is_loaded))]
 fn finish<'a>(alloc: Global, above: Above, attached: &'a [u8]) -> Result<Script<'a>, ScriptError>
     ensures read { IsScript result (whole above attached.now) }
     ensures form { IsKnownInForm above → IfOk result IsInForm }
@@ -164,7 +165,8 @@ fn finish<'a>(alloc: Global, above: Above, attached: &'a [u8]) -> Result<Script<
 /// The script that an input is. It is read line by line; blocks are not spelled out, and ranges are kept as ranges.
 pub fn read_script(alloc: Global, input: &[u8]) -> Result<Script<'_>, ScriptError>
     ensures read { IsScript result (script_of input.now) }
-    // The campaign counts from 1, nodes are 1 to 8, clients 1 to 31 and disks 0 to 8, and what stands once stands once.
+    // The campaign counts from 1, nodes are 1 to 8, clients 1 to 31 and disks 0 to 8, what stands once stands once, and
+    // the vehicle's steps are of packages that are there.
     ensures form { IfOk result IsInForm }
     // Want of memory is no refusal, also where the vehicle package is read.
     ensures told { IfErr result IsTold }
