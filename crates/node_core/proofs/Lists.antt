@@ -17,15 +17,6 @@ pub each-second : {X : Type 0} (P : X → Type 0) (xs ys : List X) → AllByRecu
 each-second P [] ys h = h
 each-second P (x ∷ xs) ys h = each-second P xs ys h.1
 
-pub each-first : {X : Type 0} (P : X → Type 0) (xs ys : List X) → AllByRecursion P (xs ++ ys) → AllByRecursion P xs
-each-first P [] ys h = tt
-each-first P (x ∷ xs) ys h = (h.0, each-first P xs ys h.1)
-
-pub each-append : {X : Type 0} (P : X → Type 0) (xs ys : List X) → AllByRecursion P xs → AllByRecursion P ys
-    → AllByRecursion P (xs ++ ys)
-each-append P [] ys h more = more
-each-append P (x ∷ xs) ys h more = (h.0, each-append P xs ys h.1 more)
-
 -- a test that each passes
 pub all-each : {X : Type 0} (p : X → Bool) (xs : List X) → list_all p xs ≡ true → AllByRecursion (λ x. p x ≡ true) xs
 all-each p [] e = tt

@@ -13,7 +13,7 @@ use Rattle.node_core.proofs.Names.{found_of, is_of, length, length-drop, length-
 use Rattle.node_core.proofs.Names.{package_reading, parts_place, piece_of, plan_kept, put-leaves, refl, side_of, slice_range, stored_of}
 use Rattle.node_core.proofs.Names.{subst, sym, take, transfer_meaning, [], ℕ, ◌+◌, ◌-◌, ◌∙◌, ◌≡◌, ◌≢◌, ◌≤◌}
 use Rattle.node_core.proofs.Names.{IsVerdictKept, None, TransferExit, exit_refusals, first_refusal, header_of, transfer_of, verdict_kept}
-use Rattle.node_core.proofs.Names.{Activate, Cancel, DeleteTransfer, Finish, ProcessSwPackage, RevertProcessedSwPackages, Rollback, Sync, TransferStart}
+use Rattle.node_core.proofs.Names.{Activate, ProcessSwPackage}
 use Rattle.node_core.proofs.Names.{Extent, IfSome, Readied, IsNextUnit, IsPackageReady, IsUnitReady, SessionOf}
 use Rattle.pm_types.specs.NodeState.{of_client}
 use Rattle.pm_types.specs.Steps.{repeat_of}
@@ -27,6 +27,8 @@ use Rattle.node_core.proofs.Names.{is_some}
 use Rattle.node_core.proofs.Lists.{at-err}
 use Rattle.node_core.proofs.Copied.{Needs, PieceNeeds, needs}
 use Rattle.node_core.proofs.Pieces.{slice-take}
+use Rattle.node_core.proofs.Sound.{sound-stands}
+use Rattle.node_core.proofs.Sound.{sound-stands}
 use Rattle.node_core.proofs.Runs.{reads-none, reads-once, reads-wrote}
 use Rattle.node_core.proofs.Staging.{failed-stands, found-fits, found-slot, put-left, put-ready}
 use Rattle.node_core.proofs.Stored.{found-means}
@@ -39,10 +41,6 @@ stand-sound v held p sound stand = record {
   order = stand.order;
   copied = stand.copied;
 }
-
--- its own areas do
-pub sound-stands : (v : Holding) → IsSound v → StandsFor v.areas v.state (node_of v)
-sound-stands v sound = record { node = refl; order = sound.order; copied = sound.copied }
 
 -- and those that stand for it over such
 stand-on : (v : Holding) (held torn : Areas) → StandsFor held v.state (node_of v)
@@ -452,16 +450,4 @@ pub other-ready : (v : Holding) (client : ℕ) (call : Call)
     → ((id counter : ℕ) (block : Bytes) → call ≡ TransferData id counter block → ⊥)
     → ((id : ℕ) → call ≡ TransferExit id → ⊥) → ((id tag : ℕ) → call ≡ ProcessSwPackage id tag → ⊥)
     → (call ≡ Activate → ⊥) → IsReady v client call
-other-ready v client (TransferData id counter block) no_data no_exit no_package no_activation =
-    absurd (no_data id counter block refl)
-other-ready v client (TransferExit id) no_data no_exit no_package no_activation = absurd (no_exit id refl)
-other-ready v client (ProcessSwPackage id tag) no_data no_exit no_package no_activation =
-    absurd (no_package id tag refl)
-other-ready v client Activate no_data no_exit no_package no_activation = absurd (no_activation refl)
-other-ready v client Sync no_data no_exit no_package no_activation = tt
-other-ready v client (TransferStart size) no_data no_exit no_package no_activation = tt
-other-ready v client (DeleteTransfer id) no_data no_exit no_package no_activation = tt
-other-ready v client Finish no_data no_exit no_package no_activation = tt
-other-ready v client Rollback no_data no_exit no_package no_activation = tt
-other-ready v client RevertProcessedSwPackages no_data no_exit no_package no_activation = tt
-other-ready v client (Cancel id) no_data no_exit no_package no_activation = tt
+other-ready v client call no_data no_exit no_package no_activation = grind arith

@@ -9,7 +9,8 @@ use Rattle.node_core.specs.declared.node.ReserveError.TheVariants.{OutOfMemory}
 use Rattle.node_core.proofs.Copied.{Needs, PieceNeeds, needs}
 use Rattle.node_core.proofs.Names.{IsSound, NextUnit, Option, Piece, Processing, State, option_map}
 use Rattle.node_core.proofs.Reserved.{failed-reserves, no-unit, none-ready, nothing-reserves, reads-handed}
-use Rattle.node_core.proofs.Reserved.{reads-reserve, sound-stands, unit-reserves}
+use Rattle.node_core.proofs.Reserved.{reads-reserve, unit-reserves}
+use Rattle.node_core.proofs.Sound.{sound-stands}
 use Rattle.node_core.proofs.Runs.{reads-none, writes-then}
 use Rattle.node_core.proofs.copying.reserve_unit.Goals as goal
 

@@ -3,7 +3,8 @@ use Rattle.node_core.proofs.Names.{subst, sym, ◌∙◌, ◌≡◌}
 use Rattle.std.specs.Prelude.{Ok}
 use Rattle.node_core.specs.declared.node.ReserveError.TheVariants.{OutOfMemory}
 use Rattle.node_core.specs.declared.prepared.Prepared.TheVariants.{Nothing}
-use Rattle.node_core.proofs.Reserved.{failed-reserves, nothing-reserves, other-ready, reads-handed, reserves-at, sound-stands, stand-sound}
+use Rattle.node_core.proofs.Reserved.{failed-reserves, nothing-reserves, other-ready, reads-handed, reserves-at, stand-sound}
+use Rattle.node_core.proofs.Sound.{sound-stands}
 use Rattle.node_core.proofs.Runs.{reads-none}
 use Rattle.node_core.proofs.reserving.prepare.Goals as goal
 

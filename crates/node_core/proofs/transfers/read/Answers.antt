@@ -4,7 +4,8 @@ use Rattle.node_core.specs.declared.prepared.Prepared.TheVariants.{Verdict as Ju
 use Rattle.node_core.specs.Reserves.{BringsNew, Reserves}
 use Rattle.node_core.specs.declared.node.ReserveError.TheVariants.{OutOfMemory}
 use Rattle.node_core.proofs.Lists.{at-fault}
-use Rattle.node_core.proofs.Reserved.{exit-ready, nothing-reserves, reads-failed, reads-handed, reads-reserve, sound-stands}
+use Rattle.node_core.proofs.Reserved.{exit-ready, nothing-reserves, reads-failed, reads-handed, reads-reserve}
+use Rattle.node_core.proofs.Sound.{sound-stands}
 use Rattle.node_core.proofs.Runs.{reads-none, reads-one, reads-then}
 use Rattle.node_core.proofs.Staging.{found-lies, found-slot, got-ready, refused-exit}
 use Rattle.node_core.proofs.transfers.read.Goals as goal

@@ -2,7 +2,8 @@ use Rattle.node_core.specs.Reserves.{BringsNew, Reserves}
 use Rattle.node_core.proofs.Lists.{at-fault}
 use Rattle.node_core.proofs.Names.{IsReady, None, Ok, Some, State, TransferData, ap, data_refusals, first_refusal, found_of, holding, length, refl}
 use Rattle.node_core.proofs.Names.{stored_header, subst, sym, ◌∙◌, ◌≡◌, ◌≢◌}
-use Rattle.node_core.proofs.Reserved.{block-fits, block-reserves, none-unless, nothing-reserves, put-reserves, sound-stands}
+use Rattle.node_core.proofs.Reserved.{block-fits, block-reserves, none-unless, nothing-reserves, put-reserves}
+use Rattle.node_core.proofs.Sound.{sound-stands}
 use Rattle.node_core.proofs.Runs.{writes-one}
 use Rattle.node_core.proofs.Staging.{found-lies, found-slot, refused-block}
 use Rattle.node_core.proofs.transfers.stage.Goals as goal

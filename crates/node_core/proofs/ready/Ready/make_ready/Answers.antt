@@ -1,6 +1,7 @@
 use Rattle.node_core.proofs.Names.{IsReady, Ok, Readied, ap, is_some, over, refl, subst, sym, ◌∙◌}
 use Rattle.node_core.specs.Reserves.{Brings, BringsNew}
-use Rattle.node_core.proofs.Reserved.{brings-new, failed-reserves, none-is, nothing-reserves, reserves-same, sound-stands}
+use Rattle.node_core.proofs.Reserved.{brings-new, failed-reserves, none-is, nothing-reserves, reserves-same}
+use Rattle.node_core.proofs.Sound.{sound-stands}
 use Rattle.node_core.proofs.ready.Ready.make_ready.Goals as goal
 
 pub returns-then-is_some-clause-reserves : goal.returns-then-is_some-clause-reserves

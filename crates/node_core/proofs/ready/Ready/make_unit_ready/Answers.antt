@@ -2,7 +2,8 @@ use Rattle.node_core.proofs.Names.{IsSound, Ok, arith, holding, over, refl, â—Œâ
 use Rattle.std.proofs.lemmas.Result.{err_from_is_err_and}
 use Rattle.node_core.specs.Reserves.{Copies}
 use Rattle.node_core.specs.declared.node.ReserveError.TheVariants.{OutOfMemory}
-use Rattle.node_core.proofs.Reserved.{failed-reserves, nothing-reserves, reads-handed, reserves-same, sound-stands}
+use Rattle.node_core.proofs.Reserved.{failed-reserves, nothing-reserves, reads-handed, reserves-same}
+use Rattle.node_core.proofs.Sound.{sound-stands}
 use Rattle.node_core.proofs.Runs.{reads-none}
 use Rattle.node_core.proofs.ready.Ready.make_unit_ready.Goals as goal
 
