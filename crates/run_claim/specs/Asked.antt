@@ -1,5 +1,5 @@
 -- What a script that is read asks of a run.
-use Rattle.std.specs.Prelude.{ℕ, List, [], map, slice_get}
+use Rattle.std.specs.Prelude.{ℕ, [], map, slice_get}
 use Rattle.std.specs.Option.{option_map_or}
 use Rattle.ucm_base.specs.Parts.{Bytes}
 use Rattle.pm_types.specs.declared.clusters.Cluster.{Cluster}
