@@ -4,3 +4,4 @@ pub mod Reached
 pub mod Forms
 pub mod Fates
 pub mod Vehicles
+pub mod Planned

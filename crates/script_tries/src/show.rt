@@ -6,7 +6,7 @@ use ucm_base::Need;
 use vehicle_package::{Step, Vehicle};
 
 /// Prints what a script says, one line for each of its own and for each part of a step.
-pub fn show_script<R: Print>(rt: &R, script: &Script<'_>) -> io::Result<()> {
+pub fn show_script<R: Print + AllocGlobal>(rt: &R, script: &Script<'_>) -> io::Result<()> {
     let campaign = script.campaign;
     let attached = script.attached.len();
     println!(rt; "  campaign {campaign}, {attached} bytes attached")?;
@@ -136,8 +136,8 @@ fn show_call<R: Print>(rt: &R, call: &ScriptCall) -> io::Result<()> {
     }
 }
 
-/// What goes wrong.
-pub fn show_mishaps<R: Print>(rt: &R, lines: &Lines) -> io::Result<()> {
+/// What goes wrong, and how much of it the plan of each disk lists.
+pub fn show_mishaps<R: Print + AllocGlobal>(rt: &R, lines: &Lines) -> io::Result<()> {
     for stop in lines.stops.as_slice() {
         let (line, disk, write, keep) = (stop.line, stop.disk, stop.write, stop.keep);
         println!(rt; "  {line}: stop {disk} {write} {keep}")?;
@@ -152,5 +152,20 @@ pub fn show_mishaps<R: Print>(rt: &R, lines: &Lines) -> io::Result<()> {
         let fate = fate.fate;
         println!(rt; "  {line}: fate {node} {first}-{last} {fate:?}")?;
     }
+    for disk in 0..9u8 {
+        show_plan(rt, lines, disk)?;
+    }
     Ok(())
+}
+
+fn show_plan<R: Print + AllocGlobal>(rt: &R, lines: &Lines, disk: u8) -> io::Result<()> {
+    let Ok(plan) = lines.plan_of(rt.alloc(), disk) else {
+        return println!(rt; "  disk {disk}: no memory");
+    };
+    let stops = plan.stops.as_slice().len();
+    let fails = plan.fails.as_slice().len();
+    if stops + fails == 0 {
+        return Ok(());
+    }
+    println!(rt; "  disk {disk}: {stops} stops, {fails} failing calls")
 }
