@@ -101,7 +101,8 @@ module _ (v : Holding) (sound : IsSound v) (client : ℕ) where
   stands next ts n node each slots = record {
     node = node;
     order = order-of (record v.state { next_id = next; transfers = ts })
-        (each-imp _ _ (λ t is. record { slot = is.0; contents = is.1.0 }) ts each) slots sound.order.running sound.order;
+        (each-imp _ _ (λ t is. record { slot = is.0; contents = is.1.0 }) ts each) slots sound.order.running
+        sound.order;
     copied = each-imp _ _ (λ t is. is.1.1) ts each;
   }
 

@@ -29,9 +29,11 @@ accept-stands v sound client (TransferData id counter bytes) ready none =
 accept-stands v sound client (TransferExit id) ready none = close-stands v sound client id ready none
 accept-stands v sound client (DeleteTransfer id) ready none = delete-stands v sound client id
 accept-stands v sound client (ProcessSwPackage id tag) ready none = process-stands v client id tag sound none
-accept-stands v sound client Activate ready none = led-stands v.areas v.state (node_of v) Activate (sound-stands v sound)
+accept-stands v sound client Activate ready none =
+    led-stands v.areas v.state (node_of v) Activate (sound-stands v sound)
 accept-stands v sound client Finish ready none = led-stands v.areas v.state (node_of v) Finish (sound-stands v sound)
-accept-stands v sound client Rollback ready none = led-stands v.areas v.state (node_of v) Rollback (sound-stands v sound)
+accept-stands v sound client Rollback ready none =
+    led-stands v.areas v.state (node_of v) Rollback (sound-stands v sound)
 accept-stands v sound client RevertProcessedSwPackages ready none =
     led-stands v.areas v.state (node_of v) RevertProcessedSwPackages (sound-stands v sound)
 accept-stands v sound client (Cancel id) ready none = cancel-stands v client id sound none

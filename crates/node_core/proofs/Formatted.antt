@@ -29,7 +29,8 @@ now lent = lent.now
 
 -- what was put, the next one and the rest are all that was lent
 pub whole-lent : (put rest : List (Bor (Cluster Bytes))) {ahead first all : List (Bor (Cluster Bytes))}
-    (x : Bor (Cluster Bytes)) → ahead ≡ x ∷ rest → put ++ ahead ≡ first → first ≡ all → map now put ++ x.now ∷ map now rest ≡ map now all
+    (x : Bor (Cluster Bytes)) → ahead ≡ x ∷ rest → put ++ ahead ≡ first → first ≡ all
+    → map now put ++ x.now ∷ map now rest ≡ map now all
 whole-lent put rest x next so_far begins =
     sym (map-append now put (x ∷ rest)) ∙ ap (map now) (ap (λ l. put ++ l) (sym next) ∙ so_far ∙ begins)
 
