@@ -1,5 +1,5 @@
 //! What is printed of a script.
-use run_script::{ClientLine, Lines, Point, Script};
+use run_script::{CancelLine, ClientLine, Lines, Point, Script};
 use scenario::{BlockSource, Event, ScriptCall};
 use std::io;
 use ucm_base::Need;
@@ -48,23 +48,33 @@ fn show_needs<R: Print>(rt: &R, needs: &[Need]) -> io::Result<()> {
     println!(rt; "")
 }
 
-/// What stands once.
+/// What stands once, and what is attached.
 fn show_once<R: Print>(rt: &R, lines: &Lines) -> io::Result<()> {
-    if let Some(time) = lines.time {
-        println!(rt; "  time {time}")?;
+    if let Some(first) = lines.campaign {
+        let (line, campaign) = (first.line, first.campaign);
+        println!(rt; "  {line}: campaign {campaign}")?;
     }
-    if let Some(point) = lines.cancel {
-        show_point(rt, point)?;
+    if let Some(start) = lines.time {
+        let (line, time) = (start.line, start.time);
+        println!(rt; "  {line}: time {time}")?;
+    }
+    if let Some(cancel) = lines.cancel {
+        show_cancel(rt, cancel)?;
+    }
+    for attached in lines.attached.as_slice() {
+        let (line, name, len) = (attached.line, attached.name, attached.len);
+        println!(rt; "  {line}: attach {name} {len}")?;
     }
     Ok(())
 }
 
-fn show_point<R: Print>(rt: &R, point: Point) -> io::Result<()> {
-    match point {
-        Point::Syncing => println!(rt; "  cancel syncing"),
-        Point::InPhase(phase) => println!(rt; "  cancel {phase}"),
-        Point::Voted => println!(rt; "  cancel voted"),
-        Point::Decided => println!(rt; "  cancel decided"),
+fn show_cancel<R: Print>(rt: &R, cancel: CancelLine) -> io::Result<()> {
+    let line = cancel.line;
+    match cancel.point {
+        Point::Syncing => println!(rt; "  {line}: cancel syncing"),
+        Point::InPhase(phase) => println!(rt; "  {line}: cancel {phase}"),
+        Point::Voted => println!(rt; "  {line}: cancel voted"),
+        Point::Decided => println!(rt; "  {line}: cancel decided"),
     }
 }
 
