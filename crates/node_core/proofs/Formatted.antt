@@ -229,26 +229,21 @@ module _ {S : Type 0} (obeys : S → Step → S → Type 0) (cs rest all : List 
     whole = λ e. absurd (cc e);
   }
 
-  pub next-ran : obeys at (puts (Side place 0) 0 bytes (Ok tt)) new → Ran obeys (installs 0 (cs ++ c ∷ [])) old new
-  next-ran obeyed =
-      subst (λ steps. Ran obeys steps old new) (sym (installs-next cs c))
-      (ran_both obeys (installs 0 cs) _ old at new ran (new, put-here (Ok tt) obeyed, refl))
-
-  -- one more is placed
-  pub next-placed : (more : List (Cluster Extent)) → more ≡ stored ++ placed place c ∷ []
-      → more ≡ placed_from 0 (cs ++ c ∷ [])
-  next-placed more added =
-      added ∙ (λ i. is i ++ placed (place-is i) c ∷ []) ∙ ap (λ n. placed_from 0 cs ++ placed n c ∷ [])
-      (sym (zero-add (length cs)))
-      ∙ sym (placed-append 0 cs c)
-
-  -- and the areas hold one more
-  pub next-areas : (held before after : Areas) → before ≡ with_installed cs held
-      → after ≡ with_bytes (Side place 0) 0 bytes before → after ≡ with_installed (cs ++ c ∷ []) held
-  next-areas held before after held-is put =
-      put ∙ (λ i. with_bytes (Side (place-is i) 0) 0 (same i) (held-is i))
-      ∙ sym (ap (λ steps. wrote steps held) (installs-next cs c)
-      ∙ wrote_both (installs 0 cs) (puts (Side (length cs) 0) 0 c.content (Ok tt) ∷ []) held)
+  -- one more is placed and put, and the areas hold it
+  pub next-put : obeys at (puts (Side place 0) 0 bytes (Ok tt)) new → {more : List (Cluster Extent)}
+      → more ≡ stored ++ placed place c ∷ [] → (held : Areas) {before after : Areas} → before ≡ with_installed cs held
+      → after ≡ with_bytes (Side place 0) 0 bytes before → {put : List (Cluster Bytes)} → cs ++ c ∷ [] ≡ put
+      → (more ≡ placed_from 0 put) × Ran obeys (installs 0 put) old new × (after ≡ with_installed put held)
+  next-put obeyed {more} added held {before} {after} held-is put_there is_put =
+      subst (λ l. (more ≡ placed_from 0 l) × Ran obeys (installs 0 l) old new × (after ≡ with_installed l held)) is_put (
+        added ∙ (λ i. is i ++ placed (place-is i) c ∷ [])
+            ∙ ap (λ n. placed_from 0 cs ++ placed n c ∷ []) (sym (zero-add (length cs))) ∙ sym (placed-append 0 cs c),
+        subst (λ steps. Ran obeys steps old new) (sym (installs-next cs c))
+            (ran_both obeys (installs 0 cs) _ old at new ran (new, put-here (Ok tt) obeyed, refl)),
+        put_there ∙ (λ i. with_bytes (Side (place-is i) 0) 0 (same i) (held-is i))
+            ∙ sym (ap (λ steps. wrote steps held) (installs-next cs c)
+            ∙ wrote_both (installs 0 cs) (puts (Side (length cs) 0) 0 c.content (Ok tt) ∷ []) held),
+      )
 
 -- all are put
 pub all-formats : {S : Type 0} (obeys : S → Step → S → Type 0) (cs all : List (Cluster Bytes)) (old new : S)

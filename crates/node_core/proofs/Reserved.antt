@@ -32,6 +32,8 @@ use Rattle.node_core.proofs.Sound.{sound-stands}
 use Rattle.node_core.proofs.Sound.{sound-stands}
 use Rattle.node_core.proofs.Sound.{sound-stands}
 use Rattle.node_core.proofs.Sound.{sound-stands}
+use Rattle.node_core.proofs.Sound.{sound-stands}
+use Rattle.node_core.proofs.Sound.{sound-stands}
 use Rattle.node_core.proofs.Runs.{reads-none, reads-once, reads-wrote}
 use Rattle.node_core.proofs.Staging.{failed-stands, found-fits, found-slot, put-left, put-ready}
 use Rattle.node_core.proofs.Stored.{found-means}
@@ -223,7 +225,7 @@ module _ {S : Type 0} (obeys : S → Step → S → Type 0) (areas : S → Areas
   abbrev v : Holding
   v = holding (areas old) s
 
-  pub block-fits : f.header.received + length block ≤ package_limit
+  block-fits : f.header.received + length block ≤ package_limit
   block-fits = let size = found-fits v sound client id f e in omega (arith, size, room)
 
   abbrev area : Area
@@ -269,16 +271,6 @@ module _ {S : Type 0} (obeys : S → Step → S → Type 0) (areas : S → Areas
       (λ end. (accepted, some-and _ _ f e (refl, refl, refl)))
       block-spares writes put (failed-stands v sound client id f e fit (length block) (areas new) left)
       (λ ok. block-holds)
-
-  -- and so does one that was put whole
-  pub put-reserves : IsAccepted → AreasFit (areas old) → Writes obeys area at block (Ok tt) old new
-      → areas new ≡ with_bytes area at block (areas old)
-      → Reserves obeys areas s (BringsNew s client (TransferData id counter block))
-      (λ held. IsReady (holding held s) client (TransferData id counter block)) (Ok tt) old new
-  put-reserves accepted fit writes put =
-      block-reserves accepted (Ok tt) fit writes (λ ok. put) (subst (LeavesOutside area at (length block) (areas old))
-      (sym put)
-      (put-left v sound client id f e fit block))
 
 -- the bytes that came for a transfer are the same in areas that stand for the node
 same-came : (v : Holding) (held : Areas) (client id : ℕ) (t : StoredTransfer) → StandsFor held v.state (node_of v)

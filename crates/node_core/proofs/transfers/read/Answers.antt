@@ -1,5 +1,5 @@
 use Rattle.node_core.proofs.Names.{Holding, None, Ok, Some, State, ap, exit_refusals, first_refusal, found_of, holding, refl}
-use Rattle.node_core.proofs.Names.{stored_header, subst, sym, zero-add, ◌∙◌, ◌≡◌, ◌≢◌}
+use Rattle.node_core.proofs.Names.{zero-add, stored_header, subst, sym, ◌∙◌, ◌≡◌, ◌≢◌}
 use Rattle.node_core.specs.declared.prepared.Prepared.TheVariants.{Verdict as Judged}
 use Rattle.node_core.specs.declared.node.ReserveError.TheVariants.{OutOfMemory}
 use Rattle.node_core.proofs.Lists.{end-err, end-fault}
@@ -16,22 +16,17 @@ returns-in_default-clause-reserves g c =
     (subst (λ (s : State). first_refusal (exit_refusals (stored_header s.transfers c.args.client c.args.id)) ≢ None)
     c.state.view_is (c.in_default.ensures.refused.0 refl)))
 
-pub get-requires-clause-area : goal.get-requires-clause-area
-get-requires-clause-area g c =
+pub get-requires : goal.get-requires
+get-requires g c =
+    let v : Holding = holding (g.S.Staging.areas c.args.staging.now) c.args.state.now in
     let is : found_of c.args.state.now.transfers c.args.client c.args.id ≡ Some c.in-Some.found =
     ap (λ (s : State). found_of s.transfers c.args.client c.args.id) (sym c.state.view_is) ∙ c.in-Some.ensures.found in
-    found-slot (holding (g.S.Staging.areas c.args.staging.now) c.args.state.now) c.requires.sound c.args.client
-    c.args.id
-    c.in-Some.found is
-
-pub get-requires-clause-range : goal.get-requires-clause-range
-get-requires-clause-range g c =
-    let is : found_of c.args.state.now.transfers c.args.client c.args.id ≡ Some c.in-Some.found =
-    ap (λ (s : State). found_of s.transfers c.args.client c.args.id) (sym c.state.view_is) ∙ c.in-Some.ensures.found in
-    rw (zero-add c.in-Some.found.header.received)
-    (found-lies (holding (g.S.Staging.areas c.args.staging.now) c.args.state.now) c.requires.sound c.args.client
-    c.args.id
-    c.in-Some.found is)
+    record {
+      fit = c.requires.fit;
+      area = found-slot v c.requires.sound c.args.client c.args.id c.in-Some.found is;
+      range = rw (zero-add c.in-Some.found.header.received)
+          (found-lies v c.requires.sound c.args.client c.args.id c.in-Some.found is);
+    }
 
 pub returns-in_err-bytes-clause-reserves : goal.returns-in_err-bytes-clause-reserves
 returns-in_err-bytes-clause-reserves g c =
