@@ -8,13 +8,12 @@ use Rattle.transfer_blocks.specs.declared.fault.StagingError.TheVariants.{Failed
 use Rattle.node_core.proofs.Runs.{ok-faultless}
 use Rattle.transfer_blocks.proofs.Areas.{fits-with}
 use Rattle.transfer_blocks.proofs.Runs.{ran_both, wrote_both}
-use Rattle.node_core.proofs.Lists.{each-append, each-first}
 use Rattle.node_core.specs.Format.{Formats, Installs, IsFormatted, installs, with_installed}
 use Rattle.node_core.proofs.Names.{map-append, zero-add, IsArea, overwritten, length-drop, drop}
 use Rattle.node_core.proofs.Lists.{each-second}
 use Rattle.node_core.proofs.Names.{AllByRecursion, AreInstalled, Area, Areas, AreasFit, Bytes, Cluster, Extent, IsExtent, IsFit}
 use Rattle.node_core.proofs.Names.{IsSound, List, Side, ap, append-nil, ap₂, arith, bytes_eq, cluster_limit, cluster_meaning}
-use Rattle.node_core.proofs.Names.{cluster_place, content-elsewhere, content-here, content_of, different_names, each-unmap, false}
+use Rattle.node_core.proofs.Names.{cluster_place, content-elsewhere, content-here, content_of, different_names, each-append, each-first, each-unmap, false}
 use Rattle.node_core.proofs.Names.{formatted, fresh_state, holding, in_order, keeps-fit, length, length-append, length-map, map}
 use Rattle.node_core.proofs.Names.{name_lt, names-behind, names-tail, names_fit_places, names_of, names_rise, nat_tests}
 use Rattle.node_core.proofs.Names.{package_limit, package_reading, placed, placed_from, refl, subst, sym, take, true}
@@ -30,7 +29,8 @@ now lent = lent.now
 
 -- what was put, the next one and the rest are all that was lent
 pub whole-lent : (put rest : List (Bor (Cluster Bytes))) {ahead first all : List (Bor (Cluster Bytes))}
-    (x : Bor (Cluster Bytes)) → ahead ≡ x ∷ rest → put ++ ahead ≡ first → first ≡ all → map now put ++ x.now ∷ map now rest ≡ map now all
+    (x : Bor (Cluster Bytes)) → ahead ≡ x ∷ rest → put ++ ahead ≡ first → first ≡ all
+    → map now put ++ x.now ∷ map now rest ≡ map now all
 whole-lent put rest x next so_far begins =
     sym (map-append now put (x ∷ rest)) ∙ ap (map now) (ap (λ l. put ++ l) (sym next) ∙ so_far ∙ begins)
 

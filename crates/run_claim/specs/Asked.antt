@@ -1,5 +1,5 @@
 -- What a script that is read asks of a run.
-use Rattle.std.specs.Prelude.{ℕ, List, [], map, slice_get}
+use Rattle.std.specs.Prelude.{ℕ, [], map, option_map, slice_get}
 use Rattle.std.specs.Option.{option_map_or}
 use Rattle.ucm_base.specs.Parts.{Bytes}
 use Rattle.pm_types.specs.declared.clusters.Cluster.{Cluster}
@@ -52,7 +52,7 @@ asked s =
       installed = map (installed_meant s.attached) s.lines.installed;
       fails = s.lines.fails;
       lines = map (line_meant s.attached) s.lines.clients;
-      cancel = s.lines.cancel;
+      cancel = option_map (λ c. c.point) s.lines.cancel;
       fates = s.lines.fates;
       plans = disks_of s.lines;
     }

@@ -18,6 +18,7 @@ mod words;
 
 pub use fault::{Refusal, ScriptError};
 pub use lines::{
-    ClientLine, FailsLine, FateLine, FaultLine, InstalledLine, Lines, Point, StopLine,
+    AttachLine, CampaignLine, CancelLine, ClientLine, FailsLine, FateLine, FaultLine,
+    InstalledLine, Lines, Point, StopLine, TimeLine,
 };
 pub use script::{Script, read_script};

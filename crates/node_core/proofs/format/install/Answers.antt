@@ -1,8 +1,8 @@
 use Rattle.node_core.proofs.Names.{Ok, ap, append-nil, append_assoc, arith, into_iter_items, length, map, map-append, placed_from, subst, sym, [], ◌++◌, ◌∙◌, ◌∷◌}
 use Rattle.std.proofs.lemmas.List.{nil_from_length}
-use Rattle.node_core.specs.Format.{Formats, installs, with_installed}
+use Rattle.node_core.specs.Format.{installs, with_installed}
 use Rattle.transfer_blocks.specs.Steps.{Ran}
-use Rattle.node_core.proofs.Lists.{at-fault}
+use Rattle.node_core.proofs.Lists.{end-fault}
 use Rattle.node_core.proofs.Runs.{ok-faultless}
 use Rattle.transfer_blocks.specs.declared.fault.StagingError.TheVariants.{OutOfMemory}
 use Rattle.node_core.proofs.Formatted.{all-formats, none-formats, next-areas, next-failed, next-place, next-placed, next-ran, next-short, now, whole-lent}
@@ -54,8 +54,7 @@ returns-in_err-put-clause-formats g c =
     let x = c.in-Some.cluster in
     let whole = whole-lent at.yielded _ x c.in-Some.ensures.steps.0 at.invariant.0
     c.into_iter-cluster-iterator.ensures.into_iter_gives.0 in
-    at-fault (λ end. Formats g.S.Staging.obeys (map now c.args.clusters.items) end c.args.staging.now c.put.new.self) _
-    c.from_residual-in_err-put.result c.from_residual-in_err-put.ensures.1
+    rw (end-fault _ _ c.from_residual-in_err-put.ensures.1)
     (next-failed g.S.Staging.obeys _ _ _ x.now whole c.requires.few c.requires.short
     c.args.staging.now at.staging c.put.new.self at.invariant.2 at.running.items at.invariant.1 c.len-place.result
     (c.len-place.ensures ∙ at.running.ok.0) c.as_slice-bytes.result.now c.as_slice-bytes.ensures.bytes
@@ -67,9 +66,7 @@ returns-in_err-add-clause-formats g c =
     let x = c.in-Some.cluster in
     let whole = whole-lent at.yielded _ x c.in-Some.ensures.steps.0 at.invariant.0
     c.into_iter-cluster-iterator.ensures.into_iter_gives.0 in
-    at-fault (λ end. Formats g.S.Staging.obeys (map now c.args.clusters.items) end c.args.staging.now c.put.new.self)
-    OutOfMemory
-    c.from_residual-in_err-add.result c.from_residual-in_err-add.ensures.1
+    rw (end-fault OutOfMemory _ c.from_residual-in_err-add.ensures.1)
     (next-failed g.S.Staging.obeys _ _ _ x.now whole c.requires.few c.requires.short
     c.args.staging.now at.staging c.put.new.self at.invariant.2 at.running.items at.invariant.1 c.len-place.result
     (c.len-place.ensures ∙ at.running.ok.0) c.as_slice-bytes.result.now c.as_slice-bytes.ensures.bytes
@@ -118,6 +115,4 @@ returns-clause-formats g c =
 
 pub returns-in_err-running-clause-formats : goal.returns-in_err-running-clause-formats
 returns-in_err-running-clause-formats g c =
-    at-fault (λ end. Formats g.S.Staging.obeys (map now c.args.clusters.items) end c.args.staging.now
-    c.args.staging.now)
-    OutOfMemory _ c.from_residual.ensures.1 (none-formats _ _ _)
+    rw (end-fault OutOfMemory _ c.from_residual.ensures.1) (none-formats _ _ _)

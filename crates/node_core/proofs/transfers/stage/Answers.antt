@@ -1,17 +1,15 @@
-use Rattle.node_core.specs.Reserves.{BringsNew, Reserves}
-use Rattle.node_core.proofs.Lists.{at-fault}
-use Rattle.node_core.proofs.Names.{IsReady, None, Ok, Some, State, TransferData, ap, data_refusals, first_refusal, found_of, holding, length, refl}
+use Rattle.node_core.proofs.Lists.{end-fault}
+use Rattle.node_core.proofs.Names.{None, Some, State, ap, data_refusals, first_refusal, found_of, holding, length, refl}
 use Rattle.node_core.proofs.Names.{stored_header, subst, sym, ◌∙◌, ◌≡◌, ◌≢◌}
-use Rattle.node_core.proofs.Reserved.{block-fits, block-reserves, none-unless, nothing-reserves, put-reserves, sound-stands}
+use Rattle.node_core.proofs.Reserved.{block-fits, block-reserves, none-unless, nothing-reserves, put-reserves}
 use Rattle.node_core.proofs.Runs.{writes-one}
 use Rattle.node_core.proofs.Staging.{found-lies, found-slot, refused-block}
 use Rattle.node_core.proofs.transfers.stage.Goals as goal
 
 pub returns-in_default-clause-reserves : goal.returns-in_default-clause-reserves
 returns-in_default-clause-reserves g c =
-    nothing-reserves g.S.Staging.obeys g.S.Staging.areas c.args.state.now _ _ (Ok tt) _ (λ end. tt)
-    (sound-stands (holding (g.S.Staging.areas c.args.staging.now) c.args.state.now) c.requires.sound)
-    (λ ok held fit stand. refused-block (holding held c.args.state.now) c.args.client c.args.id c.args.counter
+    nothing-reserves g.S.Staging.obeys g.S.Staging.areas c.args.state.now _ (λ end. tt) c.requires.sound
+    (λ held fit stand. refused-block (holding held c.args.state.now) c.args.client c.args.id c.args.counter
     c.args.block.now (subst (λ (s : State). first_refusal (data_refusals
     (stored_header s.transfers c.args.client c.args.id) c.args.counter (length c.args.block.now)) ≢ None)
     c.state.view_is (c.in_default.ensures.refused.0 refl)))
@@ -48,10 +46,7 @@ returns-in_err-put-clause-reserves g c =
     c.args.counter (length c.args.block.now))) (sym c.state.view_is)
     ∙ none-unless _ (λ some. absurd (cc (c.in-Some.ensures.refused.1 some))) in
     let is : found_of s.transfers c.args.client c.args.id ≡ Some c.in-Some.found = same ∙ c.in-Some.ensures.found in
-    at-fault (λ end. Reserves g.S.Staging.obeys g.S.Staging.areas s
-    (BringsNew s c.args.client (TransferData c.args.id c.args.counter c.args.block.now))
-    (λ held. IsReady (holding held s) c.args.client (TransferData c.args.id c.args.counter c.args.block.now)) end
-    c.args.staging.now c.put.new.self) _ _ c.from_residual.ensures.1
+    rw (end-fault _ _ c.from_residual.ensures.1)
     (block-reserves g.S.Staging.obeys g.S.Staging.areas s c.args.staging.now c.put.new.self c.requires.sound
     c.args.client
     c.args.id c.args.counter c.args.block.now c.in-Some.found is c.in-Some.ensures.fits accepted _
