@@ -234,8 +234,8 @@ module _ {S : Type 0} (obeys : S → Step → S → Type 0) (cs rest all : List 
       → more ≡ stored ++ placed place c ∷ [] → (held : Areas) {before after : Areas} → before ≡ with_installed cs held
       → after ≡ with_bytes (Side place 0) 0 bytes before → {put : List (Cluster Bytes)} → cs ++ c ∷ [] ≡ put
       → (more ≡ placed_from 0 put) × Ran obeys (installs 0 put) old new × (after ≡ with_installed put held)
-  next-put obeyed {more} added held {before} {after} held-is put_there is_put =
-      subst (λ l. (more ≡ placed_from 0 l) × Ran obeys (installs 0 l) old new × (after ≡ with_installed l held)) is_put (
+  next-put obeyed {more} added held {before} {after} held-is put_there e =
+      subst (λ l. (more ≡ placed_from 0 l) × Ran obeys (installs 0 l) old new × (after ≡ with_installed l held)) e (
         added ∙ (λ i. is i ++ placed (place-is i) c ∷ [])
             ∙ ap (λ n. placed_from 0 cs ++ placed n c ∷ []) (sym (zero-add (length cs))) ∙ sym (placed-append 0 cs c),
         subst (λ steps. Ran obeys steps old new) (sym (installs-next cs c))

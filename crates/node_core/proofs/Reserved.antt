@@ -34,6 +34,7 @@ use Rattle.node_core.proofs.Sound.{sound-stands}
 use Rattle.node_core.proofs.Sound.{sound-stands}
 use Rattle.node_core.proofs.Sound.{sound-stands}
 use Rattle.node_core.proofs.Sound.{sound-stands}
+use Rattle.node_core.proofs.Sound.{sound-stands}
 use Rattle.node_core.proofs.Runs.{reads-none, reads-once, reads-wrote}
 use Rattle.node_core.proofs.Staging.{failed-stands, found-fits, found-slot, put-left, put-ready}
 use Rattle.node_core.proofs.Stored.{found-means}

@@ -1,4 +1,4 @@
-use Rattle.node_core.proofs.Names.{arith, Call, IfOk, IsReady, Readied, TransferData, ap, holding, over}
+use Rattle.node_core.proofs.Names.{Call, IfOk, IsReady, Readied, TransferData, ap, holding, over}
 use Rattle.node_core.proofs.Names.{subst, sym, ◌∙◌, ◌≡◌}
 use Rattle.node_core.proofs.Reserved.{failed-reserves, nothing-handed, nothing-reserves, other-ready, reserves-at, stand-sound}
 use Rattle.node_core.proofs.reserving.prepare.Goals as goal
@@ -53,13 +53,9 @@ returns-in-TransferExit-clause-reserves g c =
     (λ i. (c.ready.view_is i, sym c.in-TransferExit.is i)) ready)
     c.read.ensures.reserves
 
-pub returns-in_default : goal.returns-in_default
-returns-in_default g c = record {
-  reserves = nothing-reserves g.S.Staging.obeys g.S.Staging.areas c.args.ready.now.state _ (λ end. tt)
-      c.requires.sound (λ held fit stand. other-ready (holding held c.args.ready.now.state) c.args.client
-      c.args.call.now c.in_default.not-TransferData c.in_default.not-TransferExit c.in_default.not-ProcessSwPackage
-      c.in_default.not-Activate);
-  fit = c.requires.fit;
-  cause = λ is. absurd (cc is);
-  faults = omega arith;
-}
+pub returns-in_default-clause-reserves : goal.returns-in_default-clause-reserves
+returns-in_default-clause-reserves g c =
+    nothing-reserves g.S.Staging.obeys g.S.Staging.areas c.args.ready.now.state _ (λ end. tt) c.requires.sound
+    (λ held fit stand. other-ready (holding held c.args.ready.now.state) c.args.client c.args.call.now
+    c.in_default.not-TransferData c.in_default.not-TransferExit c.in_default.not-ProcessSwPackage
+    c.in_default.not-Activate)

@@ -53,8 +53,8 @@ returns-clause-reserves g c =
     ∙ none-unless _ (λ some. absurd (cc (c.in-Some.ensures.refused.1 some))) in
     let is : found_of s.transfers c.args.client c.args.id ≡ Some c.in-Some.found = same ∙ c.in-Some.ensures.found in
     let fit = g.met.S.Staging.areas_fit c.args.staging.now in
-    block-reserves g.S.Staging.obeys g.S.Staging.areas s c.args.staging.now c.put.new.self c.requires.sound c.args.client
-    c.args.id c.args.counter c.args.block.now c.in-Some.found is c.in-Some.ensures.fits accepted (Ok tt) fit
-    (writes-one _ _ _ _ _ _ _ c.in_ok-put.ensures.obeys) (λ e. c.in_ok-put.ensures.put)
+    block-reserves g.S.Staging.obeys g.S.Staging.areas s c.args.staging.now c.put.new.self c.requires.sound
+    c.args.client c.args.id c.args.counter c.args.block.now c.in-Some.found is c.in-Some.ensures.fits accepted (Ok tt)
+    fit (writes-one _ _ _ _ _ _ _ c.in_ok-put.ensures.obeys) (λ e. c.in_ok-put.ensures.put)
     (rw c.in_ok-put.ensures.put (put-left (holding (g.S.Staging.areas c.args.staging.now) s) c.requires.sound
     c.args.client c.args.id c.in-Some.found is fit c.args.block.now))
