@@ -81,7 +81,8 @@ fails-said : (disk : ℕ) (kind : FailKind) (call : ℕ) (lines : List FaultLine
 fails-said disk kind call [] = refl
 fails-said disk kind call (f ∷ fs) =
     ap (λ xs. is_listed xs kind call) (flat_map-cons (fails_by disk) f fs)
-    ∙ list_any-append (λ (fail : FailKind × ℕ). same_kind fail.0 kind && (fail.1 == call)) (fails_by disk f) (flat_map (fails_by disk) fs)
+    ∙ list_any-append (λ (fail : FailKind × ℕ). same_kind fail.0 kind && (fail.1 == call)) (fails_by disk f)
+    (flat_map (fails_by disk) fs)
     ∙ ap (λ x. x || is_listed (flat_map (fails_by disk) fs) kind call) (line-said disk kind call f)
     ∙ ap (λ x. has_call disk kind call f || x) (fails-said disk kind call fs)
 

@@ -1,4 +1,5 @@
-//! What the lines of a script say of an attempt at a node, and of a call of a disk, and the plan that a disk is armed with.
+//! What the lines of a script say of an attempt at a node and of a call of a disk, and the plan that a disk is armed
+//! with.
 ghost use Rattle.std.specs.Prelude.{◌≡◌, ◌++◌, IfOk, OnOk};
 ghost use Rattle.std.specs.List.{flat_map};
 ghost use Rattle.disk_mem.specs.Strikes.{same_kind};
