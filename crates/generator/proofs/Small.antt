@@ -14,6 +14,7 @@ use Rattle.package_reader.specs.Printing.{all_belong, is_too_large, package_text
 use Rattle.package_reader.specs.Reading.{are_parts, reading}
 use Rattle.package_reader.specs.Spelling.{IsPackage}
 use Rattle.package_reader.specs.Packed.{PackedOf}
+use Rattle.vehicle_package.specs.Spelling.{IsCarried}
 use Rattle.package_reader.proofs.Again.{package_is_read}
 use Rattle.package_reader.proofs.Blocks.{ok_is}
 use Rattle.package_reader.proofs.Sizes.{whole_size}
@@ -50,15 +51,19 @@ module _ (number i : ℕ) (part : Part Bytes) (is : part ≡ part_of number i) (
   bytes-short bytes e =
       omega (arith, whole_short number i form-of, ap length e, ap (λ p. length (package_text (p ∷ []))) is)
 
-  -- they are read as it
+  -- they are its package, and are read as it
+  is-package : (bytes : List ℕ) → (are_parts (part ∷ []) ≡ true → is_too_large (part ∷ []) ≡ false
+      → all_belong (part ∷ []) ≡ true → IsPackage bytes (part ∷ [])) → IsPackage bytes (part_of number i ∷ [])
+  is-package bytes printed =
+      let printed_of = subst (λ (p : Part Bytes). are_parts (p ∷ []) ≡ true → is_too_large (p ∷ []) ≡ false
+      → all_belong (p ∷ []) ≡ true → IsPackage bytes (p ∷ [])) is printed in
+      printed_of refl (not_large number i form-of) (belong number i)
+
   pub is-read : (bytes given : List ℕ) → given ≡ bytes → (are_parts (part ∷ []) ≡ true
       → is_too_large (part ∷ []) ≡ false → all_belong (part ∷ []) ≡ true → IsPackage bytes (part ∷ []))
       → reading given ≡ Ok (part_of number i ∷ [])
   is-read bytes given same printed =
-      let printed_of = subst (λ (p : Part Bytes). are_parts (p ∷ []) ≡ true → is_too_large (p ∷ []) ≡ false
-      → all_belong (p ∷ []) ≡ true → IsPackage bytes (p ∷ [])) is printed in
-      ap reading same
-      ∙ package_is_read bytes (part_of number i ∷ []) (printed_of refl (not_large number i form-of) (belong number i))
+      ap reading same ∙ package_is_read bytes (part_of number i ∷ []) (is-package bytes printed)
 
   pub is-packed : {E : Type 0} (bytes given : List ℕ) (r : Result PackedOf E) → given ≡ bytes
       → bytes ≡ package_text (part ∷ []) → reading given ≡ Ok (part_of number i ∷ []) → IfOk r (λ p. p.bytes ≡ given)
@@ -68,3 +73,16 @@ module _ (number i : ℕ) (part : Part Bytes) (is : part ≡ part_of number i) (
       let whole = kept ∙ same ∙ text ∙ ap (λ q. package_text (q ∷ [])) is in
       let parts = ok_is p.parts (part_of number i ∷ []) (sym told ∙ read) in
       λ k. record { bytes = whole k; parts = parts k }
+
+  -- so a vehicle may carry it
+  pub is-carried : {E : Type 0} (bytes : List ℕ) (r : Result PackedOf E) → bytes ≡ package_text (part ∷ [])
+      → (are_parts (part ∷ []) ≡ true → is_too_large (part ∷ []) ≡ false → all_belong (part ∷ []) ≡ true
+      → IsPackage bytes (part ∷ [])) → IfOk r (λ p. p ≡ package_of number i) → IfOk r IsCarried
+  is-carried bytes (Err e) text printed made = tt
+  is-carried bytes (Ok p) text printed made =
+      let whole = text ∙ ap (λ q. package_text (q ∷ [])) is in
+      let small : length (package_of number i).bytes ≤ package_limit = omega (arith, whole_short number i form-of) in
+      subst IsCarried (sym made) (record {
+        small = small;
+        is = subst (λ b. IsPackage b (part_of number i ∷ [])) whole (is-package bytes printed);
+      })

@@ -2,6 +2,7 @@
 ghost use Rattle.std.specs.Prelude.{◌≡◌, ◌<◌, ◌≤◌, ◌+◌, ◌^◌, IfOk, IsOk, Ok, length, string_bytes};
 ghost use Rattle.package_reader.specs.Reading.{reading};
 ghost use Rattle.manifest.specs.Valid.{IsManifest};
+ghost use Rattle.vehicle_package.specs.Spelling.{IsCarried};
 ghost use Rattle.generator.specs.Demo.{manifest_of, name_of, package_of, part_of, payload_of, payload_size, version_of};
 
 use package_reader::{PackageError, Packed, seal_package};
@@ -104,7 +105,8 @@ fn packed(alloc: Global, bytes: Block) -> Result<Packed, AllocError>
 /// The package at a place.
 pub(crate) fn package_of(alloc: Global, number: u32, place: u16) -> Result<Packed, AllocError>
     requires { place < 16 }
-    ensures { IfOk result (λ packed. packed ≡ package_of number place) }
+    ensures made { IfOk result (λ packed. packed ≡ package_of number place) }
+    ensures carried { IfOk result IsCarried }
 {
     let part = part_of(alloc, number, place)?;
     let bytes = seal_package(alloc, &[part])?;

@@ -1,8 +1,9 @@
 //! The script of a number.
 ghost use Rattle.std.specs.Prelude.{◌≡◌, ◌<◌, IfOk, map};
-ghost use Rattle.std.specs.List.{range_with_len};
+ghost use Rattle.std.specs.List.{AllByRecursion, range_with_len};
 ghost use Rattle.run_script.specs.InForm.{IsInForm};
 ghost use Rattle.run_script.specs.Scripts.{said};
+ghost use Rattle.vehicle_package.specs.Spelling.{IsCarried};
 ghost use Rattle.generator.specs.Demo.{demo_of, numbers, package_of, step_of};
 
 use crate::packages::{PACKAGES, package_of};
@@ -40,9 +41,10 @@ fn steps(alloc: Global) -> Result<Steps, AllocError>
     Ok(steps)
 }
 
-#[tactic(auto, using(crate::proofs::Words::one_more))]
+#[tactic(auto, using(crate::proofs::Words::one_more, crate::proofs::Loaded::one_carried))]
 fn packages(alloc: Global, number: u32) -> Result<Packages, AllocError>
-    ensures { IfOk result (λ packages. packages ≡ map (package_of number) numbers) }
+    ensures made { IfOk result (λ packages. packages ≡ map (package_of number) numbers) }
+    ensures carried { IfOk result (AllByRecursion IsCarried) }
 {
     let mut packages = Packages::new(alloc);
     for place in 0..PACKAGES {

@@ -7,7 +7,7 @@ use Rattle.node_core.proofs.Names.{TransferStart, Transferred, Transferring, Ver
 use Rattle.node_core.proofs.Names.{bad_refusal, both-none, close, data_refusals, delete, delete_refusals, deleted}
 use Rattle.node_core.proofs.Names.{each-append, each-both, each-filter, each-imp, exit_refusals, exited, false}
 use Rattle.node_core.proofs.Names.{filter-means, first_refusal, found-has, good_parts, grown, header-means, header_of}
-use Rattle.node_core.proofs.Names.{if◌then◌else◌, in_phase, is-transferring, is_in, is_of, kept_by, last_id, length}
+use Rattle.node_core.proofs.Names.{in_phase, is-transferring, is_in, is_of, kept_by, last_id, length}
 use Rattle.node_core.proofs.Names.{length-map, lowest_free, map, map-append, meaning, nat_le, nat_lt, nat_tests}
 use Rattle.node_core.proofs.Names.{node_of, not, not-false, option_map, option_map_or, option_or, over, package_limit}
 use Rattle.node_core.proofs.Names.{package_reading, parts_read, received, refl, refusal_by, refused_or, rows-clear}
@@ -16,8 +16,8 @@ use Rattle.node_core.proofs.Names.{started, stored_header, stored_of, subst, sym
 use Rattle.node_core.proofs.Names.{take, take_block, transfer_limit, transfer_meaning, transfer_of, true, under}
 use Rattle.node_core.proofs.Names.{unless_refused, verdict_in, verdict_kept, verdict_on, verdict_refusal, whole}
 use Rattle.node_core.proofs.Names.{with_block, with_bytes, with_fresh, with_length, with_stored, with_table}
-use Rattle.node_core.proofs.Names.{with_transfer, without, ℕ, [], ◌++◌, ◌+◌, ◌<◌, ◌==◌, ◌||◌, ◌∙◌, ◌∷◌, ◌≡◌, ◌≤◌}
-use Rattle.node_core.proofs.Stored.{rise, found-is, only-has, changed-means, found-means, some-stored, staged-bytes}
+use Rattle.node_core.proofs.Names.{with_transfer, without, ℕ, [], ◌++◌, ◌+◌, ◌<◌, ◌==◌, ◌||◌, ◌∙◌, ◌≡◌, ◌≤◌}
+use Rattle.node_core.proofs.Stored.{rise, found-is, only-has, changed-means, found-means, order-of, same-slots, some-stored, staged-bytes}
 use Rattle.node_core.proofs.Lists.{change-each, each-second}
 use Rattle.node_core.proofs.Sound.{table-is}
 
@@ -82,13 +82,6 @@ good-parts-are : (kept : Option ExitVerdict) (w : Verdict) → IsVerdictKept kep
     → good_parts (verdict_in kept) ≡ map with_length (parts_read w)
 good-parts-are kept w e k = grind arith
 
--- a change that keeps the slots
-same-slots : (id : ℕ) (g : StoredTransfer → StoredTransfer) → ((t : StoredTransfer) → (g t).slot ≡ t.slot)
-    → (ts : List StoredTransfer) → map (λ t. t.slot) (map (λ t. if t.header.id == id then g t else t) ts)
-    ≡ map (λ t. t.slot) ts
-same-slots id g keeps [] = refl
-same-slots id g keeps (t ∷ ts) = grind (arith, same-slots id g keeps ts, keeps t)
-
 -- a sound node, and a client
 module _ (v : Holding) (sound : IsSound v) (client : ℕ) where
   abbrev k : Keeping StoredTransfer
@@ -107,14 +100,9 @@ module _ (v : Holding) (sound : IsSound v) (client : ℕ) where
       → StandsFor v.areas (record v.state { next_id = next; transfers = ts }) n
   stands next ts n node each slots = record {
     node = node;
-    order = record {
-      clusters = sound.order.clusters;
-      session = sound.order.session;
-      transfers = each-imp _ _ (λ t is. record { slot = is.0; contents = is.1.0 }) ts each;
-      slots = slots;
-      places = sound.order.places;
-      running = sound.order.running;
-    };
+    order = order-of (record v.state { next_id = next; transfers = ts })
+        (each-imp _ _ (λ t is. record { slot = is.0; contents = is.1.0 }) ts each) slots sound.order.running
+        sound.order;
     copied = each-imp _ _ (λ t is. is.1.1) ts each;
   }
 

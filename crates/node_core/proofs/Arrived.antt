@@ -5,7 +5,7 @@ use Rattle.node_core.proofs.Names.{Option, Outcome, Ready, Resume, RunsWhatItSho
 use Rattle.node_core.proofs.Names.{State, Status, StoredTransfer, To, arith, arrive, clean_up, each-imp, extents_of}
 use Rattle.node_core.proofs.Names.{led_by, map, meaning, option_map_or, package_reading, places_in, refl, should_run}
 use Rattle.node_core.proofs.Names.{status_table, subst, sym, transfer_meaning, units_done, ℕ, [], ◌∙◌, ◌∷◌, ◌≡◌}
-use Rattle.node_core.proofs.Stored.{copied-when}
+use Rattle.node_core.proofs.Stored.{copied-when, order-of}
 
 -- what is copied stays copied while as many units are done, and the same clusters run at the same places
 pub copied-by : (areas : Areas) (s n : State) → units_done n ≡ units_done s → n.running ≡ s.running
@@ -67,15 +67,7 @@ module _ (areas : Areas) (s : State) where
       (record (means (record s { session = o })) { status = status })
   to-there status o runs i copied = record {
     node = refl;
-    order = record {
-      clusters = i.clusters;
-      session = i.session;
-      transfers = i.transfers;
-      slots = i.slots;
-      places =
-          i.places;
-      running = runs;
-    };
+    order = order-of (record s { status = status; session = o }) i.transfers i.slots runs i;
     copied = copied-by areas (record s { session = o })
         (record s { status = status; session = o }) refl refl refl s.transfers copied;
   }
@@ -89,14 +81,7 @@ module _ (areas : Areas) (s : State) where
       (arrive (means (record s { session = o })) (CleanUp outcome))
   cleaning-there outcome None runs i copied = record {
     node = refl;
-    order = record {
-      clusters = i.clusters;
-      session = tt;
-      transfers = i.transfers;
-      slots = i.slots;
-      places = i.places;
-      running = tt;
-    };
+    order = order-of (clean_up outcome (record s { session = None })) i.transfers i.slots tt i;
     copied = copied-by areas (record s { session = None })
         (clean_up outcome (record s { session = None })) refl refl refl s.transfers copied;
   }

@@ -1,6 +1,6 @@
 -- ProcessSwPackage is judged as the node's table says.
-use Rattle.node_core.proofs.Names.{Activate, AllByRecursion, BeingProcessed, Bool, Extent, Holding, Idle}
-use Rattle.node_core.proofs.Names.{InvalidTransferId, IsCopied, IsInOrder, IsPlaced, IsReady, IsSound, List, None}
+use Rattle.node_core.proofs.Names.{AllByRecursion, BeingProcessed, Bool, Extent, Holding, Idle}
+use Rattle.node_core.proofs.Names.{InvalidTransferId, IsCopied, IsInOrder, IsPlaced, IsSound, List, None}
 use Rattle.node_core.proofs.Names.{OperationNotPermitted, Option, ProcessSwPackage, Refusal, Session, SessionOf, Some}
 use Rattle.node_core.proofs.Names.{StandsFor, State, StoredTransfer, Transfer, Transferred, activate_refusal, ap}
 use Rattle.node_core.proofs.Names.{arith, begin_processing, both-none, change_meaning, changes_in, cluster_place}
@@ -10,7 +10,7 @@ use Rattle.node_core.proofs.Names.{missing_dependencies, names_fit_places, new_s
 use Rattle.node_core.proofs.Names.{option_map, option_map_or, option_or, package_reading, package_refusals, parts_of}
 use Rattle.node_core.proofs.Names.{parts_refusal, phase_code, planned, refl, refusal_by, rows-clear, session_meaning}
 use Rattle.node_core.proofs.Names.{session_refusals, should_run, some_passes, stored_header, stored_of, subst, sym}
-use Rattle.node_core.proofs.Names.{take_up, transfer_meaning, transfer_of, true, unmet_among, unmet_kept, unwrap_or}
+use Rattle.node_core.proofs.Names.{take_up, transfer_meaning, transfer_of, true, unmet_among, unwrap_or}
 use Rattle.node_core.proofs.Names.{with_length, with_slots, ℕ, [], ◌++◌, ◌==◌, ◌∙◌, ◌∷◌, ◌≡◌}
 use Rattle.node_core.proofs.Phased.{phased, phased-order, phased-means, phased-placed, phased-slots, session-refused}
 use Rattle.node_core.proofs.Stored.{copied-when, found-means, some-stored}
@@ -183,14 +183,3 @@ unmet-same v = ap (option_map missing_dependencies) (go v.state.session)
     go None = sym (unmet-means v.areas v.state.running)
     go (Some x) = sym (unmet-means v.areas (planned x.changes x.saved))
         ∙ ap unmet_among (sym (planned-means v.areas x.changes x.saved))
-
--- Activate is refused by the need that was looked for
-pub activate-refused : (v : Holding) (client : ℕ) → IsReady v client Activate → refusal_by v client Activate
-    ≡ option_or (first_refusal (session_refusals v.state client Activate)) (unwrap_or (unmet_kept v.prepared) None)
-activate-refused v client ready =
-    go (first_refusal (session_refusals (node_of v) client Activate)) ready
-    ∙ ap (λ o. option_or o (unwrap_or (unmet_kept v.prepared) None)) (session-refused v client Activate)
-  where
-    go : (o : Option Refusal) → (o ≡ None → unmet_kept v.prepared ≡ Some (activate_refusal (node_of v)))
-        → option_or o (activate_refusal (node_of v)) ≡ option_or o (unwrap_or (unmet_kept v.prepared) None)
-    go o kept = grind arith

@@ -7,36 +7,35 @@ use Rattle.node_core.proofs.Names.{RevertProcessedSwPackages, Rollback, Some, St
 use Rattle.node_core.proofs.Names.{StoredTransfer, Sync, SyncedTo, TransferData, TransferExit, TransferStart, accept}
 use Rattle.node_core.proofs.Names.{acceptance, accepted, after_call, after_reply, answer_with, ap, arith}
 use Rattle.node_core.proofs.Names.{client_limit, execute, kept_by, led_by, node_of, of_client, package_reading}
-use Rattle.node_core.proofs.Names.{put_back, refl, refusal_by, refused_or, repeat_of, reply_by, step_by, subst, sym}
-use Rattle.node_core.proofs.Names.{take_up, under, verdict_on, with_entry, with_kept, ℕ, ◌<◌, ◌∙◌, ◌≡◌}
+use Rattle.node_core.proofs.Names.{refl, refusal_by, refused_or, repeat_of, reply_by, step_by, subst, sym}
+use Rattle.node_core.proofs.Names.{under, verdict_on, with_entry, with_kept, ℕ, ◌<◌, ◌∙◌, ◌≡◌}
 use Rattle.node_core.proofs.Accepted.{block-stands, close-stands, delete-stands, start-stands}
 use Rattle.node_core.proofs.Arrived.{copied-by, led-stands}
 use Rattle.node_core.proofs.Begun.{process-stands}
 use Rattle.node_core.proofs.Phased.{cancel-stands}
-use Rattle.node_core.proofs.Sound.{step-fit, step-is}
+use Rattle.node_core.proofs.Sound.{sound-stands, step-fit, step-is}
+use Rattle.node_core.proofs.Stored.{order-of}
 use Rattle.pm_types.specs.Steps.{by_last, executed as executed_by}
-
--- a sound node stands for itself
-pub own-stands : (v : Holding) → IsSound v → StandsFor v.areas v.state (node_of v)
-own-stands v sound = record { node = refl; order = sound.order; copied = sound.copied }
 
 -- what an accepted call makes of the stored state stands for what it makes of the node
 pub accept-stands : (v : Holding) → IsSound v → (client : ℕ) (call : Call) → IsReady v client call
     → refusal_by v client call ≡ None
     → StandsFor v.areas (accept (kept_by (under v)) v.state client call)
     (accepted (node_of v) client call (verdict_on v client call))
-accept-stands v sound client Sync ready none = own-stands v sound
+accept-stands v sound client Sync ready none = sound-stands v sound
 accept-stands v sound client (TransferStart size) ready none = start-stands v sound client size none
 accept-stands v sound client (TransferData id counter bytes) ready none =
     block-stands v sound client id counter bytes ready none
 accept-stands v sound client (TransferExit id) ready none = close-stands v sound client id ready none
 accept-stands v sound client (DeleteTransfer id) ready none = delete-stands v sound client id
 accept-stands v sound client (ProcessSwPackage id tag) ready none = process-stands v client id tag sound none
-accept-stands v sound client Activate ready none = led-stands v.areas v.state (node_of v) Activate (own-stands v sound)
-accept-stands v sound client Finish ready none = led-stands v.areas v.state (node_of v) Finish (own-stands v sound)
-accept-stands v sound client Rollback ready none = led-stands v.areas v.state (node_of v) Rollback (own-stands v sound)
+accept-stands v sound client Activate ready none =
+    led-stands v.areas v.state (node_of v) Activate (sound-stands v sound)
+accept-stands v sound client Finish ready none = led-stands v.areas v.state (node_of v) Finish (sound-stands v sound)
+accept-stands v sound client Rollback ready none =
+    led-stands v.areas v.state (node_of v) Rollback (sound-stands v sound)
 accept-stands v sound client RevertProcessedSwPackages ready none =
-    led-stands v.areas v.state (node_of v) RevertProcessedSwPackages (own-stands v sound)
+    led-stands v.areas v.state (node_of v) RevertProcessedSwPackages (sound-stands v sound)
 accept-stands v sound client (Cancel id) ready none = cancel-stands v client id sound none
 
 -- what isn't answered by a refusal is accepted
@@ -54,7 +53,7 @@ answer-stands : (v : Holding) → IsSound v → (client : ℕ) (call : Call) →
     → reply ≡ reply_by v client call
     → StandsFor v.areas (answer_with (kept_by (under v)) v.state client call reply)
     (after_reply (node_of v) client call (verdict_on v client call) reply)
-answer-stands v sound client call ready (Refused why) e = own-stands v sound
+answer-stands v sound client call ready (Refused why) e = sound-stands v sound
 answer-stands v sound client call ready Done e =
     accept-stands v sound client call ready (accepted-none v client call Done e (λ why q. absurd (cc)))
 answer-stands v sound client call ready (Started id) e =
@@ -68,59 +67,29 @@ led-entries s c = grind arith
 
 accept-entries : (k : Keeping StoredTransfer) (s : State) (client : ℕ) (call : Call)
     → (accept k s client call).entries ≡ s.entries
-accept-entries k s client Sync = refl
-accept-entries k s client (TransferStart size) = refl
-accept-entries k s client (TransferData id counter bytes) = refl
-accept-entries k s client (TransferExit id) = refl
-accept-entries k s client (DeleteTransfer id) = refl
-accept-entries k s client (ProcessSwPackage id tag) =
-    led-entries (take_up k s client id tag) (ProcessSwPackage id tag)
-accept-entries k s client Activate = led-entries s Activate
-accept-entries k s client Finish = led-entries s Finish
-accept-entries k s client Rollback = led-entries s Rollback
-accept-entries k s client RevertProcessedSwPackages = led-entries s RevertProcessedSwPackages
-accept-entries k s client (Cancel id) = led-entries (put_back k s id) (Cancel id)
+accept-entries k s client call = grind (arith, led-entries)
 
--- a number, a reply and a line change nothing that order looks at
-entered-stands : (areas : Areas) (s : State) (n : NodeState) (happened : Happened) (client : ℕ) (at : CallNo)
-    (reply : Reply) → StandsFor areas s n
-    → StandsFor areas (with_entry happened (with_kept client at reply s))
-    (with_entry happened (with_kept client at reply n))
-entered-stands areas s n happened client at reply stands = record {
-  node = ap (λ m. with_entry happened (with_kept client at reply m)) stands.node;
-  order = record {
-    clusters = stands.order.clusters;
-    session = stands.order.session;
-    transfers = stands.order.transfers;
-    slots = stands.order.slots;
-    places = stands.order.places;
-    running = stands.order.running;
-  };
-  copied =
-      copied-by areas s (with_entry happened (with_kept client at reply s)) refl refl refl s.transfers stands.copied;
+-- a number and a reply change nothing that order looks at
+kept-stands : (areas : Areas) (s : State) (n : NodeState) (client : ℕ) (at : CallNo) (reply : Reply)
+    → StandsFor areas s n → StandsFor areas (with_kept client at reply s) (with_kept client at reply n)
+kept-stands areas s n client at reply stands = let i = stands.order in record {
+  node = ap (with_kept client at reply) stands.node;
+  order = order-of (with_kept client at reply s) i.transfers i.slots i.running i;
+  copied = copied-by areas s (with_kept client at reply s) refl refl refl s.transfers stands.copied;
 }
 
+-- nor does a line
 pub line-stands : (areas : Areas) (s : State) (n : NodeState) (happened : Happened) → StandsFor areas s n
     → StandsFor areas (with_entry happened s) (with_entry happened n)
-line-stands areas s n happened stands = record {
+line-stands areas s n happened stands = let i = stands.order in record {
   node = ap (with_entry happened) stands.node;
-  order = record {
-    clusters = stands.order.clusters;
-    session = stands.order.session;
-    transfers = stands.order.transfers;
-    slots = stands.order.slots;
-    places = stands.order.places;
-    running = stands.order.running;
-  };
+  order = order-of (with_entry happened s) i.transfers i.slots i.running i;
   copied = copied-by areas s (with_entry happened s) refl refl refl s.transfers stands.copied;
 }
 
 pub same-entries : (k : Keeping StoredTransfer) (s : State) (client : ℕ) (call : Call) (reply : Reply)
     → (answer_with k s client call reply).entries ≡ s.entries
-same-entries k s client call (Refused why) = refl
-same-entries k s client call Done = accept-entries k s client call
-same-entries k s client call (Started id) = accept-entries k s client call
-same-entries k s client call (SyncedTo shown) = accept-entries k s client call
+same-entries k s client call reply = grind (arith, accept-entries k s client call)
 
 -- what a step gives that isn't newer, and what one gives that is
 module _ (v : Holding) (client : ℕ) (at : CallNo) (call : Call) where
@@ -158,7 +127,8 @@ module _ (v : Holding) (client : ℕ) (at : CallNo) (call : Call) where
       ∙ ap (after_call (node_of v) client at call (verdict_on v client call)) (sym e) in
       let stands = subst (λ z. StandsFor v.areas z (step_by v client at call).0) (sym is)
       (subst (StandsFor v.areas (execute (kept_by (under v)) v.state client at call reply)) (sym after)
-      (entered-stands v.areas _ _ _ client at reply (answer-stands v sound client call ready reply e))) in
+      (line-stands v.areas _ _ _
+      (kept-stands v.areas _ _ client at reply (answer-stands v sound client call ready reply e)))) in
       record {
         reached = answer-is reply none e;
         node = stands.node;

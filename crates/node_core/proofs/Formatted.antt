@@ -8,13 +8,12 @@ use Rattle.transfer_blocks.specs.declared.fault.StagingError.TheVariants.{Failed
 use Rattle.node_core.proofs.Runs.{ok-faultless}
 use Rattle.transfer_blocks.proofs.Areas.{fits-with}
 use Rattle.transfer_blocks.proofs.Runs.{ran_both, wrote_both}
-use Rattle.node_core.proofs.Lists.{each-append, each-first}
 use Rattle.node_core.specs.Format.{Formats, Installs, IsFormatted, installs, with_installed}
 use Rattle.node_core.proofs.Names.{map-append, zero-add, IsArea, overwritten, length-drop, drop}
 use Rattle.node_core.proofs.Lists.{each-second}
 use Rattle.node_core.proofs.Names.{AllByRecursion, AreInstalled, Area, Areas, AreasFit, Bytes, Cluster, Extent, IsExtent, IsFit}
 use Rattle.node_core.proofs.Names.{IsSound, List, Side, ap, append-nil, ap₂, arith, bytes_eq, cluster_limit, cluster_meaning}
-use Rattle.node_core.proofs.Names.{cluster_place, content-elsewhere, content-here, content_of, different_names, each-unmap, false}
+use Rattle.node_core.proofs.Names.{cluster_place, content-elsewhere, content-here, content_of, different_names, each-append, each-first, each-unmap, false}
 use Rattle.node_core.proofs.Names.{formatted, fresh_state, holding, in_order, keeps-fit, length, length-append, length-map, map}
 use Rattle.node_core.proofs.Names.{name_lt, names-behind, names-tail, names_fit_places, names_of, names_rise, nat_tests}
 use Rattle.node_core.proofs.Names.{package_limit, package_reading, placed, placed_from, refl, subst, sym, take, true}
@@ -30,7 +29,8 @@ now lent = lent.now
 
 -- what was put, the next one and the rest are all that was lent
 pub whole-lent : (put rest : List (Bor (Cluster Bytes))) {ahead first all : List (Bor (Cluster Bytes))}
-    (x : Bor (Cluster Bytes)) → ahead ≡ x ∷ rest → put ++ ahead ≡ first → first ≡ all → map now put ++ x.now ∷ map now rest ≡ map now all
+    (x : Bor (Cluster Bytes)) → ahead ≡ x ∷ rest → put ++ ahead ≡ first → first ≡ all
+    → map now put ++ x.now ∷ map now rest ≡ map now all
 whole-lent put rest x next so_far begins =
     sym (map-append now put (x ∷ rest)) ∙ ap (map now) (ap (λ l. put ++ l) (sym next) ∙ so_far ∙ begins)
 
@@ -229,26 +229,21 @@ module _ {S : Type 0} (obeys : S → Step → S → Type 0) (cs rest all : List 
     whole = λ e. absurd (cc e);
   }
 
-  pub next-ran : obeys at (puts (Side place 0) 0 bytes (Ok tt)) new → Ran obeys (installs 0 (cs ++ c ∷ [])) old new
-  next-ran obeyed =
-      subst (λ steps. Ran obeys steps old new) (sym (installs-next cs c))
-      (ran_both obeys (installs 0 cs) _ old at new ran (new, put-here (Ok tt) obeyed, refl))
-
-  -- one more is placed
-  pub next-placed : (more : List (Cluster Extent)) → more ≡ stored ++ placed place c ∷ []
-      → more ≡ placed_from 0 (cs ++ c ∷ [])
-  next-placed more added =
-      added ∙ (λ i. is i ++ placed (place-is i) c ∷ []) ∙ ap (λ n. placed_from 0 cs ++ placed n c ∷ [])
-      (sym (zero-add (length cs)))
-      ∙ sym (placed-append 0 cs c)
-
-  -- and the areas hold one more
-  pub next-areas : (held before after : Areas) → before ≡ with_installed cs held
-      → after ≡ with_bytes (Side place 0) 0 bytes before → after ≡ with_installed (cs ++ c ∷ []) held
-  next-areas held before after held-is put =
-      put ∙ (λ i. with_bytes (Side (place-is i) 0) 0 (same i) (held-is i))
-      ∙ sym (ap (λ steps. wrote steps held) (installs-next cs c)
-      ∙ wrote_both (installs 0 cs) (puts (Side (length cs) 0) 0 c.content (Ok tt) ∷ []) held)
+  -- one more is placed and put, and the areas hold it
+  pub next-put : obeys at (puts (Side place 0) 0 bytes (Ok tt)) new → {more : List (Cluster Extent)}
+      → more ≡ stored ++ placed place c ∷ [] → (held : Areas) {before after : Areas} → before ≡ with_installed cs held
+      → after ≡ with_bytes (Side place 0) 0 bytes before → {put : List (Cluster Bytes)} → cs ++ c ∷ [] ≡ put
+      → (more ≡ placed_from 0 put) × Ran obeys (installs 0 put) old new × (after ≡ with_installed put held)
+  next-put obeyed {more} added held {before} {after} held-is put_there e =
+      subst (λ l. (more ≡ placed_from 0 l) × Ran obeys (installs 0 l) old new × (after ≡ with_installed l held)) e (
+        added ∙ (λ i. is i ++ placed (place-is i) c ∷ [])
+            ∙ ap (λ n. placed_from 0 cs ++ placed n c ∷ []) (sym (zero-add (length cs))) ∙ sym (placed-append 0 cs c),
+        subst (λ steps. Ran obeys steps old new) (sym (installs-next cs c))
+            (ran_both obeys (installs 0 cs) _ old at new ran (new, put-here (Ok tt) obeyed, refl)),
+        put_there ∙ (λ i. with_bytes (Side (place-is i) 0) 0 (same i) (held-is i))
+            ∙ sym (ap (λ steps. wrote steps held) (installs-next cs c)
+            ∙ wrote_both (installs 0 cs) (puts (Side (length cs) 0) 0 c.content (Ok tt) ∷ []) held),
+      )
 
 -- all are put
 pub all-formats : {S : Type 0} (obeys : S → Step → S → Type 0) (cs all : List (Cluster Bytes)) (old new : S)

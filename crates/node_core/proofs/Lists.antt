@@ -1,11 +1,10 @@
 -- Facts of each member of a list, and lists in which one member is changed.
 use Rattle.std.specs.Prelude.{Err, IsErrAnd, Ok, Result}
-use Rattle.transfer_blocks.specs.Steps.{End}
 use Rattle.transfer_blocks.specs.declared.fault.StagingError.{StagingError}
 use Rattle.transfer_blocks.specs.declared.fault.StagingError.TheVariants.{Failed, OutOfMemory}
 use Rattle.node_core.specs.Errors.{end_by, error_of, fault_of}
 use Rattle.node_core.specs.declared.node.ReserveError.{ReserveError}
-use Rattle.node_core.proofs.Names.{subst, sym}
+use Rattle.node_core.proofs.Names.{ap}
 use Rattle.node_core.proofs.Names.{AllByRecursion, is_some, Bool, List, Some, and_parts, arith, both_true, cond, false, filter, find}
 use Rattle.node_core.proofs.Names.{if◌then◌else◌, list_all, list_any, map, neither, option_map, refl, true, [], ◌++◌, ◌||◌, ◌∷◌, ◌≡◌}
 
@@ -16,15 +15,6 @@ every f (x ∷ xs) = (f x, every f xs)
 pub each-second : {X : Type 0} (P : X → Type 0) (xs ys : List X) → AllByRecursion P (xs ++ ys) → AllByRecursion P ys
 each-second P [] ys h = h
 each-second P (x ∷ xs) ys h = each-second P xs ys h.1
-
-pub each-first : {X : Type 0} (P : X → Type 0) (xs ys : List X) → AllByRecursion P (xs ++ ys) → AllByRecursion P xs
-each-first P [] ys h = tt
-each-first P (x ∷ xs) ys h = (h.0, each-first P xs ys h.1)
-
-pub each-append : {X : Type 0} (P : X → Type 0) (xs ys : List X) → AllByRecursion P xs → AllByRecursion P ys
-    → AllByRecursion P (xs ++ ys)
-each-append P [] ys h more = more
-each-append P (x ∷ xs) ys h more = (h.0, each-append P xs ys h.1 more)
 
 -- a test that each passes
 pub all-each : {X : Type 0} (p : X → Bool) (xs : List X) → list_all p xs ≡ true → AllByRecursion (λ x. p x ≡ true) xs
@@ -86,17 +76,14 @@ pub change-each : {X : Type 0} (P : X → Type 0) (p : X → Bool) (g : X → X)
 change-each P p g [] changed each = tt
 change-each {X} P p g (x ∷ xs) changed each = grind (arith, change-each P p g xs changed.1 each.1)
 
--- what holds where an error was met holds where a `?` hands it on
-pub at-err : {X : Type 0} (P : End → Type 0) (e : ReserveError) (r : Result X ReserveError) → IsErrAnd r (λ x. x ≡ e)
-    → P (Err (fault_of e)) → P (end_by r)
-at-err P e (Err x) is p = subst (λ y. P (Err (fault_of y))) (sym is) p
-at-err P e (Ok x) is p = absurd is
+-- how what a `?` hands on ended
+pub end-err : {X : Type 0} (e : ReserveError) (r : Result X ReserveError) → IsErrAnd r (λ x. x ≡ e)
+    → end_by r ≡ Err (fault_of e)
+end-err e (Err x) is = ap (λ y. Err (fault_of y)) is
+end-err e (Ok x) is = absurd is
 
--- and where it was one of the staging
-pub at-fault : {X : Type 0} (P : End → Type 0) (fault : StagingError) (r : Result X ReserveError)
-    → IsErrAnd r (λ x. x ≡ error_of fault) → P (Err fault) → P (end_by r)
-at-fault P fault r is p = at-err P (error_of fault) r is (subst (λ f. P (Err f)) (same fault) p)
-  where
-    same : (fault : StagingError) → fault ≡ fault_of (error_of fault)
-    same Failed = refl
-    same OutOfMemory = refl
+-- and where it was an error of the staging
+pub end-fault : {X : Type 0} (fault : StagingError) (r : Result X ReserveError)
+    → IsErrAnd r (λ x. x ≡ error_of fault) → end_by r ≡ Err fault
+end-fault Failed r is = end-err _ r is
+end-fault OutOfMemory r is = end-err _ r is

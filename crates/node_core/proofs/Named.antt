@@ -91,14 +91,18 @@ one-at-most clusters changes parts name = grind arith
 abbrev pub rest_of : {X : Type 0} → List X → List X
 rest_of xs = take (length xs - 1) (drop 1 xs)
 
--- the rest of a list that is counted, one at a time
-module _ {X : Type 0} (total : List X → ℕ) (more : List X → X → ℕ) (step : (x : X) (xs : List X)
-    → total (x ∷ xs) ≡ more xs x + total xs) where
-  pub counted-on : (xs : List X) (x : X) (count n : ℕ) → 1 ≤ length xs → x ≡ get_or xs 0 x → count + total xs ≡ n
-      → count + more (rest_of xs) x + total (rest_of xs) ≡ n
-  counted-on [] x count n some is sum = absurd (omega (arith, some))
-  counted-on (y ∷ ys) x count n some is sum = grind (arith, step y ys, take_rest (y ∷ ys) 1)
-
-pub fewer-on : {X : Type 0} (xs : List X) → 1 ≤ length xs → length (rest_of xs) + 1 ≡ length xs
-fewer-on [] some = absurd (omega (arith, some))
-fewer-on (x ∷ xs) some = let rest = ap length (take_rest (x ∷ xs) 1) in omega (arith, rest)
+-- the rest of a list that is counted, one at a time, each as one more or as none
+pub counted-on : {X : Type 0} (total : List X → ℕ) (more : List X → X → ℕ)
+    → ((x : X) (xs : List X) → total (x ∷ xs) ≡ more xs x + total xs) → ((xs : List X) (x : X) → more xs x ≤ 1)
+    → (xs : List X) (x : X) (count now n few : ℕ) → 1 ≤ length xs → x ≡ get_or xs 0 x → now ≡ more (rest_of xs) x
+    → (count + total xs ≡ n) × (count + length xs ≤ few)
+    → (count + now + total (rest_of xs) ≡ n) × (count + now + length (rest_of xs) ≤ few)
+counted-on total more step least [] x count now n few some is one so_far = absurd (omega (arith, some))
+counted-on total more step least (y ∷ ys) x count now n few some is one so_far =
+    let rest = take_rest (y ∷ ys) 1 in
+    let sum = so_far.0 in
+    let room = so_far.1 in
+    let this : now ≡ more ys y = one ∙ (λ i. more (rest i) (is i)) in (
+      omega (arith, step y ys, this, sum, ap total rest),
+      omega (arith, least ys y, this, room, ap length rest),
+    )

@@ -1,13 +1,12 @@
 -- What a node reads as a package lies in its bytes, and is stored by the lengths of its payloads.
-use Rattle.node_core.proofs.Names.{AllByRecursion, Bad, Bytes, Err, Good, IsVerdict, List, Ok, PackageError, Part, Refusal, Result, and_parts, ap}
-use Rattle.node_core.proofs.Names.{arith, drop, length, length-drop, length-take, map, package_reading, part_limit, refl, subst, sym, true, verdict_of}
-use Rattle.node_core.proofs.Names.{with_length, [], ℕ, ◌∙◌, ◌∷◌, ◌≡◌, ◌≤◌}
-use Rattle.std.proofs.lemmas.Bool.{leb-true}
+use Rattle.node_core.proofs.Names.{AllByRecursion, Bad, Bytes, Err, Good, IsVerdict, List, Ok, PackageError, Part, Refusal, Result, ap}
+use Rattle.node_core.proofs.Names.{arith, drop, length, length-drop, length-take, map, package_reading, refl, subst, sym, verdict_of}
+use Rattle.node_core.proofs.Names.{with_length, [], ℕ, ◌∙◌, ◌∷◌, ◌≡◌}
 use Rattle.node_core.specs.Packages.{refusal_of}
 use Rattle.node_core.specs.Prepared.{stored_part}
 use Rattle.package_reader.proofs.Lies.{Read, parts_read}
 use Rattle.package_reader.specs.Fields.{◌>>=◌, LiesWithin}
-use Rattle.package_reader.specs.Reading.{are_parts, contents_of, reading, with_payload}
+use Rattle.package_reader.specs.Reading.{contents_of, reading, with_payload}
 use Rattle.package_reader.specs.declared.span.Span.{Span}
 
 pub parts-read : (bytes : Bytes) (parts : List (Part Bytes)) → package_reading bytes ≡ Ok parts → Read bytes parts
@@ -15,10 +14,6 @@ parts-read bytes parts e = parts_read bytes parts (verdict-ok (reading bytes) e)
   where
     verdict-ok : (r : Result (List (Part Bytes)) PackageError) → verdict_of r ≡ Ok parts → r ≡ Ok parts
     verdict-ok r e = grind (arith, e)
-
--- at most sixteen parts are read
-pub few-parts : (parts : List (Part Span)) → are_parts parts ≡ true → length parts ≤ part_limit
-few-parts parts are = leb-true (length parts) part_limit (and_parts _ _ (and_parts _ _ are).0).1
 
 module _ (bytes : Bytes) where
   same-lengths : (cs : List (Part Span)) → AllByRecursion (λ (c : Part Span). LiesWithin bytes c.payload) cs

@@ -11,19 +11,13 @@ use Rattle.node_core.proofs.Names.{session_refusals, slice_index_or, slots_diffe
 use Rattle.node_core.proofs.Names.{stop_processing, stored_header, stored_of, sym, take, transfer_meaning, true}
 use Rattle.node_core.proofs.Names.{units_done, with_bytes, with_length, with_phase, with_slots, ℕ, [], ◌==◌}
 use Rattle.node_core.proofs.Names.{◌∙◌, ◌∷◌, ◌≡◌}
-use Rattle.node_core.proofs.Arrived.{marked, copied-by, led-stands}
+use Rattle.node_core.proofs.Arrived.{marked, marked-order, copied-by, led-stands}
 use Rattle.node_core.proofs.Lists.{every, change-each}
-use Rattle.node_core.proofs.Stored.{rise, changed-means, only-has, some-stored}
+use Rattle.node_core.proofs.Stored.{rise, changed-means, only-has, order-of, same-slots, some-stored}
 
 -- the transfers with that of this id in a phase
 abbrev pub phased : ℕ → Phase → List StoredTransfer → List StoredTransfer
 phased id phase ts = map (λ t. if t.header.id == id then moved phase t else t) ts
-
--- the slots are as they were
-pub same-slots : (id : ℕ) (phase : Phase) (ts : List StoredTransfer)
-    → map (λ t. t.slot) (phased id phase ts) ≡ map (λ t. t.slot) ts
-same-slots id phase [] = refl
-same-slots id phase (t ∷ ts) = grind (arith, same-slots id phase ts)
 
 -- a transfer that is whole goes to a phase where it still is
 module _ (v : Holding) (sound : IsSound v) (client id : ℕ) (u : StoredTransfer)
@@ -61,7 +55,7 @@ module _ (v : Holding) (sound : IsSound v) (client id : ℕ) (u : StoredTransfer
       sound.order.transfers
 
   pub phased-slots : slots_differ (map (λ t. t.slot) (phased id phase v.state.transfers)) ≡ true
-  phased-slots = ap slots_differ (same-slots id phase v.state.transfers) ∙ sound.order.slots
+  phased-slots = ap slots_differ (same-slots id (moved phase) (λ t. refl) v.state.transfers) ∙ sound.order.slots
 
   -- the session with other marks, and the transfers, are in order
   pub phased-order : (x : SessionOf Extent) (processing : Option ℕ) (done : ℕ)
@@ -70,14 +64,9 @@ module _ (v : Holding) (sound : IsSound v) (client id : ℕ) (u : StoredTransfer
         transfers = phased id phase v.state.transfers;
         session = Some (marked processing done x.verified x.outcome x);
       })
-  phased-order x processing done i = record {
-    clusters = i.clusters;
-    session = i.session;
-    transfers = phased-placed;
-    slots = phased-slots;
-    places = i.places;
-    running = i.running;
-  }
+  phased-order x processing done i =
+      order-of (record v.state { transfers = phased id phase v.state.transfers }) phased-placed phased-slots i.running
+      (marked-order v.areas v.state v.state.status x processing done x.verified x.outcome i i.running)
 
 -- another's session and a dash refuse by what is stored
 pub session-refused : (v : Holding) (client : ℕ) (call : Call)
@@ -125,14 +114,9 @@ module _ (v : Holding) (sound : IsSound v) (client id : ℕ) (u : StoredTransfer
 
   stopped-order : (o : Option (SessionOf Extent)) → IsInOrder package_reading v.areas (with o)
       → IsInOrder package_reading v.areas (stopped (with o))
-  stopped-order None i = record {
-    clusters = i.clusters;
-    session = tt;
-    transfers = phased-placed v sound client id u e Transferred was-whole refl;
-    slots = phased-slots v sound client id u e Transferred was-whole refl;
-    places = i.places;
-    running = tt;
-  }
+  stopped-order None i =
+      order-of (stopped (with None)) (phased-placed v sound client id u e Transferred was-whole refl)
+      (phased-slots v sound client id u e Transferred was-whole refl) tt i
   stopped-order (Some x) i = phased-order v sound client id u e Transferred was-whole refl x None x.units_done i
 
   stopped-copied : (o : Option (SessionOf Extent)) → IsCopied package_reading v.areas (with o)

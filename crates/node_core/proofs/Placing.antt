@@ -1,5 +1,4 @@
 -- Where the payloads of parts go: to extents of their lengths, at places that fit the names.
-use Rattle.node_core.proofs.Names.{◌+◌}
 use Rattle.node_core.proofs.Names.{Action, AllByRecursion, Change, Cluster, Extent, Install, IsExtent, List, None, Option, Part}
 use Rattle.node_core.proofs.Names.{Remove, Some, Update, Within, all_differ, ap, arith, append_assoc, bytes_eq, change_place, changes_to}
 use Rattle.node_core.proofs.Names.{cluster_at, cluster_limit, cluster_of, cluster_place, different_names, each-append, each-both, each-first}
@@ -7,10 +6,9 @@ use Rattle.node_core.proofs.Names.{each-imp, each-map, extent_of, extents_of, fa
 use Rattle.node_core.proofs.Names.{map-append, name-eq, name-swap, names_fit_places, nat_tests, not-true, option_map_or, package_limit, refl}
 use Rattle.node_core.proofs.Names.{append-nil, both_true, each-unmap, not, running_at, slots_differ, subst, suits, sym, takes_side, true, [], ℕ, ◌++◌, ◌<◌, ◌==◌}
 use Rattle.node_core.proofs.Names.{◌∙◌, ◌∷◌, ◌≡◌, ◌≤◌}
-use Rattle.std.proofs.Common.{suc, drop, get_or, min, nat_le, Bool}
-use Rattle.std.proofs.lemmas.List.{drop_all, drop_more}
+use Rattle.std.proofs.Common.{suc, drop, min, nat_le, Bool}
+use Rattle.std.proofs.lemmas.List.{drop_all}
 use Rattle.std.proofs.lemmas.Bool.{leb-true}
-use Rattle.node_core.proofs.Names.{◌+◌}
 use Rattle.node_core.proofs.Free.{FitsAll, Pair, each-fits, free-place, fresh-fits, lowest-low, places_of}
 use Rattle.node_core.proofs.Lists.{any-found, each-all}
 use Rattle.node_core.proofs.Named.{none-named}
@@ -37,15 +35,7 @@ planned-payloads id [] extents m = sym m
 planned-payloads id (part ∷ parts) [] m = absurd m
 planned-payloads id (part ∷ parts) (extent ∷ extents) m = ap (λ es. extent ∷ es) (planned-payloads id parts extents m.1)
 
--- the changes from a place on: one, and those behind it, or none
-pub changes-more : (id : ℕ) (parts : List (Part ℕ)) (extents : List Extent) (i : ℕ) (p : Part ℕ) (d : Extent)
-    → i < length parts → i < length extents
-    → changes_to id (drop i parts) (drop i extents)
-    ≡ record { transfer = id; part = record { manifest = (get_or parts i p).manifest; payload = get_or extents i d } }
-    ∷ changes_to id (drop (i + 1) parts) (drop (i + 1) extents)
-changes-more id parts extents i p d some more =
-    λ j. changes_to id (drop_more parts i p some j) (drop_more extents i d more j)
-
+-- behind the last place there are no changes
 pub changes-end : (id : ℕ) (parts : List (Part ℕ)) (extents : List Extent) (i : ℕ)
     → min (length parts) (length extents) ≤ i
     → changes_to id (drop i parts) (drop i extents) ≡ []
@@ -93,9 +83,7 @@ module _ (running : List (Cluster Extent)) where
 
     goes-extent : (a : Action) (taken : List ℕ) (name : List ℕ) (size : ℕ) → size ≤ package_limit
         → IsExtent (goes_to a taken (running_at running name) size)
-    goes-extent Install taken name size short = (lowest-low taken, omega arith, short)
-    goes-extent Update taken name size short = ((run-extent name).0, omega arith, short)
-    goes-extent Remove taken name size short = ((run-extent name).0, (run-extent name).1, short)
+    goes-extent a taken name size short = grind (arith, lowest-low taken, run-extent name)
 
     pub extents-are-extents : (taken : List ℕ) (parts : List (Part ℕ))
         → AllByRecursion (λ (p : Part ℕ). p.payload ≤ package_limit) parts
@@ -109,9 +97,7 @@ module _ (running : List (Cluster Extent)) where
   -- and on its side
   goes-side : (a : Action) (taken : List ℕ) (name : List ℕ) (size : ℕ)
       → takes_side a (goes_to a taken (running_at running name) size).side (cluster_at running name) ≡ true
-  goes-side Install taken name size = refl
-  goes-side Update taken name size = grind (arith, nat_tests)
-  goes-side Remove taken name size = grind (arith, nat_tests)
+  goes-side a taken name size = grind (arith, nat_tests)
 
   pub changes-side : (id : ℕ) (taken : List ℕ) (parts : List (Part ℕ))
       → AllByRecursion (λ c. takes_side c.part.manifest.action c.part.payload.side

@@ -13,20 +13,28 @@ use Rattle.node_core.proofs.Names.{found_of, is_of, length, length-drop, length-
 use Rattle.node_core.proofs.Names.{package_reading, parts_place, piece_of, plan_kept, put-leaves, refl, side_of, slice_range, stored_of}
 use Rattle.node_core.proofs.Names.{subst, sym, take, transfer_meaning, [], ℕ, ◌+◌, ◌-◌, ◌∙◌, ◌≡◌, ◌≢◌, ◌≤◌}
 use Rattle.node_core.proofs.Names.{IsVerdictKept, None, TransferExit, exit_refusals, first_refusal, header_of, transfer_of, verdict_kept}
-use Rattle.node_core.proofs.Names.{Activate, Cancel, DeleteTransfer, Finish, ProcessSwPackage, RevertProcessedSwPackages, Rollback, Sync, TransferStart}
+use Rattle.node_core.proofs.Names.{Activate, ProcessSwPackage}
 use Rattle.node_core.proofs.Names.{Extent, IfSome, Readied, IsNextUnit, IsPackageReady, IsUnitReady, SessionOf}
 use Rattle.pm_types.specs.NodeState.{of_client}
 use Rattle.pm_types.specs.Steps.{repeat_of}
 use Rattle.ucm_base.specs.declared.ids.CallNo.{CallNo}
 use Rattle.transfer_blocks.specs.Table.{stored_header}
-use Rattle.transfer_blocks.specs.declared.fault.StagingError.{StagingError}
 use Rattle.pm_types.specs.Transfers.{data_refusals}
 use Rattle.node_core.specs.Errors.{end_by, fault_of}
 use Rattle.node_core.specs.declared.node.ReserveError.{ReserveError}
+use Rattle.node_core.specs.declared.node.ReserveError.TheVariants.{OutOfMemory}
 use Rattle.node_core.proofs.Names.{is_some}
-use Rattle.node_core.proofs.Lists.{at-err}
+use Rattle.node_core.proofs.Lists.{end-err}
 use Rattle.node_core.proofs.Copied.{Needs, PieceNeeds, needs}
 use Rattle.node_core.proofs.Pieces.{slice-take}
+use Rattle.node_core.proofs.Sound.{sound-stands}
+use Rattle.node_core.proofs.Sound.{sound-stands}
+use Rattle.node_core.proofs.Sound.{sound-stands}
+use Rattle.node_core.proofs.Sound.{sound-stands}
+use Rattle.node_core.proofs.Sound.{sound-stands}
+use Rattle.node_core.proofs.Sound.{sound-stands}
+use Rattle.node_core.proofs.Sound.{sound-stands}
+use Rattle.node_core.proofs.Sound.{sound-stands}
 use Rattle.node_core.proofs.Runs.{reads-none, reads-once, reads-wrote}
 use Rattle.node_core.proofs.Staging.{failed-stands, found-fits, found-slot, put-left, put-ready}
 use Rattle.node_core.proofs.Stored.{found-means}
@@ -39,10 +47,6 @@ stand-sound v held p sound stand = record {
   order = stand.order;
   copied = stand.copied;
 }
-
--- its own areas do
-pub sound-stands : (v : Holding) → IsSound v → StandsFor v.areas v.state (node_of v)
-sound-stands v sound = record { node = refl; order = sound.order; copied = sound.copied }
 
 -- and those that stand for it over such
 stand-on : (v : Holding) (held torn : Areas) → StandsFor held v.state (node_of v)
@@ -116,18 +120,19 @@ module _ {S : Type 0} (obeys : S → Step → S → Type 0) (areas : S → Areas
       spares (gets end) same = tt
 
 -- nothing was done, and all that is needed is there
-pub nothing-reserves : {S : Type 0} (obeys : S → Step → S → Type 0) (areas : S → Areas) (s : State)
-    (Bring : Step → Type 0) (R : Areas → Type 0) (end : End) (old : S) → ((e : End) → Bring (gets e))
-    → StandsFor (areas old) s (meaning package_reading (areas old) s)
-    → (end ≡ Ok tt → (held : Areas) → AreasFit held → StandsFor held s (meaning package_reading (areas old) s) → R held)
-    → Reserves obeys areas s Bring R end old old
-nothing-reserves obeys areas s Bring R end old bring stands ready =
-    reads-reserve obeys areas s Bring R old old end bring (reads-none obeys end old) refl stands ready
+pub nothing-reserves : {S : Type 0} (obeys : S → Step → S → Type 0) (areas : S → Areas) (s : State) {p : Prepared}
+    {Bring : Step → Type 0} {R : Areas → Type 0} (old : S) → ((e : End) → Bring (gets e))
+    → IsSound (record { areas = areas old; state = s; prepared = p })
+    → ((held : Areas) → AreasFit held → StandsFor held s (meaning package_reading (areas old) s) → R held)
+    → Reserves obeys areas s Bring R (Ok tt) old old
+nothing-reserves obeys areas s {p} {Bring} {R} old bring sound ready =
+    reads-reserve obeys areas s Bring R old old (Ok tt) bring (reads-none obeys (Ok tt) old) refl
+    (sound-stands (record { areas = areas old; state = s; prepared = p }) sound) (λ ok. ready)
 
 -- what reserves for one thing reserves for what follows from it, and brings what follows
 pub reserves-for : {S : Type 0} {obeys : S → Step → S → Type 0} {areas : S → Areas} {s : State}
     {Bring More : Step → Type 0} {R Q : Areas → Type 0} {old new : S} {end : End}
-    → ((step : Step) → Bring step → More step) → ((held : Areas) → R held → Q held)
+    → ((step : Step) → Bring step → More step) → (end ≡ Ok tt → (held : Areas) → R held → Q held)
     → Reserves obeys areas s Bring R end old new → Reserves obeys areas s More Q end old new
 reserves-for {Bring = Bring} {More = More} more to r = record {
   steps = r.steps;
@@ -139,7 +144,7 @@ reserves-for {Bring = Bring} {More = More} more to r = record {
   done = r.done;
   faultless = r.faultless;
   moved = r.moved;
-  holds = λ e held fit stand. let h = r.holds e held fit stand in (h.0, to _ h.1);
+  holds = λ e held fit stand. let h = r.holds e held fit stand in (h.0, to e _ h.1);
 }
 
 -- of a call and a state that are the same
@@ -149,7 +154,7 @@ pub reserves-at : {S : Type 0} {obeys : S → Step → S → Type 0} {areas : S 
     → Reserves obeys areas v.state (BringsNew v.state client a) R end old new
     → Reserves obeys areas w.state (BringsNew w.state client b) Q end old new
 reserves-at {obeys = obeys} {areas = areas} e same client {R = R} {end = end} {old = old} {new = new} to r =
-    reserves-for (λ step brought. brought) to
+    reserves-for (λ step brought. brought) (λ e. to)
     (subst (λ (k : Readied × Call). Reserves obeys areas k.0.state (BringsNew k.0.state client k.1) R end old new)
     (λ i. (e i, sym same i)) r)
 
@@ -167,49 +172,33 @@ pub reserves-same : {S : Type 0} {obeys : S → Step → S → Type 0} {areas : 
     → ((held : Areas) → R held → Q held)
     → Reserves obeys areas k.1 (Bring k.0 k.1) R end k.0 new → Reserves obeys areas l.1 (More l.0 l.1) Q end l.0 new
 reserves-same {S = S} {obeys = obeys} {areas = areas} Bring More {l = l} e {R = R} {end = end} {new = new} more to r =
-    reserves-for more to (subst (λ (k : S × State). Reserves obeys areas k.1 (Bring k.0 k.1) R end k.0 new) e r)
-
--- after a failure nothing is ready
-pub only-failed : {S : Type 0} {obeys : S → Step → S → Type 0} {areas : S → Areas} {s : State} {Bring : Step → Type 0}
-    {R Q : Areas → Type 0} {old new : S} {fault : StagingError}
-    → Reserves obeys areas s Bring R (Err fault) old new → Reserves obeys areas s Bring Q (Err fault) old new
-only-failed r = record {
-  steps = r.steps;
-  ran = r.ran;
-  once = r.once;
-  brings = r.brings;
-  spares = r.spares;
-  stands = r.stands;
-  done = λ e. absurd (cc e);
-  faultless = r.faultless;
-  moved = λ e. absurd (cc e);
-  holds = λ e. absurd (cc e);
-}
+    reserves-for more (λ e. to) (subst (λ (k : S × State). Reserves obeys areas k.1 (Bring k.0 k.1) R end k.0 new) e r)
 
 -- what was done before a failure, which a `?` hands on
 pub failed-reserves : {S X : Type 0} {obeys : S → Step → S → Type 0} {areas : S → Areas} {s : State}
     {Bring : Step → Type 0} {R Q : Areas → Type 0} {old new : S} (e : ReserveError) (r : Result X ReserveError)
     → IsErrAnd r (λ x. x ≡ e) → Reserves obeys areas s Bring R (Err (fault_of e)) old new
     → Reserves obeys areas s Bring Q (end_by r) old new
-failed-reserves {obeys = obeys} {areas = areas} {s = s} {Bring = Bring} {Q = Q} {old = old} {new = new} e r is done =
-    at-err (λ end. Reserves obeys areas s Bring Q end old new) e r is (only-failed done)
+failed-reserves e r is done = rw (end-err e r is) (reserves-for (λ step brought. brought) (λ q. absurd (cc q)) done)
 
-pub reads-failed : {S : Type 0} (obeys : S → Step → S → Type 0) (areas : S → Areas) (s : State)
-    {Bring : Step → Type 0} {Q : Areas → Type 0} (old new : S) (fault : StagingError) → ((e : End) → Bring (gets e))
-    → IsSound (holding (areas old) s) → Reads obeys (Err fault) old new → areas new ≡ areas old
-    → Reserves obeys areas s Bring Q (Err fault) old new
-reads-failed obeys areas s {Bring} {Q} old new fault bring sound reads same =
-    reads-reserve obeys areas s Bring Q old new (Err fault) bring reads same
-    (sound-stands (holding (areas old) s) sound) (λ e. absurd (cc e))
+-- and what was only read before it
+pub reads-handed : {S X : Type 0} (obeys : S → Step → S → Type 0) (areas : S → Areas) {s : State} {p : Prepared}
+    {Bring : Step → Type 0} {Q : Areas → Type 0} {old new : S} {end : End} (r : Result X ReserveError)
+    → end_by r ≡ end → (end ≡ Ok tt → ⊥) → ((end : End) → Bring (gets end))
+    → IsSound (record { areas = areas old; state = s; prepared = p }) → Reads obeys end old new → areas new ≡ areas old
+    → Reserves obeys areas s Bring Q (end_by r) old new
+reads-handed obeys areas {s} {p} {Bring} {Q} {old} {new} {end} r is failed bring sound reads same =
+    rw is (reads-reserve obeys areas s Bring Q old new end bring reads same
+    (sound-stands (record { areas = areas old; state = s; prepared = p }) sound) (λ ok. absurd (failed ok)))
 
--- and is handed on by a `?`
-pub reads-handed : {S X : Type 0} (obeys : S → Step → S → Type 0) (areas : S → Areas) {s : State}
-    {Bring : Step → Type 0} {Q : Areas → Type 0} {old new : S} (e : ReserveError) (r : Result X ReserveError)
-    → IsErrAnd r (λ x. x ≡ e) → ((end : End) → Bring (gets end)) → IsSound (holding (areas old) s)
-    → Reads obeys (Err (fault_of e)) old new → areas new ≡ areas old → Reserves obeys areas s Bring Q (end_by r) old new
-reads-handed obeys areas {s} {Bring} {Q} {old} {new} e r is bring sound reads same =
-    at-err (λ end. Reserves obeys areas s Bring Q end old new) e r is
-    (reads-failed obeys areas s old new (fault_of e) bring sound reads same)
+-- where memory was wanted first nothing was done
+pub nothing-handed : {S X : Type 0} (obeys : S → Step → S → Type 0) (areas : S → Areas) {s : State} {p : Prepared}
+    {Bring : Step → Type 0} {Q : Areas → Type 0} {old : S} (r : Result X ReserveError)
+    → IsErrAnd r (λ x. x ≡ OutOfMemory) → ((end : End) → Bring (gets end))
+    → IsSound (record { areas = areas old; state = s; prepared = p })
+    → Reserves obeys areas s Bring Q (end_by r) old old
+nothing-handed obeys areas r is bring sound =
+    reads-handed obeys areas r (end-err OutOfMemory r is) (λ ok. cc ok) bring sound (reads-none obeys _ _) refl
 
 -- a verdict that is ready is so over areas that stand for the node
 pub exit-ready : (v : Holding) (held : Areas) (client id : ℕ) → StandsFor held v.state (node_of v)
@@ -237,7 +226,7 @@ module _ {S : Type 0} (obeys : S → Step → S → Type 0) (areas : S → Areas
   abbrev v : Holding
   v = holding (areas old) s
 
-  pub block-fits : f.header.received + length block ≤ package_limit
+  block-fits : f.header.received + length block ≤ package_limit
   block-fits = let size = found-fits v sound client id f e in omega (arith, size, room)
 
   abbrev area : Area
@@ -283,16 +272,6 @@ module _ {S : Type 0} (obeys : S → Step → S → Type 0) (areas : S → Areas
       (λ end. (accepted, some-and _ _ f e (refl, refl, refl)))
       block-spares writes put (failed-stands v sound client id f e fit (length block) (areas new) left)
       (λ ok. block-holds)
-
-  -- and so does one that was put whole
-  pub put-reserves : IsAccepted → AreasFit (areas old) → Writes obeys area at block (Ok tt) old new
-      → areas new ≡ with_bytes area at block (areas old)
-      → Reserves obeys areas s (BringsNew s client (TransferData id counter block))
-      (λ held. IsReady (holding held s) client (TransferData id counter block)) (Ok tt) old new
-  put-reserves accepted fit writes put =
-      block-reserves accepted (Ok tt) fit writes (λ ok. put) (subst (LeavesOutside area at (length block) (areas old))
-      (sym put)
-      (put-left v sound client id f e fit block))
 
 -- the bytes that came for a transfer are the same in areas that stand for the node
 same-came : (v : Holding) (held : Areas) (client id : ℕ) (t : StoredTransfer) → StandsFor held v.state (node_of v)
@@ -452,16 +431,4 @@ pub other-ready : (v : Holding) (client : ℕ) (call : Call)
     → ((id counter : ℕ) (block : Bytes) → call ≡ TransferData id counter block → ⊥)
     → ((id : ℕ) → call ≡ TransferExit id → ⊥) → ((id tag : ℕ) → call ≡ ProcessSwPackage id tag → ⊥)
     → (call ≡ Activate → ⊥) → IsReady v client call
-other-ready v client (TransferData id counter block) no_data no_exit no_package no_activation =
-    absurd (no_data id counter block refl)
-other-ready v client (TransferExit id) no_data no_exit no_package no_activation = absurd (no_exit id refl)
-other-ready v client (ProcessSwPackage id tag) no_data no_exit no_package no_activation =
-    absurd (no_package id tag refl)
-other-ready v client Activate no_data no_exit no_package no_activation = absurd (no_activation refl)
-other-ready v client Sync no_data no_exit no_package no_activation = tt
-other-ready v client (TransferStart size) no_data no_exit no_package no_activation = tt
-other-ready v client (DeleteTransfer id) no_data no_exit no_package no_activation = tt
-other-ready v client Finish no_data no_exit no_package no_activation = tt
-other-ready v client Rollback no_data no_exit no_package no_activation = tt
-other-ready v client RevertProcessedSwPackages no_data no_exit no_package no_activation = tt
-other-ready v client (Cancel id) no_data no_exit no_package no_activation = tt
+other-ready v client call no_data no_exit no_package no_activation = grind arith

@@ -5,8 +5,7 @@ use Rattle.transfer_blocks.specs.declared.fault.StagingError.TheVariants.{Failed
 use Rattle.transfer_blocks.specs.declared.area.Area.{Area}
 use Rattle.transfer_blocks.specs.Steps.{End, Step, puts, gets, IsDone, HasNoFault, with_bytes, wrote}
 use Rattle.transfer_blocks.proofs.Runs.{ran_both, wrote_both}
-use Rattle.node_core.proofs.Lists.{each-append}
-use Rattle.node_core.proofs.Names.{AllByRecursion, Areas, Bytes, List, ap, arith, each-imp, length, refl, subst, [], ℕ}
+use Rattle.node_core.proofs.Names.{AllByRecursion, Areas, Bytes, List, ap, arith, each-append, each-imp, length, refl, subst, [], ℕ}
 use Rattle.node_core.proofs.Names.{◌++◌, ◌∙◌, ◌∷◌, ◌≡◌}
 use Rattle.node_core.specs.Reserves.{IsPut, IsRead, Reads, Writes, puts_of}
 

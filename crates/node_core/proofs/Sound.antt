@@ -1,6 +1,6 @@
 -- A sound node has a table, and each step leaves it sound.
 use Rattle.node_core.proofs.Names.{Bytes, Call, CallNo, Err, Holding, IsBounded, IsFit, IsReading, IsSound, IsTable}
-use Rattle.node_core.proofs.Names.{IsTrue, List, NodeState, None, Ok, PackageError, Part, Result, Transfer, Verdict}
+use Rattle.node_core.proofs.Names.{IsTrue, List, NodeState, None, Ok, PackageError, Part, Result, StandsFor, Transfer, Verdict}
 use Rattle.node_core.proofs.Names.{after_call, all_differ, and_parts, arith, both_true, client_limit, cluster_of}
 use Rattle.node_core.proofs.Names.{each-both, each-imp, each-unmap, ids-mean, ids_of, keeps-fit, length, length-map}
 use Rattle.node_core.proofs.Names.{map, mark_of, nat_tests, node_of, not, numbers_rise, of_client, option_map}
@@ -63,9 +63,9 @@ table-is v sound =
       slots = sound.order.slots;
     }
 
--- the same, told of a node by its parts
-pub table-within : {v w : Holding} → v ≡ w → IsSound w → IsTable (table_of v.state)
-table-within {v = v} same sound = table-is v (subst IsSound (sym same) sound)
+-- its areas stand for it
+pub sound-stands : (v : Holding) → IsSound v → StandsFor v.areas v.state (node_of v)
+sound-stands v sound = record { node = refl; order = sound.order; copied = sound.copied }
 
 -- a newer call is executed
 pub step-is : (s : NodeState) (client : ℕ) (at : CallNo) (call : Call) (w : Verdict)

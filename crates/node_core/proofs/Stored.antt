@@ -1,8 +1,8 @@
 -- What stored transfers mean, and what a change of one of them changes of that.
-use Rattle.node_core.proofs.Names.{AllByRecursion, Areas, BeingProcessed, Found, Holding, AreCopied, IsCopiedIn, IsInOrder, IsSound, extents_in, units_done}
+use Rattle.node_core.proofs.Names.{AllByRecursion, Areas, BeingProcessed, Found, Holding, AreCopied, IsCopiedIn, IsInOrder, IsPlaced, IsSound, RunsWhatItShould, extents_in, units_done}
 use Rattle.node_core.proofs.Names.{List, Option, Phase, Reading, Some, State, StoredTransfer, Transfer, ap, arith, each-both, each-imp}
 use Rattle.node_core.proofs.Names.{each-unmap, false, find, found-has, found_of, if◌then◌else◌, is_none, is_of, map, map-map}
-use Rattle.node_core.proofs.Names.{numbers_rise, option_map, package_reading, rise-above, rise-tail, slice_range, stored_header}
+use Rattle.node_core.proofs.Names.{numbers_rise, option_map, package_reading, refl, rise-above, rise-tail, slice_range, slots_differ, stored_header}
 use Rattle.node_core.proofs.Names.{stored_of, subst, sym, take, take-add, transfer_meaning, true, with_length, [], ℕ, ◌++◌, ◌+◌}
 use Rattle.node_core.proofs.Names.{◌<◌, ◌==◌, ◌∙◌, ◌∷◌, ◌≡◌}
 use Rattle.node_core.proofs.Lists.{every, find-map, change-map}
@@ -40,6 +40,13 @@ pub only-has : (P : StoredTransfer → Type 0) (client id : ℕ) (ts : List Stor
     → numbers_rise (ids ts) ≡ true → found client id ts ≡ Some u → P u
     → AllByRecursion (λ t. (t.header.id == id) ≡ true → P t) ts
 only-has P client id ts u r e own = each-imp _ _ (λ t same q. subst P (sym (same q)) own) ts (only client id ts u r e)
+
+-- a change that keeps the slots
+pub same-slots : (id : ℕ) (g : StoredTransfer → StoredTransfer) → ((t : StoredTransfer) → (g t).slot ≡ t.slot)
+    → (ts : List StoredTransfer) → map (λ t. t.slot) (map (λ t. if t.header.id == id then g t else t) ts)
+    ≡ map (λ t. t.slot) ts
+same-slots id g keeps [] = refl
+same-slots id g keeps (t ∷ ts) = grind (arith, same-slots id g keeps ts, keeps t)
 
 -- a transfer that some header is found of
 pub some-stored : (o : Option StoredTransfer) → is_none (option_map (λ t. t.header) o) ≡ false
@@ -89,21 +96,28 @@ pub copied-when : (areas : Areas) (s : State) (t : StoredTransfer) (phase : Phas
     → IsCopiedIn package_reading areas s t phase
 copied-when areas s t phase each = grind arith
 
+-- with what a state in order runs and plans another one is, where its transfers are placed and it runs what it should
+pub order-of : {old new : Areas} {s : State} (n : State) → AllByRecursion (IsPlaced package_reading new) n.transfers
+    → slots_differ (map (λ t. t.slot) n.transfers) ≡ true
+    → RunsWhatItShould (record n { session = s.session; running = s.running }) → IsInOrder package_reading old s
+    → IsInOrder package_reading new (record n { session = s.session; running = s.running })
+order-of n placed slots runs i = record {
+  clusters = i.clusters;
+  session = i.session;
+  transfers = placed;
+  slots = slots;
+  places = i.places;
+  running = runs;
+}
+
 -- a state is in order by what its transfers mean
 pub read-order : (old new : Areas) (s : State)
     → AllByRecursion (λ t. transfer_meaning package_reading new t ≡ transfer_meaning package_reading old t) s.transfers
     → IsInOrder package_reading old s → IsInOrder package_reading new s
-read-order old new s each i = record {
-  clusters = i.clusters;
-  session = i.session;
-  transfers = each-both _ _ _ (λ t same placed. record {
-    slot = placed.slot;
-    contents = placed.contents ∙ ap (λ (m : Transfer). map with_length m.parts) (sym same);
-  }) s.transfers each i.transfers;
-  slots = i.slots;
-  places = i.places;
-  running = i.running;
-}
+read-order old new s each i = order-of s (each-both _ _ _ (λ t same placed. record {
+  slot = placed.slot;
+  contents = placed.contents ∙ ap (λ (m : Transfer). map with_length m.parts) (sym same);
+}) s.transfers each i.transfers) i.slots i.running i
 
 -- the ids of a sound node's transfers rise
 pub rise : (v : Holding) → IsSound v → numbers_rise (ids v.state.transfers) ≡ true

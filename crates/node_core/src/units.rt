@@ -1,11 +1,12 @@
 //! Units of work: what the next one answers, and what it does.
-ghost use Rattle.std.specs.Prelude.{◌≡◌, ◌<◌, ◌≤◌, ◌+◌, [], Some, IfSome, if◌then◌else◌, length, nat_lt, option_map};
+ghost use Rattle.std.specs.Prelude.{◌≡◌, ◌<◌, ◌≤◌, ◌+◌, ◌↔◌, [], Some, IfSome, false, if◌then◌else◌, length, nat_lt, option_map};
 ghost use Rattle.ucm_base.specs.Limits.{entry_limit};
 ghost use Rattle.ucm_base.specs.Names.{has_name};
 ghost use Rattle.pm_types.specs.declared.history.Happened.TheVariants.{Unit as UnitAfter};
 ghost use Rattle.pm_types.specs.declared.status.Status.TheVariants.{Activated, Processing, RollingBack, Verifying};
 ghost use Rattle.pm_types.specs.Clusters.{planned, stored_units};
 ghost use Rattle.pm_types.specs.Histories.{passes, unit_passes};
+ghost use Rattle.pm_types.specs.NodeState.{is_working};
 ghost use Rattle.pm_types.specs.Steps.{with_entry};
 ghost use Rattle.pm_types.specs.Stored.{Areas, meaning};
 ghost use Rattle.pm_types.specs.Work.{activate_unit, end_mark, end_session, roll_back_unit, verify_unit};
@@ -28,6 +29,8 @@ impl Ready {
         requires entries { self.old.state.entries < entry_limit }
         ensures worked { AllWorkReady self.old (λ v.
             IsWorked v fails.now result (over v.areas self.new)) }
+        ensures nothing { (result ≡ Worked.Nothing self.old.state.status)
+            ↔ (is_working self.old.state.status ≡ false) }
         ensures state { self.new.state ≡ state_worked self.old result }
         ensures entries { self.new.state.entries ≤ self.old.state.entries + 1 }
     {
@@ -43,6 +46,8 @@ impl Ready {
     /// What `work` would answer of a unit that was reserved. It takes no memory and changes nothing.
     pub fn foresee_work(&self, fails: &[ClusterName]) -> Worked
         ensures answer { AllWorkReady self.now (λ v. result ≡ answer_to fails.now (node_of v)) }
+        ensures nothing { AllWorkReady self.now (λ v. (result ≡ Worked.Nothing v.state.status)
+            ↔ (is_working v.state.status ≡ false)) }
     {
         let passed = unit_passes(&self.state, fails);
         match self.status_after(passed) {

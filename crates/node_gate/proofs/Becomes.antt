@@ -1,6 +1,5 @@
 -- What a call makes of the list, as a publish asks for it.
-use Rattle.std.proofs.Common.{◌≡◌, ◌⊎◌, inl, inr, ⊎_elim, ℕ, ◌+◌, ◌<◌, ◌≤◌, List, [], ◌∷◌, ◌++◌, refl, sym, ◌∙◌, ap,
-  arith, Option, Some, None}
+use Rattle.std.proofs.Common.{◌≡◌, ◌⊎◌, inl, inr, ⊎_elim, ℕ, ◌+◌, ◌<◌, ◌≤◌, List, [], ◌∷◌, ◌++◌, refl, sym, ◌∙◌, ap, arith, Option, Some, None}
 use Rattle.std.proofs.lemmas.List.{append-nil}
 use Rattle.turn_gate.specs.Mine.{Settles}
 use Rattle.turn_gate.specs.Parts.{AtMostOne, IsOurs, MayBecome, StoodOrNot, at_most_last, numbers_of, times}
@@ -83,7 +82,7 @@ module _ (parts : List (Part Entry)) (client : ℕ) (part : 0 < times client (nu
   by_call n at call (Got (Stale last)) a = settled a.settled (inl a.no_doubt)
   by_call n at call (NoReply faults) a =
       ⊎_elim (λ (t : StaysOrSettles n (listing old.entries old.pending) (listing new.entries new.pending)). either n
-        t)
+      t)
       (λ (t : IsPending n client at call (listing old.entries old.pending) (listing new.entries new.pending)).
       settled t.settled (inr (_, t.pending, ours at call t.reply))) a.1
   by_call n at call OutOfMemory a = either n a

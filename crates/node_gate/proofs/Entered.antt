@@ -1,6 +1,5 @@
 -- What a call makes of an open node that stands for its entries.
-use Rattle.std.proofs.Common.{◌≡◌, inl, inr, ℕ, ◌<◌, true, false, List, [], ◌∷◌, ◌++◌, refl, sym, ◌∙◌, ap, subst,
-  Option, Some, None}
+use Rattle.std.proofs.Common.{◌≡◌, inl, inr, ℕ, ◌<◌, true, false, List, [], ◌∷◌, ◌++◌, refl, sym, ◌∙◌, ap, subst, Option, Some, None}
 use Rattle.turn_gate.proofs.Prefixes.{prefix_same}
 use Rattle.disk_core.specs.Images.{EachImage}
 use Rattle.disk_core.specs.Moments.{LeavesOnly}
@@ -51,7 +50,7 @@ module _ {D : Type 0} (moment : D → ℕ) (left_since : D → ℕ → List ℕ 
   stays_open is_open opened same run =
       subst (λ (q : Option Entry). StandsFor moment left_since seen images fails o b es q) (sym none_pending)
       (open_stands moment left_since seen images fails o b es (stands.legal, stands.true_to) is_open opened (same ∙
-        here)
+      here)
       (moments_on moment left_since seen images fails o a b es es None (prefix_same es es refl) stands.moments
       (weaker moment left_since a.extents.disk b.extents.disk (Serves Here) (ServesEither N N)
       (λ image serves. inl (subst (λ (n : NodeState). Serves n image) here serves)) run)))

@@ -48,7 +48,7 @@ module _ {O : Type 0} where
     pub part_in : (found : Account Entry) → 0 < times client (numbers_of (with_turn tells found old.view).parts)
     part_in found =
         subst (λ (ns : List ℕ). 0 < times client ns) (sym (numbers_of-parts_of tells found (numbers_of
-          old.view.parts))) seat.part
+        old.view.parts))) seat.part
 
     module _ (new : Known Entry O) (found now : Account Entry) (rise : ℕ) (same : new.gate ≡ old.gate)
         (is : new.view ≡ after_turn old.view found now rise) where
@@ -77,7 +77,7 @@ module _ {O : Type 0} where
       pub is_left : IsLeft client new.view (listing now.entries now.pending)
       is_left =
           let told = turn-tells tells now client (numbers_of (with_turn tells found old.view).parts) (part_in found)
-            in
+          in
           subst (λ (v : View Entry O). IsLeft client v (listing now.entries now.pending)) (sym is)
           (record { seen = refl; mine = told.0; doubt = told.1 })
 
@@ -99,10 +99,10 @@ pub handed_back : {D : Type 0} (moment : D → ℕ) (left_since : D → ℕ → 
     → IfSome o (λ f. IsHandedBack moment left_since seen images armed fault_count f node entries parts)
 handed_back moment left_since seen images armed fault_count names node entries pending parts None is fits = is
 handed_back moment left_since seen images armed fault_count names node entries pending parts (Some f) is fits =
-  record {
-  names = names;
-  pending = pending;
-  fixed_is = is.0;
-  stands = is.1;
-  own_is = fits;
-}
+    record {
+      names = names;
+      pending = pending;
+      fixed_is = is.0;
+      stands = is.1;
+      own_is = fits;
+    }

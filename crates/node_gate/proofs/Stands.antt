@@ -1,6 +1,5 @@
 -- How a list of entries goes on standing for the node.
-use Rattle.std.proofs.Common.{◌≡◌, ◌⊎◌, inl, inr, ⊎_elim, ℕ, ◌+◌, Bool, true, false, List, [], ◌∷◌, ◌++◌, refl, sym,
-  ◌∙◌, ap, subst, Option, Some, None}
+use Rattle.std.proofs.Common.{◌≡◌, ◌⊎◌, inl, inr, ⊎_elim, ℕ, ◌+◌, Bool, true, false, List, [], ◌∷◌, ◌++◌, refl, sym, ◌∙◌, ap, subst, Option, Some, None}
 use Rattle.std.specs.Prelude.{IfSome, option_map, unwrap_or}
 use Rattle.std.proofs.Common.{arith}
 use Rattle.std.proofs.lemmas.List.{append-nil}
@@ -28,8 +27,7 @@ use Rattle.node_store.specs.Serving.{Serves, ServesEither, ServesSome, node_on}
 use Rattle.node_store.specs.declared.node.Node.{Node}
 use Rattle.node_store.proofs.Entered.{open_serves}
 use Rattle.node_gate.specs.declared.opening.Opening.{Opening}
-use Rattle.node_gate.specs.Stands.{Knows, StandsFor, WasLeft, node_after, node_at, opening, pending_list,
-  with_pending}
+use Rattle.node_gate.specs.Stands.{Knows, StandsFor, WasLeft, node_after, node_at, opening, pending_list, with_pending}
 
 true-not-false : (b : Bool) → b ≡ true → b ≡ false → ⊥
 true-not-false b p q = let z : true ≡ false = sym p ∙ q in cc
@@ -75,8 +73,10 @@ module _ {D : Type 0} (moment : D → ℕ) (left_since : D → ℕ → List ℕ 
       → IsOpen b.log b.ready (seen b.extents.disk) (images b.extents.disk)
       → node_on b.ready.state (seen b.extents.disk) ≡ N es → Since b es → Stands b es None
   open_stands b es may is_open opened node since = record {
-    known = record { open_is = λ e. opened; closed_is = λ closed. absurd (true-not-false b.is_closed closed is_open)
-      };
+    known = record {
+      open_is = λ e. opened;
+      closed_is = λ closed. absurd (true-not-false b.is_closed closed is_open);
+    };
     legal = may.0;
     true_to = may.1;
     may_pend = (tt, tt);
@@ -210,13 +210,13 @@ module _ {D : Type 0} (moment : D → ℕ) (left_since : D → ℕ → List ℕ 
   pub same_stands : (o : Opening D) (names fails : List (List ℕ)) (a b : Node D) (es fs : List Entry)
       (p q : Option Entry) → fails ≡ names → b ≡ a → fs ≡ es → q ≡ p
       → StandsFor moment left_since seen images names o a es p → StandsFor moment left_since seen images fails o b
-        fs q
+      fs q
   same_stands o names fails a b es fs p q names_are node_is entries_are pending_is stands =
       subst (λ (l : List (List ℕ)). StandsFor moment left_since seen images l o b fs q) (sym names_are)
       (subst (λ (n : Node D). StandsFor moment left_since seen images names o n fs q) (sym node_is)
       (subst (λ (l : List Entry). StandsFor moment left_since seen images names o a l q) (sym entries_are)
       (subst (λ (r : Option Entry). StandsFor moment left_since seen images names o a es r) (sym pending_is)
-        stands)))
+      stands)))
 
   -- as the gate is made
   pub stands_first : (fails : List (List ℕ)) (node : Node D) (es : List Entry) → es ≡ [] → node.is_closed ≡ false
@@ -233,6 +233,6 @@ module _ {D : Type 0} (moment : D → ℕ) (left_since : D → ℕ → List ℕ 
         begins = prefix_same [] [] refl;
         pending = None;
         serves = inl (open_serves node.log node.ready (seen node.extents.disk) (images node.extents.disk) opened
-          image
+            image
             (only_now image left));
       })))

@@ -19,7 +19,7 @@ use Rattle.node_store.specs.Serving.{stepped}
 module _ (n m : NodeState) (given : Reply) where
   -- what isn't executed is what is kept
   kept-order : (kept : Kept) (order : Ordering) (reached : Reached) → ((reply : Reply) → reached ≡ Answered reply →
-    ⊥)
+      ⊥)
       → (by_order n (m, Answered given) kept order).1 ≡ reached → repeat_by kept order ≡ Some reached
   kept-order kept Less reached other e = ap Some e
   kept-order kept Equal reached other e = ap Some e
@@ -51,7 +51,7 @@ module _ (n : NodeState) (client : ℕ) (at : CallNo) (call : Call) where
       let verdict = verdict_for package_reading n client call in
       let reply = reply_to n client call verdict in
       kept-last n (after_call n client at call verdict reply) reply at (of_client n.last client) reached other (sym
-        e)
+      e)
 
   pub is_done : (reply : Reply) → Answered reply ≡ (stepped n client at call).1
       → (stepped n client at call).0 ≡ after_entry package_reading n (Numbered client at call reply)

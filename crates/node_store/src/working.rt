@@ -108,11 +108,48 @@ impl<D: Disk> Node<D> {
             ≤ self.old.ready.state.entries + 1 }
         ensures plan { D.armed self.new.extents.disk ≡ D.armed self.old.extents.disk }
     {
-        self.stage_work(alloc)?;
-        match self.ready.foresee_work(fails) {
+        match self.foresee_work(alloc, fails)? {
             Worked::Unit { passed, after } => self.enter_work(alloc, fails, passed, after),
             Worked::Nothing { status } => Ok(Worked::Nothing { status }),
         }
+    }
+
+    /// Makes ready what the next unit needs, copies what it brings of a package, and foresees what it gives. The node
+    /// stays as it is, and nothing is pending after a fault.
+    pub fn foresee_work(
+        &mut self,
+        alloc: Global,
+        fails: &[ClusterName],
+    ) -> Result<Worked, StoreError>
+        requires known { IsOpen self.old.log self.old.ready
+            (D.seen self.old.extents.disk) (D.images self.old.extents.disk) }
+        ensures worked { IfOk result (λ worked. worked ≡ answer_to fails.now
+            (node_on self.old.ready.state (D.seen self.old.extents.disk))) }
+        ensures known { OnOk result (IsOpen self.new.log self.new.ready
+            (D.seen self.new.extents.disk) (D.images self.new.extents.disk)) }
+        ensures memory { IsErrOf result StoreError.OutOfMemory
+            → IsOpen self.new.log self.new.ready
+            (D.seen self.new.extents.disk) (D.images self.new.extents.disk) }
+        ensures node { node_on self.new.ready.state (D.seen self.new.extents.disk)
+            ≡ node_on self.old.ready.state (D.seen self.old.extents.disk) }
+        ensures state { self.new.ready.state ≡ self.old.ready.state }
+        ensures reserved { OnOk result (IsReservedWork
+            (over (held_in node_places (D.seen self.new.extents.disk)) self.new.ready)) }
+
+        // A crash at any moment of the call leaves the node.
+        ensures any_moment { LeavesOnly D.moment D.left_since
+            self.old.extents.disk self.new.extents.disk
+            (Serves (node_on self.old.ready.state (D.seen self.old.extents.disk))) }
+        ensures closed { self.new.is_closed ≡ self.old.is_closed }
+        ensures cause { IsErrOf result StoreError.Failed
+            → HasRisen (D.fault_count self.old.extents.disk)
+            (D.fault_count self.new.extents.disk) }
+        ensures faults { D.fault_count self.old.extents.disk
+            ≤ D.fault_count self.new.extents.disk }
+        ensures plan { D.armed self.new.extents.disk ≡ D.armed self.old.extents.disk }
+    {
+        self.stage_work(alloc)?;
+        Ok(self.ready.foresee_work(fails))
     }
 
     /// Makes ready what the next unit needs, and copies what it brings of a package.
@@ -148,8 +185,8 @@ impl<D: Disk> Node<D> {
         }
     }
 
-    /// Records a unit for which all is ready, and does it.
-    fn enter_work(
+    /// Records a unit that was foreseen, for which all is ready, and does it.
+    pub fn enter_work(
         &mut self,
         alloc: Global,
         fails: &[ClusterName],

@@ -1,6 +1,6 @@
 //! What is printed of a node's entries.
 ghost use Rattle.std.specs.Prelude.{◌≡◌, ◌++◌, OnOk, string_bytes};
-ghost use Rattle.report.specs.Entries.{arguments_text, call_text, entry_text, verdict_text};
+ghost use Rattle.report.specs.Entries.{arguments_text, call_text, entry_text};
 
 use crate::blocks::add_block;
 use pm_types::{Call, Entry};
@@ -43,12 +43,6 @@ fn add_call(alloc: Global, text: &mut String, call: &Call, full: bool) -> Result
     add_arguments(alloc, text, call, full)
 }
 
-fn verdict(passed: bool) -> &'static str
-    ensures { result.now ≡ verdict_text passed }
-{
-    if passed { "pass" } else { "fail" }
-}
-
 /// Adds a call with what it was answered, or a unit with the status after it.
 pub(crate) fn add_entry(
     alloc: Global,
@@ -71,8 +65,11 @@ pub(crate) fn add_entry(
             write!(text, " -> {reply}")
         }
         Entry::Unit { passed, after } => {
-            let verdict = verdict(*passed);
-            write!(text, "unit {verdict} -> {after}")
+            if *passed {
+                write!(text, "unit pass -> {after}")
+            } else {
+                write!(text, "unit fail -> {after}")
+            }
         }
     }
 }

@@ -99,8 +99,19 @@ pub fn block(alloc: Global, size: u64, byte: u64) -> Option<Block> {
     Some(Block::of(bytes))
 }
 
+/// So many bytes of one value, or the kept bytes where it is above 255.
+fn sent(alloc: Global, kept: &[u8], size: u64, byte: u64) -> Option<Block> {
+    if byte > 255 {
+        if kept.len() > 65_536 {
+            return None;
+        }
+        return Some(Block::of(Vec::from_slice(alloc, kept).ok()?));
+    }
+    block(alloc, size, byte)
+}
+
 /// A call, 0 to 10, with at most four arguments from a place on.
-fn call(alloc: Global, numbers: &[u64]) -> Option<Call> {
+fn call(alloc: Global, numbers: &[u64], kept: &[u8]) -> Option<Call> {
     let id = short_at(numbers, 4);
     let call = match at(numbers, 3) {
         0 => Call::Sync,
@@ -110,7 +121,7 @@ fn call(alloc: Global, numbers: &[u64]) -> Option<Call> {
         2 => Call::TransferData {
             id,
             counter: at(numbers, 5),
-            bytes: block(alloc, at(numbers, 6), at(numbers, 7))?,
+            bytes: sent(alloc, kept, at(numbers, 6), at(numbers, 7))?,
         },
         3 => Call::TransferExit { id },
         4 => Call::DeleteTransfer { id },
@@ -182,11 +193,11 @@ pub fn reply(numbers: &[u64], place: usize) -> Option<Reply> {
 }
 
 /// A numbered entry: client, epoch, number, call and its four arguments, and the reply.
-pub fn entry(alloc: Global, numbers: &[u64]) -> Option<Entry> {
+pub fn entry(alloc: Global, numbers: &[u64], kept: &[u8]) -> Option<Entry> {
     Some(Entry::Numbered {
         client: client(at(numbers, 0))?,
         no: call_no(numbers, 1)?,
-        call: call(alloc, numbers)?,
+        call: call(alloc, numbers, kept)?,
         reply: reply(numbers, 8)?,
     })
 }

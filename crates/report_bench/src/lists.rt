@@ -33,6 +33,8 @@ pub struct Lists {
     /// The node whose entries come, and its entries so far.
     pub node: Option<NodeId>,
     pub entries: Vec<(u64, Entry)>,
+    /// The bytes of a block that a row spells out.
+    pub kept: Vec<u8>,
 }
 
 fn needs(alloc: Global, count: u64) -> Option<Needs> {
@@ -88,6 +90,7 @@ impl Lists {
             replies: Vec::new(alloc),
             node: None,
             entries: Vec::new(alloc),
+            kept: Vec::new(alloc),
         }
     }
 
@@ -123,7 +126,8 @@ impl Lists {
 
     pub fn enter(&mut self, alloc: Global, numbers: &[u64]) -> Option<()> {
         let place = self.entries.len() as u64;
-        self.entries.push((place, entry(alloc, numbers)?)).ok()
+        let entry = entry(alloc, numbers, self.kept.as_slice())?;
+        self.entries.push((place, entry)).ok()
     }
 
     pub fn work(&mut self, numbers: &[u64]) -> Option<()> {

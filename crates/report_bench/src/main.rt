@@ -1,6 +1,6 @@
 //! Rows of reports. Each line of the input adds to the lists of a run, by the numbers that calls, replies, events and
-//! refusals have in records; a line `print` prints the report of the lists, short and full, where they stand in their
-//! order, and begins new ones. `report_bench N` builds the lists of a report of N lines and prints the microseconds of
+//! refusals have in records, and `block <hex>` spells the bytes that a call's byte above 255 stands for; a line `print`
+//! prints the report of the lists, short and full, where they stand in their order, and begins new ones. `report_bench N` builds the lists of a report of N lines and prints the microseconds of
 //! its printing and its bytes, for `bench/report.sh`; `report_bench N lists` only builds the lists.
 //!
 //! Layer: stands on `report`; nothing stands on it. It promises no time.

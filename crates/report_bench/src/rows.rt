@@ -6,7 +6,7 @@ use report::print_report;
 use std::alloc::{AllocError, Global};
 use std::{io, str};
 use ucm_ports::{Source, read_all};
-use ucm_text::{cut_at, number_of, words_of};
+use ucm_text::{bytes_of_hex, cut_at, number_of, words_of};
 
 /// The most bytes of all lines.
 const LIMIT: usize = 65_536;
@@ -78,7 +78,8 @@ fn show<R: Print + AllocGlobal>(rt: &R, mut lists: Lists, brought: &[Brought]) -
     Ok(())
 }
 
-/// Reads a line: a name is printed, `print` prints the lists and begins new ones, and other lines add to the lists.
+/// Reads a line: `print` prints the lists and begins new ones, `block` keeps the bytes that it spells, and other lines
+/// add to the lists.
 fn take<R: Print + AllocGlobal>(
     rt: &R,
     lists: &mut Lists,
@@ -93,6 +94,12 @@ fn take<R: Print + AllocGlobal>(
         let whole = std::mem::replace(lists, Lists::new(alloc));
         show(rt, whole, brought.as_slice())?;
         brought.clear();
+        return Ok(());
+    }
+    if let (true, [digits]) = (*word == b"block".as_slice(), more) {
+        if let Ok(Some(bytes)) = bytes_of_hex(alloc, digits) {
+            lists.kept = bytes;
+        }
         return Ok(());
     }
     let Ok(numbers) = numbers(alloc, more) else {

@@ -27,3 +27,4 @@ pub mod CalmCalls
 pub mod CalmSteps
 pub mod CalmNode
 pub mod Succeeds
+pub mod Sound

@@ -1,12 +1,13 @@
 -- The series of failed attempts: what each is the cause of, and what the rises of all come to.
-use Rattle.std.specs.Prelude.{◌≡◌, ◌⊎◌, ℕ, ◌+◌, ◌-◌, ◌≤◌, min, Bool, true, false, not, ◌&&◌, ◌==◌, if◌then◌else◌, nat_eq, IsTrue, ⊤, List, [], ◌∷◌, length, filter, sum_by, Option, Some}
-use Rattle.std.specs.List.{AllByRecursion, list_any, list_all}
+use Rattle.std.specs.Prelude.{◌≡◌, ◌⊎◌, ℕ, ◌+◌, ◌≤◌, max, min, Bool, true, false, not, ◌&&◌, ◌==◌, if◌then◌else◌, nat_eq, IsTrue, ⊤, List, [], ◌∷◌, length, filter, sum_by, Option, Some}
+use Rattle.std.specs.List.{AllByRecursion, list_any, list_all, range_with_len}
 use Rattle.ucm_base.specs.Limits.{attempt_limit, node_limit}
 use Rattle.campaign_core.specs.declared.events.MasterEvent.{MasterEvent}
 use Rattle.campaign_core.specs.declared.events.MasterEvent.TheVariants.{VoteOf}
 use Rattle.campaign_core.specs.declared.events.Vote.{Vote}
 use Rattle.sub_core.specs.Failures.{faults_in, is_losing, last_count, losses_in}
 use Rattle.run_script.specs.declared.lines.FateLine.{FateLine}
+use Rattle.run_script.specs.Plans.{fate_at}
 use Rattle.run_claim.specs.Script.{ClientLine}
 use Rattle.run_claim.specs.Ended.{Failure, OfVote, OfEnd, OfLine, OfFormatting, OfMaster, Series, Unfinished, LineReply, Gave, NoReply, gave_of, is_no_reply}
 use Rattle.sub_core.specs.declared.answers.Rises.{Rises}
@@ -91,9 +92,15 @@ may_lose _ = false
 abbrev pub LosesOnlyIf : Series → Type 0
 LosesOnlyIf s = IsTrue (may_lose s.failure) ⊎ (losses_in s.rises ≡ 0)
 
--- the attempts at a node that its fate lines make lost, unanswered or delayed
+-- the last attempt of which a line says anything
+abbrev pub last_attempt : List FateLine → ℕ
+last_attempt [] = 0
+last_attempt (f ∷ fates) = max f.last (last_attempt fates)
+
+-- how many attempts at a node the fate lines make lost, unanswered or delayed
 abbrev pub losing_attempts : List FateLine → ℕ → ℕ
-losing_attempts fates n = sum_by (λ f. f.last + 1 - f.first) (filter (λ f. is_losing f.fate && (f.node == n)) fates)
+losing_attempts fates n =
+    length (filter (λ attempt. is_losing (fate_at fates n attempt)) (range_with_len 1 (last_attempt fates)))
 
 -- the losses, and the faults, of all series of one disk
 abbrev pub losses_on : ℕ → List Series → ℕ

@@ -6,6 +6,7 @@
 //! run promises of each node's history, of the master's list and of the series of failed attempts.
 #![tactic(auto)]
 
+ghost use Rattle.run_claim.specs.Asked.{SoundFollows};
 ghost use Rattle.run_claim.specs.Calm.{CalmFollows, CalmNode};
 ghost use Rattle.run_claim.specs.Law.{BlameFollows, EnteredFollows, LeftFollows, StaysAtRest};
 
@@ -40,4 +41,9 @@ pub fn what_is_accepted()
 /// An eligible or calm run succeeds where no disk's count rose.
 pub fn what_succeeds()
     ensures law { CalmFollows }
+{}
+
+/// A script in form asks for what the laws ask of scripts, over a reading that reads packages.
+pub fn what_is_asked()
+    ensures law { SoundFollows }
 {}

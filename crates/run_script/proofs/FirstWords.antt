@@ -1,6 +1,6 @@
 -- The first words of a line decide what it is.
 use Rattle.std.proofs.Common.{◌≡◌, ◌<◌, ◌≤◌, ◌∙◌, ℕ, Bool, true, false, List, [], ◌∷◌, Result, Ok, Err, Bor, length, map, take, refl, sym, ap, arith}
-use Rattle.std.specs.Prelude.{◌&&◌, if◌then◌else◌, nat_le}
+use Rattle.std.specs.Prelude.{if◌then◌else◌, nat_le}
 use Rattle.std.proofs.lemmas.Bool.Decides.{nat_tests}
 use Rattle.std.proofs.lemmas.List.{take_all, length-take-le}
 use Rattle.scenario.specs.declared.why.Why.{Why}
@@ -8,12 +8,11 @@ use Rattle.scenario.specs.declared.why.Why.TheVariants.{Form}
 use Rattle.scenario.specs.declared.words.Reach.TheVariants.{Vehicle}
 use Rattle.scenario.specs.Readings.{◌>>=◌}
 use Rattle.scenario.specs.Attached.{Places}
-use Rattle.scenario.specs.Lines.{shared_line}
 use Rattle.scenario.proofs.FirstWords.{long-shared}
 use Rattle.scenario.specs.declared.lines.ScriptLine.{ScriptLine}
 use Rattle.run_script.specs.declared.read.RunLine.{RunLine}
 use Rattle.run_script.specs.declared.read.RunLine.TheVariants.{Shared}
-use Rattle.run_script.specs.RunLines.{campaign_line, cancel_line, event_behind, fate_line, fault_line, is_own, is_setup_form, line_in, line_named, own_line, setup_line, stop_line}
+use Rattle.run_script.specs.RunLines.{campaign_line, cancel_line, fate_line, fault_line, is_setup_form, line_in, line_named, own_line, setup_line, stop_line}
 
 -- lines of more words than any form has
 abbrev IsForm : Result RunLine Why → Type 0

@@ -10,7 +10,7 @@ use Rattle.std.proofs.lemmas.List.Folds.{list_any-append}
 use Rattle.disk_core.specs.declared.plan.FailKind.{FailKind}
 use Rattle.disk_core.specs.declared.plan.FailKind.TheVariants.{Read, Write, Sync}
 use Rattle.disk_mem.specs.Strikes.{same_kind}
-use Rattle.range_set.specs.Ranges.{is_met, meets, track_range}
+use Rattle.range_set.specs.Ranges.{is_met, track_range}
 use Rattle.ucm_base.specs.Limits.{cluster_limit, package_limit}
 use Rattle.scenario.specs.declared.why.Why.{Why}
 use Rattle.scenario.specs.declared.lines.ScriptLine.TheVariants.{Time, Installed, Happens, Fails as FailsOn, Attach}
@@ -26,8 +26,8 @@ use Rattle.run_script.specs.declared.lines.StopLine.{StopLine}
 use Rattle.run_script.specs.declared.lines.Lines.{Lines}
 use Rattle.run_script.specs.declared.read.RunLine.{RunLine}
 use Rattle.run_script.specs.declared.read.RunLine.TheVariants.{Shared, Setup, Stop, Fault, Campaign, Cancel, Fate}
-use Rattle.run_script.specs.Above.{added, attach_added, attached_to, has_installed, has_room, nothing_above, on_node}
-use Rattle.run_script.specs.InForm.{AreFates, AreFaults, AreInstalled, AreStops, AreInForm, IsCampaign, IsTime, IsClientLine, IsFateLine, IsFaultLine, IsInstalledLine, IsKnownInForm, IsLine, IsNode, IsStopLine, are_apart, ranges_meet, same_cluster}
+use Rattle.run_script.specs.Above.{added, attach_added, attached_to, has_installed, has_room, no_lines, on_node}
+use Rattle.run_script.specs.InForm.{AreFates, AreFaults, AreInstalled, AreStops, AreInForm, IsCampaign, IsTime, IsClientLine, IsFateLine, IsFaultLine, IsInstalledLine, IsLine, IsNode, IsStopLine, are_apart, ranges_meet, same_cluster}
 use Rattle.run_script.specs.Taken.{attempts_of, faults_of, stops_of}
 use Rattle.run_script.proofs.Indexes.{fault-other}
 
@@ -178,80 +178,79 @@ else-ok false why r a e = (refl, e)
 ok-ok : {A : Type 0} (x a : A) (r : Result A Why) → r ≡ Ok x → r ≡ Ok a → x ≡ a
 ok-ok x a r h e = cc
 
-attach-kept : (above more : Above) (name : List ℕ) (len : ℕ) → IsKnownInForm above
-    → attach_added above name len ≡ Ok more → IsKnownInForm more
-attach-kept above more name len f e =
+-- lines in form, by those of each kind
+form-of : (lines : Lines) → IsCampaign lines.campaign → IsTime lines.time → AreInstalled lines.installed
+    → All (λ l. IsNode l.node) lines.fails → All IsClientLine lines.clients → AreStops lines.stops
+    → AreFaults lines.faults → AreFates lines.fates → AreInForm lines
+form-of lines k t i x c s u a =
+    record { campaign = k; time = t; installed = i; fails = x; clients = c; stops = s; faults = u; fates = a }
+
+abbrev Formed : Above → Type 0
+Formed above = AreInForm above.lines
+
+attach-kept : (n : ℕ) (above more : Above) (name : List ℕ) (len : ℕ) → AreInForm above.lines
+    → attach_added n above name len ≡ Ok more → AreInForm more.lines
+attach-kept n above more name len f e =
     at-sum (attached_with above.attached len) (else-ok (is_some (attached_by above.attachments name)) _ _ more e).1
   where
-    at-sum : (sum : Option ℕ) → attached_to above name len sum ≡ Ok more → IsKnownInForm more
-    at-sum (Some all) h = subst IsKnownInForm (ok-ok _ more _ refl h) f
+    at-sum : (sum : Option ℕ) → attached_to n above name len sum ≡ Ok more → AreInForm more.lines
+    at-sum (Some all) h =
+        subst Formed (ok-ok _ more _ refl h)
+        (form-of _ f.campaign f.time f.installed f.fails f.clients f.stops f.faults f.fates)
     at-sum None h = absurd (cc)
 
 -- nothing is in form
-pub none_in_form : IsKnownInForm nothing_above
-none_in_form = (
-  tt,
-  record {
-    time = tt;
-    installed = record { each = All-nil IsInstalledLine; once = refl; room = λ node. omega arith };
-    fails = All-nil _;
-    clients = All-nil IsClientLine;
-    stops = record { each = All-nil IsStopLine; apart = refl };
-    faults = record { each = All-nil IsFaultLine; apart = λ kind. refl };
-    fates = record { each = All-nil IsFateLine; apart = refl };
-  },
-)
+pub none_in_form : AreInForm no_lines
+none_in_form = record {
+  campaign = tt;
+  time = tt;
+  installed = record { each = All-nil IsInstalledLine; once = refl; room = λ node. omega arith };
+  fails = All-nil _;
+  clients = All-nil IsClientLine;
+  stops = record { each = All-nil IsStopLine; apart = refl };
+  faults = record { each = All-nil IsFaultLine; apart = λ kind. refl };
+  fates = record { each = All-nil IsFateLine; apart = refl };
+}
 
--- lines in form, by those of each kind
-form-of : (lines : Lines) → IsTime lines.time → AreInstalled lines.installed → All (λ l. IsNode l.node) lines.fails
-    → All IsClientLine lines.clients → AreStops lines.stops → AreFaults lines.faults → AreFates lines.fates
-    → AreInForm lines
-form-of lines t i x c s u a =
-    record { time = t; installed = i; fails = x; clients = c; stops = s; faults = u; fates = a }
-
-kept : (n : ℕ) (above more : Above) (line : RunLine) → IsLine line → IsCampaign above.campaign → AreInForm above.lines
-    → added n above line ≡ Ok more → IsKnownInForm more
-kept n above more (Shared (Time t)) l k f e =
-    subst IsKnownInForm (given-ok (is_none above.lines.time) _ more _ e).1
-    (k, form-of _ l f.installed f.fails f.clients f.stops f.faults f.fates)
-kept n above more (Shared (Installed node c)) l k f e =
+-- one line more is in form
+pub form-kept : (n : ℕ) (above more : Above) (line : RunLine) → IsLine line → AreInForm above.lines
+    → added n above line ≡ Ok more → AreInForm more.lines
+form-kept n above more (Shared (Time t)) l f e =
+    subst Formed (given-ok (is_none above.lines.time) _ more _ e).1
+    (form-of _ f.campaign l f.installed f.fails f.clients f.stops f.faults f.fates)
+form-kept n above more (Shared (Installed node c)) l f e =
     let once = else-ok (has_installed above.lines.installed node c.name) _ _ more e in
     let room = given-ok (has_room above node c) _ more _ once.1 in
     let installed = installed-pushed above.lines.installed _ f.installed l once.0 room.0 in
-    subst IsKnownInForm room.1 (k, form-of _ f.time installed f.fails f.clients f.stops f.faults f.fates)
-kept n above more (Shared (Happens d)) l k f e =
+    subst Formed room.1 (form-of _ f.campaign f.time installed f.fails f.clients f.stops f.faults f.fates)
+form-kept n above more (Shared (Happens d)) l f e =
     let clients = All-push IsClientLine above.lines.clients _ f.clients l in
-    subst IsKnownInForm (ok-ok _ more _ refl e)
-    (k, form-of _ f.time f.installed f.fails clients f.stops f.faults f.fates)
-kept n above more (Shared (FailsOn node name)) l k f e =
+    subst Formed (ok-ok _ more _ refl e)
+    (form-of _ f.campaign f.time f.installed f.fails clients f.stops f.faults f.fates)
+form-kept n above more (Shared (FailsOn node name)) l f e =
     let fails = All-push (λ x. IsNode x.node) above.lines.fails _ f.fails l in
-    subst IsKnownInForm (ok-ok _ more _ refl e)
-    (k, form-of _ f.time f.installed fails f.clients f.stops f.faults f.fates)
-kept n above more (Shared (Attach name len)) l k f e = attach-kept above more name len (k, f) e
-kept n above more (Setup d) l k f e =
+    subst Formed (ok-ok _ more _ refl e)
+    (form-of _ f.campaign f.time f.installed fails f.clients f.stops f.faults f.fates)
+form-kept n above more (Shared (Attach name len)) l f e = attach-kept n above more name len f e
+form-kept n above more (Setup d) l f e =
     let clients = All-push IsClientLine above.lines.clients _ f.clients l in
-    subst IsKnownInForm (ok-ok _ more _ refl e)
-    (k, form-of _ f.time f.installed f.fails clients f.stops f.faults f.fates)
-kept n above more (Stop s) l k f e =
+    subst Formed (ok-ok _ more _ refl e)
+    (form-of _ f.campaign f.time f.installed f.fails clients f.stops f.faults f.fates)
+form-kept n above more (Stop s) l f e =
     let free = given-ok _ _ more _ e in
     let stops = stops-pushed above.lines.stops s f.stops l (unless _ free.0) in
-    subst IsKnownInForm free.1 (k, form-of _ f.time f.installed f.fails f.clients stops f.faults f.fates)
-kept n above more (Fault x) l k f e =
+    subst Formed free.1 (form-of _ f.campaign f.time f.installed f.fails f.clients stops f.faults f.fates)
+form-kept n above more (Fault x) l f e =
     let free = given-ok _ _ more _ e in
     let faults = faults-pushed above.lines.faults x f.faults l (unless _ free.0) in
-    subst IsKnownInForm free.1 (k, form-of _ f.time f.installed f.fails f.clients f.stops faults f.fates)
-kept n above more (Campaign number) l k f e =
-    subst IsKnownInForm (given-ok (is_none above.campaign) _ more _ e).1
-    (l, form-of _ f.time f.installed f.fails f.clients f.stops f.faults f.fates)
-kept n above more (Cancel p) l k f e =
-    subst IsKnownInForm (given-ok (is_none above.lines.cancel) _ more _ e).1
-    (k, form-of _ f.time f.installed f.fails f.clients f.stops f.faults f.fates)
-kept n above more (Fate x) l k f e =
+    subst Formed free.1 (form-of _ f.campaign f.time f.installed f.fails f.clients f.stops faults f.fates)
+form-kept n above more (Campaign number) l f e =
+    subst Formed (given-ok (is_none above.lines.campaign) _ more _ e).1
+    (form-of _ l f.time f.installed f.fails f.clients f.stops f.faults f.fates)
+form-kept n above more (Cancel p) l f e =
+    subst Formed (given-ok (is_none above.lines.cancel) _ more _ e).1
+    (form-of _ f.campaign f.time f.installed f.fails f.clients f.stops f.faults f.fates)
+form-kept n above more (Fate x) l f e =
     let free = given-ok _ _ more _ e in
     let fates = fates-pushed above.lines.fates x f.fates l (unless _ free.0) in
-    subst IsKnownInForm free.1 (k, form-of _ f.time f.installed f.fails f.clients f.stops f.faults fates)
-
--- one line more is in form
-pub form-kept : (n : ℕ) (above more : Above) (line : RunLine) → IsLine line → IsKnownInForm above
-    → added n above line ≡ Ok more → IsKnownInForm more
-form-kept n above more line l f e = kept n above more line l f.0 f.1 e
+    subst Formed free.1 (form-of _ f.campaign f.time f.installed f.fails f.clients f.stops f.faults fates)

@@ -1,5 +1,5 @@
 -- Nodes and clients that a script of a run names.
-use Rattle.std.proofs.Common.{◌≡◌, ◌≤◌, ◌<◌, ℕ, Bool, true, false, List, [], ◌∷◌, Result, Ok, Err, IfOk, refl, subst, arith}
+use Rattle.std.proofs.Common.{◌≡◌, ◌≤◌, ℕ, Bool, true, false, List, [], ◌∷◌, Result, Ok, Err, IfOk, refl, subst, arith}
 use Rattle.std.specs.Str.{bytes_eq}
 use Rattle.std.specs.Prelude.{codes, ◌&&◌, if◌then◌else◌, nat_le, nat_lt}
 use Rattle.std.proofs.lemmas.Bool.Decides.{nat_tests}
@@ -8,13 +8,11 @@ use Rattle.scenario.specs.declared.why.Why.{Why}
 use Rattle.scenario.specs.declared.why.Why.TheVariants.{Form, Value}
 use Rattle.scenario.specs.declared.why.WordError.{WordError}
 use Rattle.scenario.specs.declared.words.Reach.TheVariants.{Vehicle}
-use Rattle.scenario.specs.declared.events.NodeEvent.{NodeEvent}
 use Rattle.scenario.specs.declared.lines.ScriptLine.{ScriptLine}
 use Rattle.scenario.specs.declared.lines.ScriptLine.TheVariants.{Happens}
 use Rattle.scenario.specs.Attached.{Places}
 use Rattle.scenario.specs.Readings.{◌>>=◌, given}
 use Rattle.scenario.specs.Words.{call_no_in, client_in, name_in, node_in, number_in}
-use Rattle.scenario.specs.Blocks.{block_in}
 use Rattle.scenario.specs.Events.{call_in, query_in}
 use Rattle.scenario.specs.Lines.{ask_line, attach_line, call_line, client_query, cluster_line, cluster_on, event_line, fails_line, installed_line, is_call_form, is_event, is_query_form, numbered_call, shared_line, short_line, time_line, work_line}
 use Rattle.run_script.specs.InForm.{IsClient, IsDone, IsNode, IsShared}

@@ -29,8 +29,10 @@ use Rattle.run_script.specs.Taken.{attempts_of, faults_of, stops_of}
 abbrev pub no_lines : Lines
 no_lines =
     record {
+      campaign = None;
       time = None;
       cancel = None;
+      attached = [];
       installed = [];
       fails = [];
       clients = [];
@@ -41,20 +43,26 @@ no_lines =
 
 -- what is known before the first line
 abbrev pub nothing_above : Above
-nothing_above = record { campaign = None; lines = no_lines; attachments = []; attached = 0 }
+nothing_above = record { lines = no_lines; attachments = []; attached = 0 }
 
-abbrev pub time_added : Above → ℕ → Result Above Why
-time_added above n =
+-- what is known below the n-th line, of each kind
+abbrev pub time_added : ℕ → Above → ℕ → Result Above Why
+time_added n above t =
     let lines = above.lines in
-    given (is_none lines.time) (record above { lines = record lines { time = Some n } }) Twice
+    given (is_none lines.time)
+    (record above { lines = record lines { time = Some (record { line = n; time = t }) } }) Twice
 
-abbrev pub campaign_added : Above → ℕ → Result Above Why
-campaign_added above k = given (is_none above.campaign) (record above { campaign = Some k }) Twice
-
-abbrev pub cancel_added : Above → Point → Result Above Why
-cancel_added above point =
+abbrev pub campaign_added : ℕ → Above → ℕ → Result Above Why
+campaign_added n above k =
     let lines = above.lines in
-    given (is_none lines.cancel) (record above { lines = record lines { cancel = Some point } }) Twice
+    given (is_none lines.campaign)
+    (record above { lines = record lines { campaign = Some (record { line = n; campaign = k }) } }) Twice
+
+abbrev pub cancel_added : ℕ → Above → Point → Result Above Why
+cancel_added n above p =
+    let lines = above.lines in
+    given (is_none lines.cancel)
+    (record above { lines = record lines { cancel = Some (record { line = n; point = p }) } }) Twice
 
 abbrev pub has_installed : List InstalledLine → ℕ → List ℕ → Bool
 has_installed installed node name = list_any (λ l. (l.node == node) && bytes_eq l.cluster.name name) installed
@@ -97,25 +105,27 @@ fails_added n above node name =
     })
 
 -- what is known below an attachment, where this many bytes are attached then
-abbrev pub attached_to : Above → List ℕ → ℕ → Option ℕ → Result Above Why
-attached_to above name len (Some all) =
+abbrev pub attached_to : ℕ → Above → List ℕ → ℕ → Option ℕ → Result Above Why
+attached_to n above name len (Some all) =
+    let lines = above.lines in
     Ok (record above {
+      lines = record lines { attached = lines.attached ++ record { line = n; name = name; len = len } ∷ [] };
       attachments = with_attached above.attachments name (record { at = above.attached; len = len });
       attached = all;
     })
-attached_to above name len None = Err Limit
+attached_to n above name len None = Err Limit
 
-abbrev pub attach_added : Above → List ℕ → ℕ → Result Above Why
-attach_added above name len =
+abbrev pub attach_added : ℕ → Above → List ℕ → ℕ → Result Above Why
+attach_added n above name len =
     if is_some (attached_by above.attachments name) then Err Twice
-    else attached_to above name len (attached_with above.attached len)
+    else attached_to n above name len (attached_with above.attached len)
 
 abbrev pub shared_added : ℕ → Above → ScriptLine → Result Above Why
-shared_added n above (Time t) = time_added above t
+shared_added n above (Time t) = time_added n above t
 shared_added n above (Installed node c) = installed_added n above node c
 shared_added n above (Happens e) = client_added n false above e
 shared_added n above (Fails node name) = fails_added n above node name
-shared_added n above (Attach name len) = attach_added above name len
+shared_added n above (Attach name len) = attach_added n above name len
 
 -- a node's attempt stands once
 abbrev pub fate_added : Above → FateLine → Result Above Why
@@ -144,6 +154,6 @@ added n above (Shared l) = shared_added n above l
 added n above (Setup e) = client_added n true above e
 added n above (Stop s) = stop_added above s
 added n above (Fault f) = fault_added above f
-added n above (Campaign k) = campaign_added above k
-added n above (Cancel point) = cancel_added above point
+added n above (Campaign k) = campaign_added n above k
+added n above (Cancel point) = cancel_added n above point
 added n above (Fate f) = fate_added above f

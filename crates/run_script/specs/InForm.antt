@@ -1,21 +1,26 @@
 -- What every line that is read satisfies, and all lines of a script together.
-use Rattle.std.specs.Prelude.{◌≡◌, ℕ, ◌≤◌, ◌<◌, ◌&&◌, ◌==◌, not, Bool, true, ⊤, List, [], ◌∷◌, Option, Some, None}
-use Rattle.std.specs.List.{All, list_any}
+use Rattle.std.specs.Prelude.{◌≡◌, ℕ, ◌≤◌, ◌<◌, ◌&&◌, ◌==◌, not, Bool, true, ⊤, List, [], ◌∷◌, length, Option, Some, None}
+use Rattle.std.specs.List.{All, AllByRecursion, list_any}
 use Rattle.std.specs.Str.{bytes_eq}
-use Rattle.ucm_base.specs.Limits.{client_limit, cluster_limit, node_limit, package_limit, time_limit}
+use Rattle.ucm_base.specs.Limits.{carried_limit, client_limit, cluster_limit, node_limit, package_limit, time_limit}
 use Rattle.disk_core.specs.declared.plan.FailKind.{FailKind}
 use Rattle.range_set.specs.Ranges.{meets}
+use Rattle.vehicle_package.specs.declared.vehicle.Vehicle.{Vehicle}
+use Rattle.vehicle_package.specs.Changes.{twice_in}
+use Rattle.vehicle_package.specs.Plan.{IsStep, are_few}
+use Rattle.vehicle_package.specs.Spelling.{IsCarried}
 use Rattle.scenario.specs.declared.events.Event.{Event}
 use Rattle.scenario.specs.declared.events.Event.TheVariants.{Call, Work, Ask}
 use Rattle.scenario.specs.declared.events.NodeEvent.{NodeEvent}
 use Rattle.scenario.specs.declared.lines.ScriptLine.{ScriptLine}
 use Rattle.scenario.specs.declared.lines.ScriptLine.TheVariants.{Time, Installed, Happens, Fails, Attach}
 use Rattle.scenario.specs.Blocks.{length_meant}
-use Rattle.run_script.specs.declared.above.Above.{Above}
 use Rattle.run_script.specs.declared.script.Script.{Script}
 use Rattle.run_script.specs.declared.lines.ClientLine.{ClientLine}
 use Rattle.sub_core.specs.declared.subordinate.Fate.{Fate as AnyFate}
-use Rattle.sub_core.specs.declared.subordinate.Fate.TheVariants.{Deliver, Lost, Unanswered, Twice, Late, Delayed}
+use Rattle.sub_core.specs.declared.subordinate.Fate.TheVariants.{Deliver, Late, Delayed}
+use Rattle.run_script.specs.declared.lines.CampaignLine.{CampaignLine}
+use Rattle.run_script.specs.declared.lines.TimeLine.{TimeLine}
 use Rattle.run_script.specs.declared.lines.FateLine.{FateLine}
 use Rattle.run_script.specs.declared.lines.FaultLine.{FaultLine}
 use Rattle.run_script.specs.declared.lines.InstalledLine.{InstalledLine}
@@ -44,10 +49,15 @@ client_of (Ask client query) = client
 abbrev pub IsDone : NodeEvent → Type 0
 IsDone e = IsNode e.node × IsClient (client_of e.event)
 
--- a start time
-abbrev pub IsTime : Option ℕ → Type 0
+-- a campaign's number, if a line gives it
+abbrev pub IsCampaign : Option CampaignLine → Type 0
+IsCampaign None = ⊤
+IsCampaign (Some k) = 1 ≤ k.campaign
+
+-- a start time, if a line gives it
+abbrev pub IsTime : Option TimeLine → Type 0
 IsTime None = ⊤
-IsTime (Some t) = t ≤ time_limit
+IsTime (Some t) = t.time ≤ time_limit
 
 -- a line that `replay` has, too
 abbrev pub IsShared : ScriptLine → Type 0
@@ -136,6 +146,7 @@ pub record AreFates (ls : List FateLine) : Type 0 where
 
 -- what all lines of a script satisfy
 pub record AreInForm (lines : Lines) : Type 0 where
+  pub campaign : IsCampaign lines.campaign
   pub time : IsTime lines.time
   pub installed : AreInstalled lines.installed
   pub fails : All (λ l. IsNode l.node) lines.fails
@@ -144,15 +155,17 @@ pub record AreInForm (lines : Lines) : Type 0 where
   pub faults : AreFaults lines.faults
   pub fates : AreFates lines.fates
 
--- a campaign's number, if it is known
-abbrev pub IsCampaign : Option ℕ → Type 0
-IsCampaign None = ⊤
-IsCampaign (Some k) = 1 ≤ k
-
--- what is known above a line
-abbrev pub IsKnownInForm : Above → Type 0
-IsKnownInForm above = IsCampaign above.campaign × AreInForm above.lines
+-- the vehicle that every script has: 1 to 128 steps, each of a package that is there, which is one by its bytes, to one
+-- of the eight nodes, and no cluster to a node twice
+pub record IsLoaded (v : Vehicle) : Type 0 where
+  pub some : are_few (length v.steps) ≡ true
+  pub steps : AllByRecursion (IsStep (length v.packages)) v.steps
+  pub few : length v.packages ≤ carried_limit
+  pub packages : AllByRecursion IsCarried v.packages
+  pub once : twice_in v.packages v.steps ≡ None
 
 -- what every script of a run satisfies
-abbrev pub IsInForm : Script → Type 0
-IsInForm s = (1 ≤ s.campaign) × AreInForm s.lines
+pub record IsInForm (s : Script) : Type 0 where
+  pub campaign : 1 ≤ s.campaign
+  pub lines : AreInForm s.lines
+  pub vehicle : IsLoaded s.vehicle

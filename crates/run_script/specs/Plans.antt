@@ -1,6 +1,6 @@
 -- What a script says of an attempt at a node, and of a call of a disk.
-use Rattle.std.specs.Prelude.{◌≡◌, ℕ, ◌&&◌, ◌==◌, nat_le, Bool, List, ◌++◌, Option, None, option_map, map}
-use Rattle.std.specs.List.{find, list_any}
+use Rattle.std.specs.Prelude.{◌≡◌, ℕ, ◌+◌, ◌-◌, ◌&&◌, ◌==◌, nat_le, if◌then◌else◌, Bool, List, [], ◌∷◌, ◌++◌, Option, None, option_map, map}
+use Rattle.std.specs.List.{find, list_any, range_with_len}
 use Rattle.disk_core.specs.declared.plan.FailKind.{FailKind}
 use Rattle.disk_core.specs.declared.plan.FailKind.TheVariants.{Read, Write, Sync}
 use Rattle.disk_core.specs.declared.plan.FaultPlan.{FaultPlan}
@@ -50,6 +50,18 @@ call_given lines disk Sync call = fate_by None (is_failing lines.faults disk Syn
 abbrev pub IsPlanOf : Lines → ℕ → FaultPlan → Type 0
 IsPlanOf lines disk plan =
     (kind : FailKind) → (call : ℕ) → planned plan kind call ≡ call_given lines disk kind call
+
+-- a line's write and what stays of it, where it is of this disk
+abbrev pub stops_by : ℕ → StopLine → List (ℕ × ℕ)
+stops_by disk s = if s.disk == disk then (s.write, s.keep) ∷ [] else []
+
+-- each call of a line, one by one
+abbrev pub calls_by : FaultLine → List (FailKind × ℕ)
+calls_by f = map (λ call. (f.kind, call)) (range_with_len f.first (f.last + 1 - f.first))
+
+-- those of a line that is of this disk
+abbrev pub fails_by : ℕ → FaultLine → List (FailKind × ℕ)
+fails_by disk f = if f.disk == disk then calls_by f else []
 
 -- the disks of which a line lets a call fail
 abbrev pub disks_of : Lines → List ℕ

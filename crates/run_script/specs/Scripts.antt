@@ -1,5 +1,6 @@
 -- Scripts: what the lines above `end` say, and what lies behind it.
-use Rattle.std.specs.Prelude.{◌≡◌, ⊤, ℕ, IfErr, IfOk, ◌+◌, ◌==◌, if◌then◌else◌, List, [], ◌∷◌, length, take, drop, codes, ok_or, unwrap_or, Result, Ok, Err}
+use Rattle.std.specs.Prelude.{◌≡◌, ⊤, ℕ, IfErr, IfOk, ◌+◌, ◌==◌, if◌then◌else◌, List, [], ◌∷◌, length, take, drop, codes, ok_or, Result, Ok, Err}
+use Rattle.std.specs.Option.{option_map_or}
 use Rattle.vehicle_package.specs.declared.fault.VehicleError.{VehicleError}
 use Rattle.vehicle_package.specs.declared.fault.VehicleError.TheVariants.{OutOfMemory as NoMemory}
 use Rattle.vehicle_package.specs.declared.vehicle.Vehicle.{Vehicle as AnyVehicle}
@@ -35,7 +36,7 @@ said s = record { campaign = s.campaign; lines = s.lines; vehicle = s.vehicle; a
 
 -- the start time, 0 where no line gives it
 abbrev pub start_time : Said → ℕ
-start_time s = unwrap_or s.lines.time 0
+start_time s = option_map_or (λ t. t.time) s.lines.time 0
 
 -- the lines above the line `end`; all lines, where there is none
 abbrev pub above_end : List (List ℕ) → List (List ℕ)
@@ -77,9 +78,9 @@ vehicle_place places = name_in (codes "vehicle") >>= λ name. ok_or (attached_by
 abbrev pub needed : Above → ℕ → Result (ℕ × Attached) Why
 needed above size = do
   _ ← given (above.attached == size) size Bytes
-  k ← ok_or above.campaign Missing
+  first ← ok_or above.lines.campaign Missing
   place ← vehicle_place above.attachments
-  Ok (k, place)
+  Ok (first.campaign, place)
 
 -- the bytes of an attachment
 abbrev pub piece_of : List ℕ → Attached → List ℕ

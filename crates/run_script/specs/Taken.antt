@@ -1,5 +1,5 @@
 -- What the lines above take, and that no line takes any of it again.
-use Rattle.std.specs.Prelude.{◌≡◌, ℕ, ◌||◌, ◌&&◌, Bool, true, IfErr, List, [], map, filter, Result}
+use Rattle.std.specs.Prelude.{◌≡◌, ℕ, ◌||◌, Bool, true, IfErr, List, [], map, filter, Result}
 use Rattle.disk_core.specs.declared.plan.FailKind.{FailKind}
 use Rattle.disk_core.specs.declared.plan.FailKind.TheVariants.{Read, Write, Sync}
 use Rattle.disk_mem.specs.Strikes.{same_kind}

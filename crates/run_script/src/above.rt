@@ -5,7 +5,10 @@ ghost use Rattle.scenario.specs.Scripts.{attached_with};
 ghost use Rattle.run_script.specs.Above.{attach_added, campaign_added, cancel_added, client_added, has_installed, has_room, installed_added, nothing_above, on_node, shared_added, time_added};
 ghost use Rattle.run_script.specs.Taken.{TakesNothing};
 
-use crate::lines::{ClientLine, FailsLine, InstalledLine, Lines, Point};
+use crate::lines::{
+    AttachLine, CampaignLine, CancelLine, ClientLine, FailsLine, InstalledLine, Lines, Point,
+    TimeLine,
+};
 use scenario::{Attached, Attachments, Installed, NodeEvent, ScriptLine, Why, WordError};
 use std::alloc::Global;
 use ucm_base::limits::{CLUSTER_LIMIT, INPUT_LIMIT, PACKAGE_LIMIT};
@@ -14,7 +17,6 @@ use ucm_base::{ClusterName, NodeId};
 /// What the lines above say.
 #[derive(Drop)]
 pub struct Above {
-    pub campaign: Option<u32>,
     pub lines: Lines,
     pub attachments: Attachments,
     /// How many bytes are attached.
@@ -27,7 +29,6 @@ impl Above {
         ensures { result ≡ nothing_above }
     {
         Above {
-            campaign: None,
             lines: Lines::new(alloc),
             attachments: Attachments::new(alloc),
             attached: 0,
@@ -35,38 +36,38 @@ impl Above {
     }
 
     /// Adds the start time, which stands once.
-    pub fn add_time(&mut self, n: u64) -> Result<(), WordError>
-        ensures read { Becomes result self.new (time_added self.old n) }
+    pub fn add_time(&mut self, line: u64, time: u64) -> Result<(), WordError>
+        ensures read { Becomes result self.new (time_added line self.old time) }
         ensures kept { TakesNothing self.old.lines self.new.lines }
     {
         if self.lines.time.is_some() {
             return Err(WordError::Refused(Why::Twice));
         }
-        self.lines.time = Some(n);
+        self.lines.time = Some(TimeLine { line, time });
         Ok(())
     }
 
     /// Adds the campaign, which stands once.
-    pub fn add_campaign(&mut self, k: u32) -> Result<(), WordError>
-        ensures read { Becomes result self.new (campaign_added self.old k) }
+    pub fn add_campaign(&mut self, line: u64, campaign: u32) -> Result<(), WordError>
+        ensures read { Becomes result self.new (campaign_added line self.old campaign) }
         ensures kept { TakesNothing self.old.lines self.new.lines }
     {
-        if self.campaign.is_some() {
+        if self.lines.campaign.is_some() {
             return Err(WordError::Refused(Why::Twice));
         }
-        self.campaign = Some(k);
+        self.lines.campaign = Some(CampaignLine { line, campaign });
         Ok(())
     }
 
     /// Adds the cancel, which stands once.
-    pub fn add_cancel(&mut self, point: Point) -> Result<(), WordError>
-        ensures read { Becomes result self.new (cancel_added self.old point) }
+    pub fn add_cancel(&mut self, line: u64, point: Point) -> Result<(), WordError>
+        ensures read { Becomes result self.new (cancel_added line self.old point) }
         ensures kept { TakesNothing self.old.lines self.new.lines }
     {
         if self.lines.cancel.is_some() {
             return Err(WordError::Refused(Why::Twice));
         }
-        self.lines.cancel = Some(point);
+        self.lines.cancel = Some(CancelLine { line, point });
         Ok(())
     }
 
@@ -152,8 +153,8 @@ impl Above {
     }
 
     /// Adds an attachment, whose name stands once.
-    fn add_attachment(&mut self, name: ClusterName, len: u64) -> Result<(), WordError>
-        ensures read { Becomes result self.new (attach_added self.old name len) }
+    fn add_attachment(&mut self, line: u64, name: ClusterName, len: u64) -> Result<(), WordError>
+        ensures read { Becomes result self.new (attach_added line self.old name len) }
         ensures kept { TakesNothing self.old.lines self.new.lines }
     {
         if self.attachments.named(name).is_some() {
@@ -167,6 +168,7 @@ impl Above {
             len: all - self.attached,
         };
         self.attachments.add(name, place)?;
+        self.lines.attached.push(AttachLine { line, name, len })?;
         self.attached = all;
         Ok(())
     }
@@ -177,7 +179,7 @@ impl Above {
         ensures kept { TakesNothing self.old.lines self.new.lines }
     {
         match line {
-            ScriptLine::Time(n) => self.add_time(n),
+            ScriptLine::Time(time) => self.add_time(number, time),
             ScriptLine::Installed { node, cluster } => self.add_installed(number, node, cluster),
             ScriptLine::Happens(done) => self.add_client(number, false, done),
             ScriptLine::Fails { node, name } => {
@@ -188,7 +190,7 @@ impl Above {
                 })?;
                 Ok(())
             }
-            ScriptLine::Attach { name, len } => self.add_attachment(name, len),
+            ScriptLine::Attach { name, len } => self.add_attachment(number, name, len),
         }
     }
 }

@@ -18,6 +18,35 @@ pub enum Point {
     Decided,
 }
 
+/// The campaign's number.
+#[derive(Clone, Copy)]
+pub struct CampaignLine {
+    pub line: u64,
+    pub campaign: u32,
+}
+
+/// The start time.
+#[derive(Clone, Copy)]
+pub struct TimeLine {
+    pub line: u64,
+    pub time: u64,
+}
+
+/// Where the campaign is cancelled.
+#[derive(Clone, Copy)]
+pub struct CancelLine {
+    pub line: u64,
+    pub point: Point,
+}
+
+/// Bytes that are attached under a name.
+#[derive(Clone, Copy)]
+pub struct AttachLine {
+    pub line: u64,
+    pub name: ClusterName,
+    pub len: u64,
+}
+
 /// A cluster that a node is formatted with.
 #[derive(Drop)]
 pub struct InstalledLine {
@@ -77,8 +106,10 @@ pub struct FateLine {
 /// The lines of each kind, in order.
 #[derive(Drop)]
 pub struct Lines {
-    pub time: Option<u64>,
-    pub cancel: Option<Point>,
+    pub campaign: Option<CampaignLine>,
+    pub time: Option<TimeLine>,
+    pub cancel: Option<CancelLine>,
+    pub attached: Rows<AttachLine>,
     pub installed: Rows<InstalledLine>,
     pub fails: Rows<FailsLine>,
     pub clients: Rows<ClientLine>,
@@ -99,8 +130,10 @@ impl Lines {
         ensures form { AreInForm result }
     {
         Lines {
+            campaign: None,
             time: None,
             cancel: None,
+            attached: Rows::new(alloc),
             installed: Rows::new(alloc),
             fails: Rows::new(alloc),
             clients: Rows::new(alloc),

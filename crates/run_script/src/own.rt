@@ -68,8 +68,8 @@ pub fn add(
         RunLine::Setup(done) => above.add_client(number, true, done),
         RunLine::Stop(line) => add_stop(above, taken, line),
         RunLine::Fault(line) => add_fault(above, taken, line),
-        RunLine::Campaign(k) => above.add_campaign(k),
-        RunLine::Cancel(point) => above.add_cancel(point),
+        RunLine::Campaign(k) => above.add_campaign(number, k),
+        RunLine::Cancel(point) => above.add_cancel(number, point),
         RunLine::Fate(line) => add_fate(above, taken, line),
     }
 }

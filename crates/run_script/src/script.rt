@@ -3,7 +3,7 @@ ghost use Rattle.std.specs.Prelude.{◌≡◌, ◌≤◌, false, OnOk, IfErr, If
 ghost use Rattle.scenario.specs.Readings.{Becomes, IsRead};
 ghost use Rattle.scenario.specs.Scripts.{is_passed_over, words_of};
 ghost use Rattle.run_script.specs.Above.{nothing_above};
-ghost use Rattle.run_script.specs.InForm.{IsCampaign, IsInForm, IsKnownInForm, IsLine};
+ghost use Rattle.run_script.specs.InForm.{AreInForm, IsCampaign, IsInForm, IsLine};
 ghost use Rattle.run_script.specs.RunLines.{line_in};
 ghost use Rattle.run_script.specs.Scripts.{AreRead, IsScript, IsTold, fault_of, line_read, needed, piece_of, script_of, vehicle_place, whole};
 ghost use Rattle.run_script.specs.Taken.{IsTaken};
@@ -57,10 +57,10 @@ fn take_in<'a>(
 ) -> Result<(), WordError>
     requires written { is_passed_over line.now ≡ false }
     requires taken { IsTaken taken.old above.old.lines }
-    requires form { IsKnownInForm above.old }
+    requires form { AreInForm above.old.lines }
     ensures read { Becomes result above.new (line_read number above.old line.now) }
     ensures taken { OnOk result (IsTaken taken.new above.new.lines) }
-    ensures form { OnOk result (IsKnownInForm above.new) }
+    ensures form { OnOk result (AreInForm above.new.lines) }
 {
     let read = read_words(alloc, &above.attachments, words, number, line)?;
     add(above, taken, number, read)
@@ -83,7 +83,7 @@ fn read_lines(alloc: Global, above: &mut Above, input: &[u8]) -> Result<u64, Scr
     requires { above.old ≡ nothing_above }
     ensures read { AreRead result above.new input.now }
     ensures told { IfErr result IsTold }
-    ensures form { OnOk result (IsKnownInForm above.new) }
+    ensures form { OnOk result (AreInForm above.new.lines) }
 {
     let mut taken = Taken::new(alloc);
     let mut at = 0u64;
@@ -119,14 +119,14 @@ fn vehicle_place(attachments: &Attachments) -> Result<Attached, Why>
 /// The campaign and the vehicle package's place, where as many bytes are attached as the lines say.
 fn needed(above: &Above, size: u64) -> Result<(u32, Attached), Why>
     ensures needed { result ≡ needed above.now size }
-    ensures form { IsCampaign above.now.campaign → IfOk result (λ found. 1 ≤ found.0) }
+    ensures form { IsCampaign above.now.lines.campaign → IfOk result (λ found. 1 ≤ found.0) }
 {
     if u64::from(above.attached) != size {
         return Err(Why::Bytes);
     }
-    let k = above.campaign.ok_or(Why::Missing)?;
+    let first = above.lines.campaign.ok_or(Why::Missing)?;
     let place = vehicle_place(&above.attachments)?;
-    Ok((k, place))
+    Ok((first.campaign, place))
 }
 
 /// The bytes of an attachment, as far as they go.
@@ -140,9 +140,10 @@ fn piece(attached: &[u8], place: Attached) -> &[u8]
 }
 
 /// The script of all lines and of what is attached.
+#[tactic(auto, using(crate::proofs::Vehicles::is_loaded))]
 fn finish<'a>(alloc: Global, above: Above, attached: &'a [u8]) -> Result<Script<'a>, ScriptError>
     ensures read { IsScript result (whole above attached.now) }
-    ensures form { IsKnownInForm above → IfOk result IsInForm }
+    ensures form { AreInForm above.lines → IfOk result IsInForm }
     ensures told { IfErr result IsTold }
 {
     let (campaign, place) = match needed(&above, attached.len() as u64) {
@@ -164,7 +165,8 @@ fn finish<'a>(alloc: Global, above: Above, attached: &'a [u8]) -> Result<Script<
 /// The script that an input is. It is read line by line; blocks are not spelled out, and ranges are kept as ranges.
 pub fn read_script(alloc: Global, input: &[u8]) -> Result<Script<'_>, ScriptError>
     ensures read { IsScript result (script_of input.now) }
-    // The campaign counts from 1, nodes are 1 to 8, clients 1 to 31 and disks 0 to 8, and what stands once stands once.
+    // The campaign counts from 1, nodes are 1 to 8, clients 1 to 31 and disks 0 to 8, what stands once stands once, and
+    // the vehicle's steps are of packages that are there.
     ensures form { IfOk result IsInForm }
     // Want of memory is no refusal, also where the vehicle package is read.
     ensures told { IfErr result IsTold }

@@ -2,10 +2,9 @@ use Rattle.std.proofs.Common.{rules}
 use Rattle.node_core.proofs.Names.{Areas, Extent, ap, arith, content_of, get_or, length, nat_tests, number_at, payload_at}
 use Rattle.node_core.proofs.Names.{refl, subst, sym, units_of, ◌+◌, ◌-◌, ◌∙◌, ◌≡◌, ◌≤◌}
 use Rattle.transfer_blocks.specs.declared.area.Area.TheVariants.{Transfer}
-use Rattle.node_core.proofs.Lists.{at-err}
+use Rattle.node_core.proofs.Lists.{end-err}
 use Rattle.node_core.proofs.Pieces.{lie-here, lie-next, piece-next}
 use Rattle.node_core.proofs.Runs.{reads-none, reads-then}
-use Rattle.node_core.specs.Reserves.{Reads}
 use Rattle.node_core.proofs.copying.find_piece.Goals as goal
 
 abbrev none : Extent
@@ -43,8 +42,8 @@ loop-extent-init g c = record {
 
 pub returns-in_err-start-clause-reads : goal.returns-in_err-start-clause-reads
 returns-in_err-start-clause-reads g c =
-    at-err (λ end. Reads g.S.Staging.obeys end c.args.staging.now c.number_at.new.staging) _ c.from_residual.result
-    c.from_residual.ensures.1 (reads-then _ _ _ _ _ c.loop-extent.invariant.reads c.in_err-start.ensures.reads)
+    rw (end-err _ _ c.from_residual.ensures.1)
+    (reads-then _ _ _ _ _ c.loop-extent.invariant.reads c.in_err-start.ensures.reads)
 
 pub returns-then-left-units-clause-reads : goal.returns-then-left-units-clause-reads
 returns-then-left-units-clause-reads g c =

@@ -1,8 +1,8 @@
 use Rattle.node_core.proofs.Names.{AllByRecursion, IsSound, ap, formatted, fresh_state, holding, in_order, length, meaning}
 use Rattle.node_core.proofs.Names.{package_limit, package_reading, placed_from, refl, subst, sym, ◌∙◌, ◌≡◌, ◌≤◌}
-use Rattle.node_core.specs.Format.{Formats, IsFormatted, with_installed}
+use Rattle.node_core.specs.Format.{IsFormatted, with_installed}
 use Rattle.transfer_blocks.specs.declared.fault.StagingError.TheVariants.{OutOfMemory}
-use Rattle.node_core.proofs.Lists.{at-fault}
+use Rattle.node_core.proofs.Lists.{end-fault}
 use Rattle.node_core.proofs.Ordered.{order-each}
 use Rattle.node_core.proofs.Formatted.{formatted-node, none-formats}
 use Rattle.node_core.proofs.format.format_areas.Goals as goal
@@ -43,5 +43,4 @@ returns-clause-sound g c =
 
 pub returns-in_err-ordered-clause-formats : goal.returns-in_err-ordered-clause-formats
 returns-in_err-ordered-clause-formats g c =
-    at-fault (λ end. Formats g.S.Staging.obeys (in_order c.args.installed.now) end c.args.staging.now
-    c.args.staging.now) OutOfMemory _ c.from_residual.ensures.1 (none-formats _ _ _)
+    rw (end-fault OutOfMemory _ c.from_residual.ensures.1) (none-formats _ _ _)

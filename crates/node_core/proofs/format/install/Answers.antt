@@ -1,33 +1,29 @@
-use Rattle.node_core.proofs.Names.{Ok, ap, append-nil, append_assoc, arith, into_iter_items, length, map, map-append, placed_from, subst, sym, [], ◌++◌, ◌∙◌, ◌∷◌}
+use Rattle.node_core.proofs.Names.{Ok, ap, append-nil, append_assoc, arith, into_iter_items, length, map, map-append, sym, [], ◌++◌, ◌∙◌, ◌∷◌}
 use Rattle.std.proofs.lemmas.List.{nil_from_length}
-use Rattle.node_core.specs.Format.{Formats, installs, with_installed}
-use Rattle.transfer_blocks.specs.Steps.{Ran}
-use Rattle.node_core.proofs.Lists.{at-fault}
+use Rattle.node_core.proofs.Lists.{end-fault}
 use Rattle.node_core.proofs.Runs.{ok-faultless}
 use Rattle.transfer_blocks.specs.declared.fault.StagingError.TheVariants.{OutOfMemory}
-use Rattle.node_core.proofs.Formatted.{all-formats, none-formats, next-areas, next-failed, next-place, next-placed, next-ran, next-short, now, whole-lent}
+use Rattle.node_core.proofs.Formatted.{all-formats, none-formats, next-failed, next-place, next-put, next-short, now, whole-lent}
 use Rattle.node_core.proofs.format.install.Goals as goal
 
-pub put-requires-clause-area : goal.put-requires-clause-area
-put-requires-clause-area g c =
-    let at = c.loop-cluster in
-    let x = c.in-Some.cluster in
-    let whole = whole-lent at.yielded _ x c.in-Some.ensures.steps.0 at.invariant.0
-    c.into_iter-cluster-iterator.ensures.into_iter_gives.0 in (
-      next-place _ _ _ x.now whole c.requires.few at.running.items at.invariant.1
-          c.len-place.result (c.len-place.ensures ∙ at.running.ok.0),
-      omega arith,
-    )
-
-pub put-requires-clause-fits : goal.put-requires-clause-fits
-put-requires-clause-fits g c =
+pub put-requires : goal.put-requires
+put-requires g c =
     let at = c.loop-cluster in
     let x = c.in-Some.cluster in
     let whole = whole-lent at.yielded _ x c.in-Some.ensures.steps.0 at.invariant.0
     c.into_iter-cluster-iterator.ensures.into_iter_gives.0 in
     let short = next-short _ _ _ x.now whole c.requires.short in
     let same = ap length c.as_slice-bytes.ensures.bytes in
-    omega (arith, short, same)
+    record {
+      fit = at.invariant.4;
+      area = (
+        next-place _ _ _ x.now whole c.requires.few at.running.items at.invariant.1
+            c.len-place.result (c.len-place.ensures ∙ at.running.ok.0),
+        omega arith,
+      );
+      at = omega arith;
+      fits = omega (arith, short, same);
+    }
 
 pub overflow_cast-place : goal.overflow_cast-place
 overflow_cast-place g c =
@@ -54,8 +50,7 @@ returns-in_err-put-clause-formats g c =
     let x = c.in-Some.cluster in
     let whole = whole-lent at.yielded _ x c.in-Some.ensures.steps.0 at.invariant.0
     c.into_iter-cluster-iterator.ensures.into_iter_gives.0 in
-    at-fault (λ end. Formats g.S.Staging.obeys (map now c.args.clusters.items) end c.args.staging.now c.put.new.self) _
-    c.from_residual-in_err-put.result c.from_residual-in_err-put.ensures.1
+    rw (end-fault _ _ c.from_residual-in_err-put.ensures.1)
     (next-failed g.S.Staging.obeys _ _ _ x.now whole c.requires.few c.requires.short
     c.args.staging.now at.staging c.put.new.self at.invariant.2 at.running.items at.invariant.1 c.len-place.result
     (c.len-place.ensures ∙ at.running.ok.0) c.as_slice-bytes.result.now c.as_slice-bytes.ensures.bytes
@@ -67,9 +62,7 @@ returns-in_err-add-clause-formats g c =
     let x = c.in-Some.cluster in
     let whole = whole-lent at.yielded _ x c.in-Some.ensures.steps.0 at.invariant.0
     c.into_iter-cluster-iterator.ensures.into_iter_gives.0 in
-    at-fault (λ end. Formats g.S.Staging.obeys (map now c.args.clusters.items) end c.args.staging.now c.put.new.self)
-    OutOfMemory
-    c.from_residual-in_err-add.result c.from_residual-in_err-add.ensures.1
+    rw (end-fault OutOfMemory _ c.from_residual-in_err-add.ensures.1)
     (next-failed g.S.Staging.obeys _ _ _ x.now whole c.requires.few c.requires.short
     c.args.staging.now at.staging c.put.new.self at.invariant.2 at.running.items at.invariant.1 c.len-place.result
     (c.len-place.ensures ∙ at.running.ok.0) c.as_slice-bytes.result.now c.as_slice-bytes.ensures.bytes
@@ -81,31 +74,23 @@ loop-cluster-preserved g c =
     let x = c.in-Some.cluster in
     let whole = whole-lent at.yielded _ x c.in-Some.ensures.steps.0 at.invariant.0
     c.into_iter-cluster-iterator.ensures.into_iter_gives.0 in
-    let one = sym (map-append now at.yielded (x ∷ [])) in (
+    let put = next-put g.S.Staging.obeys _ _ _ x.now whole c.requires.few c.requires.short
+    c.args.staging.now at.staging c.put.new.self at.invariant.2 at.running.items at.invariant.1 c.len-place.result
+    (c.len-place.ensures ∙ at.running.ok.0) c.as_slice-bytes.result.now c.as_slice-bytes.ensures.bytes
+    c.in_ok-put.ensures.obeys c.in_ok-add.ensures _ at.invariant.3 c.in_ok-put.ensures.put
+    (sym (map-append now at.yielded (x ∷ []))) in
+    let so_far = at.invariant.5 in
+    let more = c.in_ok-put.ensures.faults in
+    let was = at.invariant.6 in
+    let gone = c.in-Some.ensures.steps.1 in
+    let shorter = ap length c.in-Some.ensures.steps.0 in (
       append_assoc at.yielded (x ∷ []) _ ∙ ap (λ l. at.yielded ++ l) (sym c.in-Some.ensures.steps.0) ∙ at.invariant.0,
-      next-placed g.S.Staging.obeys _ _ _ x.now whole c.requires.few c.requires.short
-          c.args.staging.now at.staging c.put.new.self at.invariant.2 at.running.items at.invariant.1 c.len-place.result
-          (c.len-place.ensures ∙ at.running.ok.0) c.as_slice-bytes.result.now c.as_slice-bytes.ensures.bytes
-          c.add.new.running.items c.in_ok-add.ensures ∙ ap (placed_from 0) one,
-      subst (λ l. Ran g.S.Staging.obeys (installs 0 l) c.args.staging.now c.put.new.self) one
-          (next-ran g.S.Staging.obeys _ _ _ x.now whole c.requires.few c.requires.short
-          c.args.staging.now at.staging c.put.new.self at.invariant.2 at.running.items at.invariant.1 c.len-place.result
-          (c.len-place.ensures ∙ at.running.ok.0) c.as_slice-bytes.result.now c.as_slice-bytes.ensures.bytes
-          c.in_ok-put.ensures.obeys),
-      next-areas g.S.Staging.obeys _ _ _ x.now whole c.requires.few c.requires.short
-          c.args.staging.now at.staging c.put.new.self at.invariant.2 at.running.items at.invariant.1 c.len-place.result
-          (c.len-place.ensures ∙ at.running.ok.0) c.as_slice-bytes.result.now c.as_slice-bytes.ensures.bytes
-          (g.S.Staging.areas c.args.staging.now) (g.S.Staging.areas at.staging) (g.S.Staging.areas c.put.new.self)
-          at.invariant.3 c.in_ok-put.ensures.put
-          ∙ ap (λ l. with_installed l (g.S.Staging.areas c.args.staging.now)) one,
+      put.0,
+      put.1,
+      put.2,
       c.in_ok-put.ensures.fit,
-      (let so_far = at.invariant.5 in
-          let more = c.in_ok-put.ensures.faults in
-          omega (arith, so_far, more)),
-      (let was = at.invariant.6 in
-          let gone = c.in-Some.ensures.steps.1 in
-          let short = ap length c.in-Some.ensures.steps.0 in
-          omega (arith, was, gone, short)),
+      omega (arith, so_far, more),
+      omega (arith, was, gone, shorter),
     )
 
 pub returns-clause-formats : goal.returns-clause-formats
@@ -118,6 +103,4 @@ returns-clause-formats g c =
 
 pub returns-in_err-running-clause-formats : goal.returns-in_err-running-clause-formats
 returns-in_err-running-clause-formats g c =
-    at-fault (λ end. Formats g.S.Staging.obeys (map now c.args.clusters.items) end c.args.staging.now
-    c.args.staging.now)
-    OutOfMemory _ c.from_residual.ensures.1 (none-formats _ _ _)
+    rw (end-fault OutOfMemory _ c.from_residual.ensures.1) (none-formats _ _ _)

@@ -1,53 +1,42 @@
-use Rattle.node_core.proofs.Names.{Holding, IfOk, IsReady, None, Ok, TransferExit, over, Some, State, ap, exit_refusals, first_refusal, found_of, holding, refl}
-use Rattle.node_core.proofs.Names.{stored_header, subst, sym, zero-add, ◌∙◌, ◌≡◌, ◌≢◌}
+use Rattle.node_core.proofs.Names.{Holding, None, Ok, Some, State, ap, exit_refusals, first_refusal, found_of, holding, refl}
+use Rattle.node_core.proofs.Names.{zero-add, stored_header, subst, sym, ◌∙◌, ◌≡◌, ◌≢◌}
 use Rattle.node_core.specs.declared.prepared.Prepared.TheVariants.{Verdict as Judged}
-use Rattle.node_core.specs.Reserves.{BringsNew, Reserves}
 use Rattle.node_core.specs.declared.node.ReserveError.TheVariants.{OutOfMemory}
-use Rattle.node_core.proofs.Lists.{at-fault}
-use Rattle.node_core.proofs.Reserved.{exit-ready, nothing-reserves, reads-failed, reads-handed, reads-reserve, sound-stands}
+use Rattle.node_core.proofs.Lists.{end-err, end-fault}
+use Rattle.node_core.proofs.Reserved.{exit-ready, nothing-reserves, reads-handed, reads-reserve}
+use Rattle.node_core.proofs.Sound.{sound-stands}
 use Rattle.node_core.proofs.Runs.{reads-none, reads-one, reads-then}
 use Rattle.node_core.proofs.Staging.{found-lies, found-slot, got-ready, refused-exit}
 use Rattle.node_core.proofs.transfers.read.Goals as goal
 
 pub returns-in_default-clause-reserves : goal.returns-in_default-clause-reserves
 returns-in_default-clause-reserves g c =
-    nothing-reserves g.S.Staging.obeys g.S.Staging.areas c.args.state.now _ _ (Ok tt) _ (λ end. tt)
-    (sound-stands (holding (g.S.Staging.areas c.args.staging.now) c.args.state.now) c.requires.sound)
-    (λ ok held fit stand. refused-exit (holding held c.args.state.now) c.args.client c.args.id
+    nothing-reserves g.S.Staging.obeys g.S.Staging.areas c.args.state.now _ (λ end. tt) c.requires.sound
+    (λ held fit stand. refused-exit (holding held c.args.state.now) c.args.client c.args.id
     (subst (λ (s : State). first_refusal (exit_refusals (stored_header s.transfers c.args.client c.args.id)) ≢ None)
     c.state.view_is (c.in_default.ensures.refused.0 refl)))
 
-pub get-requires-clause-area : goal.get-requires-clause-area
-get-requires-clause-area g c =
+pub get-requires : goal.get-requires
+get-requires g c =
+    let v : Holding = holding (g.S.Staging.areas c.args.staging.now) c.args.state.now in
     let is : found_of c.args.state.now.transfers c.args.client c.args.id ≡ Some c.in-Some.found =
     ap (λ (s : State). found_of s.transfers c.args.client c.args.id) (sym c.state.view_is) ∙ c.in-Some.ensures.found in
-    found-slot (holding (g.S.Staging.areas c.args.staging.now) c.args.state.now) c.requires.sound c.args.client
-    c.args.id
-    c.in-Some.found is
-
-pub get-requires-clause-range : goal.get-requires-clause-range
-get-requires-clause-range g c =
-    let is : found_of c.args.state.now.transfers c.args.client c.args.id ≡ Some c.in-Some.found =
-    ap (λ (s : State). found_of s.transfers c.args.client c.args.id) (sym c.state.view_is) ∙ c.in-Some.ensures.found in
-    rw (zero-add c.in-Some.found.header.received)
-    (found-lies (holding (g.S.Staging.areas c.args.staging.now) c.args.state.now) c.requires.sound c.args.client
-    c.args.id
-    c.in-Some.found is)
+    record {
+      fit = c.requires.fit;
+      area = found-slot v c.requires.sound c.args.client c.args.id c.in-Some.found is;
+      range = rw (zero-add c.in-Some.found.header.received)
+          (found-lies v c.requires.sound c.args.client c.args.id c.in-Some.found is);
+    }
 
 pub returns-in_err-bytes-clause-reserves : goal.returns-in_err-bytes-clause-reserves
 returns-in_err-bytes-clause-reserves g c =
-    let s = c.args.state.now in
-    at-fault (λ end. Reserves g.S.Staging.obeys g.S.Staging.areas s
-    (BringsNew s c.args.client (TransferExit c.args.id)) (λ held. IfOk c.from_residual.result (λ p.
-    IsReady (over held (record { state = s; prepared = p })) c.args.client (TransferExit c.args.id))) end
-    c.args.staging.now c.get.new.self) _ _ c.from_residual.ensures.1
-    (reads-failed g.S.Staging.obeys g.S.Staging.areas _ _ _ _ (λ end. tt) c.requires.sound
-    (reads-one _ _ _ _ c.in_err-bytes.ensures.obeys) c.in_err-bytes.ensures.areas)
+    reads-handed g.S.Staging.obeys g.S.Staging.areas _ (end-fault _ _ c.from_residual.ensures.1) (λ ok. cc ok)
+    (λ end. tt) c.requires.sound (reads-one _ _ _ _ c.in_err-bytes.ensures.obeys) c.in_err-bytes.ensures.areas
 
 pub returns-in_err-verdict-clause-reserves : goal.returns-in_err-verdict-clause-reserves
 returns-in_err-verdict-clause-reserves g c =
-    reads-handed g.S.Staging.obeys g.S.Staging.areas OutOfMemory _ c.from_residual-in_err-verdict.ensures.1
-    (λ end. tt) c.requires.sound
+    reads-handed g.S.Staging.obeys g.S.Staging.areas _
+    (end-err OutOfMemory _ c.from_residual-in_err-verdict.ensures.1) (λ ok. cc ok) (λ end. tt) c.requires.sound
     (reads-then g.S.Staging.obeys _ c.args.staging.now c.get.new.self c.get.new.self
     (reads-one _ (Ok tt) _ _ c.in_ok-bytes.ensures.obeys) (reads-none _ _ _)) c.in_ok-bytes.ensures.areas
 

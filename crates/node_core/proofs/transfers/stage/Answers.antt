@@ -1,44 +1,33 @@
-use Rattle.node_core.specs.Reserves.{BringsNew, Reserves}
-use Rattle.node_core.proofs.Lists.{at-fault}
-use Rattle.node_core.proofs.Names.{IsReady, None, Ok, Some, State, TransferData, ap, data_refusals, first_refusal, found_of, holding, length, refl}
+use Rattle.node_core.proofs.Lists.{end-fault}
+use Rattle.node_core.proofs.Names.{Holding, None, Ok, Some, State, ap, arith, data_refusals, first_refusal, found_of, holding, length, refl}
 use Rattle.node_core.proofs.Names.{stored_header, subst, sym, ◌∙◌, ◌≡◌, ◌≢◌}
-use Rattle.node_core.proofs.Reserved.{block-fits, block-reserves, none-unless, nothing-reserves, put-reserves, sound-stands}
+use Rattle.node_core.proofs.Reserved.{block-reserves, none-unless, nothing-reserves}
 use Rattle.node_core.proofs.Runs.{writes-one}
-use Rattle.node_core.proofs.Staging.{found-lies, found-slot, refused-block}
+use Rattle.node_core.proofs.Staging.{found-fits, found-lies, found-slot, put-left, refused-block}
 use Rattle.node_core.proofs.transfers.stage.Goals as goal
 
 pub returns-in_default-clause-reserves : goal.returns-in_default-clause-reserves
 returns-in_default-clause-reserves g c =
-    nothing-reserves g.S.Staging.obeys g.S.Staging.areas c.args.state.now _ _ (Ok tt) _ (λ end. tt)
-    (sound-stands (holding (g.S.Staging.areas c.args.staging.now) c.args.state.now) c.requires.sound)
-    (λ ok held fit stand. refused-block (holding held c.args.state.now) c.args.client c.args.id c.args.counter
+    nothing-reserves g.S.Staging.obeys g.S.Staging.areas c.args.state.now _ (λ end. tt) c.requires.sound
+    (λ held fit stand. refused-block (holding held c.args.state.now) c.args.client c.args.id c.args.counter
     c.args.block.now (subst (λ (s : State). first_refusal (data_refusals
     (stored_header s.transfers c.args.client c.args.id) c.args.counter (length c.args.block.now)) ≢ None)
     c.state.view_is (c.in_default.ensures.refused.0 refl)))
 
-pub put-requires-clause-area : goal.put-requires-clause-area
-put-requires-clause-area g c =
+pub put-requires : goal.put-requires
+put-requires g c =
+    let v : Holding = holding (g.S.Staging.areas c.args.staging.now) c.args.state.now in
     let is : found_of c.args.state.now.transfers c.args.client c.args.id ≡ Some c.in-Some.found =
     ap (λ (s : State). found_of s.transfers c.args.client c.args.id) (sym c.state.view_is) ∙ c.in-Some.ensures.found in
-    found-slot (holding (g.S.Staging.areas c.args.staging.now) c.args.state.now) c.requires.sound c.args.client
-    c.args.id
-    c.in-Some.found is
-
-pub put-requires-clause-at : goal.put-requires-clause-at
-put-requires-clause-at g c =
-    let is : found_of c.args.state.now.transfers c.args.client c.args.id ≡ Some c.in-Some.found =
-    ap (λ (s : State). found_of s.transfers c.args.client c.args.id) (sym c.state.view_is) ∙ c.in-Some.ensures.found in
-    found-lies (holding (g.S.Staging.areas c.args.staging.now) c.args.state.now) c.requires.sound c.args.client
-    c.args.id
-    c.in-Some.found is
-
-pub put-requires-clause-fits : goal.put-requires-clause-fits
-put-requires-clause-fits g c =
-    let is : found_of c.args.state.now.transfers c.args.client c.args.id ≡ Some c.in-Some.found =
-    ap (λ (s : State). found_of s.transfers c.args.client c.args.id) (sym c.state.view_is) ∙ c.in-Some.ensures.found in
-    block-fits g.S.Staging.obeys g.S.Staging.areas c.args.state.now c.args.staging.now c.args.staging.now
-    c.requires.sound
-    c.args.client c.args.id c.args.counter c.args.block.now c.in-Some.found is c.in-Some.ensures.fits
+    record {
+      fit = c.requires.fit;
+      area = found-slot v c.requires.sound c.args.client c.args.id c.in-Some.found is;
+      at = found-lies v c.requires.sound c.args.client c.args.id c.in-Some.found is;
+      fits =
+          let size = found-fits v c.requires.sound c.args.client c.args.id c.in-Some.found is in
+          let room = c.in-Some.ensures.fits in
+          omega (arith, size, room);
+    }
 
 pub returns-in_err-put-clause-reserves : goal.returns-in_err-put-clause-reserves
 returns-in_err-put-clause-reserves g c =
@@ -48,10 +37,7 @@ returns-in_err-put-clause-reserves g c =
     c.args.counter (length c.args.block.now))) (sym c.state.view_is)
     ∙ none-unless _ (λ some. absurd (cc (c.in-Some.ensures.refused.1 some))) in
     let is : found_of s.transfers c.args.client c.args.id ≡ Some c.in-Some.found = same ∙ c.in-Some.ensures.found in
-    at-fault (λ end. Reserves g.S.Staging.obeys g.S.Staging.areas s
-    (BringsNew s c.args.client (TransferData c.args.id c.args.counter c.args.block.now))
-    (λ held. IsReady (holding held s) c.args.client (TransferData c.args.id c.args.counter c.args.block.now)) end
-    c.args.staging.now c.put.new.self) _ _ c.from_residual.ensures.1
+    rw (end-fault _ _ c.from_residual.ensures.1)
     (block-reserves g.S.Staging.obeys g.S.Staging.areas s c.args.staging.now c.put.new.self c.requires.sound
     c.args.client
     c.args.id c.args.counter c.args.block.now c.in-Some.found is c.in-Some.ensures.fits accepted _
@@ -66,7 +52,9 @@ returns-clause-reserves g c =
     c.args.counter (length c.args.block.now))) (sym c.state.view_is)
     ∙ none-unless _ (λ some. absurd (cc (c.in-Some.ensures.refused.1 some))) in
     let is : found_of s.transfers c.args.client c.args.id ≡ Some c.in-Some.found = same ∙ c.in-Some.ensures.found in
-    put-reserves g.S.Staging.obeys g.S.Staging.areas s c.args.staging.now c.put.new.self c.requires.sound c.args.client
-    c.args.id c.args.counter c.args.block.now c.in-Some.found is c.in-Some.ensures.fits accepted
-    (g.met.S.Staging.areas_fit c.args.staging.now) (writes-one _ _ _ _ _ _ _ c.in_ok-put.ensures.obeys)
-    c.in_ok-put.ensures.put
+    let fit = g.met.S.Staging.areas_fit c.args.staging.now in
+    block-reserves g.S.Staging.obeys g.S.Staging.areas s c.args.staging.now c.put.new.self c.requires.sound
+    c.args.client c.args.id c.args.counter c.args.block.now c.in-Some.found is c.in-Some.ensures.fits accepted (Ok tt)
+    fit (writes-one _ _ _ _ _ _ _ c.in_ok-put.ensures.obeys) (λ e. c.in_ok-put.ensures.put)
+    (rw c.in_ok-put.ensures.put (put-left (holding (g.S.Staging.areas c.args.staging.now) s) c.requires.sound
+    c.args.client c.args.id c.in-Some.found is fit c.args.block.now))

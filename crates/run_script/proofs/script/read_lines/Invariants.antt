@@ -2,7 +2,7 @@ use Rattle.std.proofs.Common.{◌≡◌, ◌+◌, ◌≤◌, length}
 use Rattle.scenario.specs.Scripts.{lines_of, pieces_left, size_left, text_left}
 use Rattle.run_script.specs.Above.{nothing_above}
 use Rattle.run_script.specs.Scripts.{above_end, end_at, lines_read}
-use Rattle.run_script.specs.InForm.{IsKnownInForm}
+use Rattle.run_script.specs.InForm.{AreInForm}
 use Rattle.run_script.specs.Taken.{IsTaken}
 use Rattle.run_script.proofs.script.read_lines.Given as goal
 
@@ -15,7 +15,7 @@ invariant-lines l =
       within : l.at + size_left (text_left l.left) ≤ length l.input + 1;
       count : l.number ≤ l.at + 1;
       taken : IsTaken l.taken l.above.lines;
-      form : IsKnownInForm l.above;
+      form : AreInForm l.above.lines;
     }
 
 abbrev pub decreases-lines : goal.decreases-lines

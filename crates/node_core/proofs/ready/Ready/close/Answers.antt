@@ -3,10 +3,8 @@ use Rattle.node_core.proofs.Accepted.{close-made, table-within}
 use Rattle.node_core.proofs.ready.Ready.close.Goals as goal
 
 pub exit-requires : goal.exit-requires
-exit-requires c = record {
-  table =
-      table-within (within c.state.view_is c.self.view_is) c.requires.accepted.0 c.requires.accepted.1;
-}
+exit-requires c =
+    record { table = table-within (within c.state.view_is c.self.view_is) c.requires.accepted.0 c.requires.accepted.1 }
 
 pub returns : goal.returns
 returns c =

@@ -1,14 +1,12 @@
-use Rattle.node_core.proofs.Names.{IsReady, Ok, Readied, ap, is_some, over, refl, subst, sym, ◌∙◌}
+use Rattle.node_core.proofs.Names.{IsReady, Readied, ap, is_some, over, refl, subst, sym, ◌∙◌}
 use Rattle.node_core.specs.Reserves.{Brings, BringsNew}
-use Rattle.node_core.proofs.Reserved.{brings-new, failed-reserves, none-is, nothing-reserves, reserves-same, sound-stands}
+use Rattle.node_core.proofs.Reserved.{brings-new, failed-reserves, none-is, nothing-reserves, reserves-same}
 use Rattle.node_core.proofs.ready.Ready.make_ready.Goals as goal
 
 pub returns-then-is_some-clause-reserves : goal.returns-then-is_some-clause-reserves
 returns-then-is_some-clause-reserves g c =
-    let staging = c.args.staging.now in
-    nothing-reserves g.S.Staging.obeys g.S.Staging.areas c.args.self.now.state _ _ (Ok tt) staging (λ end. tt)
-    (sound-stands (over (g.S.Staging.areas staging) c.args.self.now) c.requires.sound)
-    (λ ok held fit stand newer. let some = c.if-is_some.ensures ∙ ap is_some (c.repeated.ensures.repeat ∙ newer) in
+    nothing-reserves g.S.Staging.obeys g.S.Staging.areas c.args.self.now.state _ (λ end. tt) c.requires.sound
+    (λ held fit stand newer. let some = c.if-is_some.ensures ∙ ap is_some (c.repeated.ensures.repeat ∙ newer) in
     absurd (cc some))
 
 pub returns-in_err-prepared-clause-reserves : goal.returns-in_err-prepared-clause-reserves

@@ -29,7 +29,5 @@ append-requires c =
     c.in-Some-take_changes.changes.items (sym c.take_changes.ensures ∙ ap (option_map _) c.in-Some-take_changes.is)
 
 pub set_phase-requires : goal.set_phase-requires
-set_phase-requires c = record {
-  table =
-      table-within (within c.state.view_is c.self.view_is) c.requires.reserved.0 c.requires.reserved.1;
-}
+set_phase-requires c =
+    record { table = table-within (within c.state.view_is c.self.view_is) c.requires.reserved.0 c.requires.reserved.1 }

@@ -1,17 +1,16 @@
-use Rattle.node_core.proofs.Names.{Readied, ap, holding}
-use Rattle.node_core.proofs.Opened.{within}
+use Rattle.node_core.proofs.Opened.{held}
 use Rattle.node_core.proofs.Queried.{unfinished, progressed}
 use Rattle.node_core.proofs.ready.Ready.progress.Goals as goal
 
 pub process_progress-requires : goal.process_progress-requires
 process_progress-requires c = record {
   unfinished =
-      unfinished (ap (λ (r : Readied). holding c.requires.sound.0 r.state) (within c.state.view_is c.self.view_is)) c.requires.sound.1 _
+      unfinished (held c.state.view_is c.self.view_is c.requires.sound.0) c.requires.sound.1 _
       c.as_slice-transfers.result.now c.as_ref.ensures.value c.as_slice-transfers.ensures.transfers;
 }
 
 pub returns : goal.returns
 returns c = λ areas sound.
-    progressed (ap (λ (r : Readied). holding areas r.state) (within c.state.view_is c.self.view_is)) sound _ c.as_slice-transfers.result.now c.as_ref.ensures.value
-    c.as_slice-transfers.ensures.transfers c.args.client c.args.id c.process_progress.result
+    progressed (held c.state.view_is c.self.view_is areas) sound _ c.as_slice-transfers.result.now
+    c.as_ref.ensures.value c.as_slice-transfers.ensures.transfers c.args.client c.args.id c.process_progress.result
     c.process_progress.ensures

@@ -24,7 +24,7 @@ call-answer-requires g c =
           (λ o. StandsFor d.moment d.left_since d.seen d.images it.fails.items o it.node it.entries.items it.pending)
           (λ n. Knows d.seen d.images it.node) (fixed_numbers it.fails.items (d.armed it.node.extents.disk))
           c.args.seat.now.view.fixed c.requires.ours.seat.made c.turn-shared.ensures.is_true (λ o stands.
-            stands.known);
+          stands.known);
     }
 
 pub publish-requires-clause-goes_on : goal.publish-requires-clause-goes_on

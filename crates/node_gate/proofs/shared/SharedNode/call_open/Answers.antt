@@ -17,7 +17,7 @@ returns-in-Ok-Again-clause-stands g c o stands =
     let opened = c.requires.open in
     let new = c.foresee.new.self in
     stays_open d.moment d.left_since d.seen d.images old.fails.items o old.node new old.entries.items old.pending
-      stands opened (c.foresee.ensures.closed ∙ opened) c.in-Ok-Again.ensures.known c.foresee.ensures.node
+    stands opened (c.foresee.ensures.closed ∙ opened) c.in-Ok-Again.ensures.known c.foresee.ensures.node
     c.foresee.ensures.any_moment
 
 pub returns-in-Ok-Stale-clause-stands : goal.returns-in-Ok-Stale-clause-stands
@@ -27,7 +27,7 @@ returns-in-Ok-Stale-clause-stands g c o stands =
     let opened = c.requires.open in
     let new = c.foresee.new.self in
     stays_open d.moment d.left_since d.seen d.images old.fails.items o old.node new old.entries.items old.pending
-      stands opened (c.foresee.ensures.closed ∙ opened) c.in-Ok-Stale.ensures.known c.foresee.ensures.node
+    stands opened (c.foresee.ensures.closed ∙ opened) c.in-Ok-Stale.ensures.known c.foresee.ensures.node
     c.foresee.ensures.any_moment
 
 pub returns-in-Ok-Done-clause-calls : goal.returns-in-Ok-Done-clause-calls
@@ -38,7 +38,7 @@ returns-in-Ok-Done-clause-calls g c o stands =
     let new = c.foresee.new.self in
     c.enter.ensures.calls o
     (stays_open d.moment d.left_since d.seen d.images old.fails.items o old.node new old.entries.items old.pending
-      stands opened (c.foresee.ensures.closed ∙ opened) c.in-Ok-Done.ensures.known c.foresee.ensures.node
+    stands opened (c.foresee.ensures.closed ∙ opened) c.in-Ok-Done.ensures.known c.foresee.ensures.node
     c.foresee.ensures.any_moment)
 
 pub returns-in-Ok-Done-clause-stands : goal.returns-in-Ok-Done-clause-stands
@@ -49,7 +49,7 @@ returns-in-Ok-Done-clause-stands g c o stands =
     let new = c.foresee.new.self in
     c.enter.ensures.stands o
     (stays_open d.moment d.left_since d.seen d.images old.fails.items o old.node new old.entries.items old.pending
-      stands opened (c.foresee.ensures.closed ∙ opened) c.in-Ok-Done.ensures.known c.foresee.ensures.node
+    stands opened (c.foresee.ensures.closed ∙ opened) c.in-Ok-Done.ensures.known c.foresee.ensures.node
     c.foresee.ensures.any_moment)
 
 pub returns-in-Err-OutOfMemory-clause-stands : goal.returns-in-Err-OutOfMemory-clause-stands
@@ -60,7 +60,7 @@ returns-in-Err-OutOfMemory-clause-stands g c o stands =
     let new = c.foresee.new.self in
     let kept = c.foresee.ensures.memory (c.in-Err-OutOfMemory.is ∙ ap Err c.in-Err-OutOfMemory.field-0-is) in
     stays_open d.moment d.left_since d.seen d.images old.fails.items o old.node new old.entries.items old.pending
-      stands opened (c.foresee.ensures.closed ∙ opened) kept c.foresee.ensures.node c.foresee.ensures.any_moment
+    stands opened (c.foresee.ensures.closed ∙ opened) kept c.foresee.ensures.node c.foresee.ensures.any_moment
 
 pub returns-clause-stands : goal.returns-clause-stands
 returns-clause-stands g c o stands =
@@ -72,10 +72,10 @@ returns-clause-stands g c o stands =
     let shut = record new { is_closed = true } in
     let run = c.foresee.ensures.any_moment in
     same_stands d.moment d.left_since d.seen d.images o old.fails.items end.fails.items shut end.node
-      old.entries.items end.entries.items None end.pending
+    old.entries.items end.entries.items None end.pending
     (ap (λ v. v.items) c.shut.ensures.fails) c.shut.ensures.closed (ap (λ v. v.items) c.shut.ensures.entries)
     c.shut.ensures.pending
     (gives_up d.moment d.left_since d.seen d.images old.fails.items o old.node shut old.entries.items old.pending
-      stands opened c.foresee.ensures.state refl
+    stands opened c.foresee.ensures.state refl
     (λ image now. run.each image (g.met.D.Disk.counts_now new.extents.disk (d.moment old.node.extents.disk) image
     run.later now)) run)

@@ -37,13 +37,13 @@ returns-in-Stood-clause-stands g c o stands =
     let n = node_after d.seen o mid.entries.items in
     let w = with_pending n mid.pending in
     let node = subst (λ (r : Revived). node_on new.ready.state (d.seen new.extents.disk) ≡ ended_in r n w)
-      c.in-Stood.is
+    c.in-Stood.is
     (it.ended n w on.images_serve (sym on.count) (counts n mid.pending)) in
     same_stands d.moment d.left_since d.seen d.images o mid.fails.items end.fails.items new end.node
     (mid.entries.items ++ pending_list mid.pending) end.entries.items None end.pending
     (ap (λ v. v.items) listed.fails) listed.node listed.entries listed.pending
     (stood d.moment d.left_since d.seen d.images mid.fails.items o mid.node new mid.entries.items mid.pending on
-      it.open
+    it.open
     it.known node
     (run_of d.moment d.left_since d.seen d.images mid.fails.items o mid.node new mid.entries.items mid.pending on
     c.revive.ensures.any_moment))
@@ -62,10 +62,10 @@ returns-in-Lost-clause-stands g c o stands =
     let n = node_after d.seen o mid.entries.items in
     let w = with_pending n mid.pending in
     let node = subst (λ (r : Revived). node_on new.ready.state (d.seen new.extents.disk) ≡ ended_in r n w)
-      c.in-Lost.is
+    c.in-Lost.is
     (it.ended n w on.images_serve (sym on.count) (counts n mid.pending)) in
     lost d.moment d.left_since d.seen d.images mid.fails.items o mid.node new mid.entries.items mid.pending on
-      it.open
+    it.open
     it.known node
     (run_of d.moment d.left_since d.seen d.images mid.fails.items o mid.node new mid.entries.items mid.pending on
     c.revive.ensures.any_moment)
