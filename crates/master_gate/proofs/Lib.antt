@@ -1,4 +1,3 @@
-pub mod Plans
 pub mod Settles
 pub mod Becomes
 pub mod Stands

@@ -1,5 +1,4 @@
 pub mod Adds
-pub mod Plans
 pub mod Room
 pub mod Stands
 pub mod Laws

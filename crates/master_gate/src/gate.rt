@@ -10,7 +10,7 @@ ghost use Rattle.turn_gate.specs.Views.{fixed_to, noted};
 ghost use Rattle.campaign_core.specs.Campaign.{IsLegalFrom, campaign_from};
 ghost use Rattle.campaign_core.specs.Views.{state_code};
 ghost use Rattle.master_gate.specs.Adds.{AddsTo, LooksAt, listing, rise_of, rise_of_look};
-ghost use Rattle.master_gate.specs.Plans.{plan_numbers};
+ghost use Rattle.plan_numbers.specs.Plans.{plan_numbers};
 ghost use Rattle.master_gate.specs.Seats.{IsMasterSeat, IsSeat, IsWatcher, ShowsAt, listing_of, opening_of};
 ghost use Rattle.master_gate.specs.Stands.{IsImageOf, Knows, MayLeave, WasLeft, opening, state_code_after};
 

@@ -8,7 +8,6 @@
 
 mod answers;
 mod gate;
-mod laws;
 mod opening;
 mod shared;
 mod steps;
@@ -16,6 +15,5 @@ mod steps;
 pub use answers::LookAnswer;
 pub use decision_log::AddAnswer;
 pub use gate::{MasterGate, MasterSeat};
-pub use laws::plans_are_told_apart;
 pub use opening::Opening;
 pub use shared::SharedLog;

@@ -18,7 +18,7 @@ pub struct SharedLog<D: Disk> {
 impl<D: Disk> Machine for SharedLog<D> {
     ghost use Rattle.campaign_core.specs.Views.{state_of};
     ghost use Rattle.master_gate.specs.Laws.{code_fits, list_fits};
-    ghost use Rattle.master_gate.specs.Plans.{plan_numbers};
+    ghost use Rattle.plan_numbers.specs.Plans.{plan_numbers};
     ghost use Rattle.master_gate.specs.Stands.{StandsFor, account_of, fold_after, opening, state_code_after, tells};
 
     type Entry = MasterEvent;

@@ -1,5 +1,5 @@
--- What a call makes of the list, as a publish asks for it.
-use Rattle.std.proofs.Common.{◌≡◌, ◌⊎◌, inl, inr, ⊎_elim, ℕ, ◌+◌, ◌<◌, ◌≤◌, List, [], ◌∷◌, ◌++◌, refl, sym, ◌∙◌, ap, arith, Option, Some, None}
+-- What a call, a unit of work or a query makes of the list, as a publish asks for it.
+use Rattle.std.proofs.Common.{◌≡◌, ◌⊎◌, inl, inr, ⊎_elim, ℕ, ◌+◌, ◌<◌, ◌≤◌, Bool, List, [], ◌∷◌, ◌++◌, refl, sym, ◌∙◌, ap, Option, Some, None}
 use Rattle.std.proofs.lemmas.List.{append-nil}
 use Rattle.turn_gate.specs.Mine.{Settles}
 use Rattle.turn_gate.specs.Parts.{AtMostOne, IsOurs, MayBecome, StoodOrNot, at_most_last, numbers_of, times}
@@ -8,13 +8,20 @@ use Rattle.turn_gate.specs.declared.view.Part.{Part}
 use Rattle.ucm_base.specs.declared.ids.CallNo.{CallNo}
 use Rattle.pm_types.specs.declared.calls.Call.{Call}
 use Rattle.pm_types.specs.declared.history.Entry.{Entry}
-use Rattle.pm_types.specs.declared.history.Entry.TheVariants.{Numbered}
+use Rattle.pm_types.specs.declared.history.Entry.TheVariants.{Numbered, Unit as UnitDone}
+use Rattle.pm_types.specs.declared.queries.Query.{Query}
 use Rattle.pm_types.specs.declared.replies.Reached.TheVariants.{Done, Again, Stale}
 use Rattle.pm_types.specs.declared.replies.Reply.{Reply}
+use Rattle.pm_types.specs.declared.replies.Worked.TheVariants.{Unit as OneUnit, Nothing}
+use Rattle.pm_types.specs.declared.status.Status.{Status}
 use Rattle.pm_types.specs.NodeState.{NodeState}
 use Rattle.node_store.specs.declared.answers.NodeAnswer.{NodeAnswer}
 use Rattle.node_store.specs.declared.answers.NodeAnswer.TheVariants.{Reached as Got, NoReply, OutOfMemory}
-use Rattle.node_gate.specs.Calls.{CallsTo, IsPending, StaysOrSettles}
+use Rattle.node_store.specs.declared.answers.WorkAnswer.{WorkAnswer}
+use Rattle.node_store.specs.declared.answers.WorkAnswer.TheVariants.{Worked as Did, NoReply as NoWork, OutOfMemory as NoRoom}
+use Rattle.node_gate.specs.declared.answers.AskAnswer.{AskAnswer}
+use Rattle.node_gate.specs.declared.answers.AskAnswer.TheVariants.{At, NoReply as NoView, OutOfMemory as NoMemory}
+use Rattle.node_gate.specs.Calls.{AsksTo, CallsTo, HasSettled, IsEntered, IsPending, StaysOrSettles, WorksTo}
 use Rattle.node_gate.specs.Stands.{Listing, listing, tells}
 
 -- what stood of what was pending
@@ -25,13 +32,16 @@ stood_of (Some d) old mid s =
     ⊎_elim (λ (t : mid ≡ old). ([], t ∙ sym (append-nil old), inl refl))
     (λ (t : mid ≡ old ++ d ∷ []). (d ∷ [], t, inr (d, refl, refl))) s
 
-module _ (parts : List (Part Entry)) (client : ℕ) (part : 0 < times client (numbers_of parts))
-    (old new : Account Entry) (rise : ℕ) (rose : at_most_last (old.faults + rise) ≤ new.faults) where
+module _ (parts : List (Part Entry)) (old new : Account Entry) (rise : ℕ)
+    (rose : at_most_last (old.faults + rise) ≤ new.faults) where
   abbrev Becomes : Type 0
   Becomes = MayBecome tells parts old new rise
 
-  ours : (at : CallNo) (call : Call) (reply : Reply) → IsOurs tells parts (Numbered client at call reply)
-  ours at call reply = inr (client, refl, part)
+  abbrev Found : Listing
+  Found = listing old.entries old.pending
+
+  abbrev Left : Listing
+  Left = listing new.entries new.pending
 
   becomes : (mid : List Entry) → Settles old.pending old.entries mid → (more : List Entry)
       → AtMostOne tells parts more → new.entries ≡ mid ++ more
@@ -50,11 +60,14 @@ module _ (parts : List (Part Entry)) (client : ℕ) (part : 0 < times client (nu
         faults_rose = rose;
       }
 
-  settled : Settles old.pending old.entries new.entries
+  only_settled : Settles old.pending old.entries new.entries
       → (new.pending ≡ None) ⊎ ((e : Entry) × (new.pending ≡ Some e) × IsOurs tells parts e) → Becomes
-  settled s after = becomes new.entries s [] (inl refl) (sym (append-nil new.entries)) after
+  only_settled s after = becomes new.entries s [] (inl refl) (sym (append-nil new.entries)) after
 
-  stays : listing new.entries new.pending ≡ listing old.entries old.pending → Becomes
+  settled : HasSettled Found Left → Becomes
+  settled a = only_settled a.settled (inl a.no_doubt)
+
+  stays : Left ≡ Found → Becomes
   stays same = record {
     stood = [];
     more = [];
@@ -67,22 +80,42 @@ module _ (parts : List (Part Entry)) (client : ℕ) (part : 0 < times client (nu
     faults_rose = rose;
   }
 
-  either : (n : NodeState) → StaysOrSettles n (listing old.entries old.pending) (listing new.entries new.pending)
-      → Becomes
-  either n t =
-      ⊎_elim (λ (u : listing new.entries new.pending ≡ listing old.entries old.pending). stays u)
-      (λ (u : Settles old.pending old.entries new.entries × (new.pending ≡ None)). settled u.0 (inl u.1)) t
+  either : StaysOrSettles Found Left → Becomes
+  either t = ⊎_elim (λ (u : Left ≡ Found). stays u) (λ (u : HasSettled Found Left). settled u) t
 
-  pub by_call : (n : NodeState) (at : CallNo) (call : Call) (a : NodeAnswer)
-      → CallsTo n client at call a (listing old.entries old.pending) (listing new.entries new.pending) → Becomes
-  by_call n at call (Got (Done reply)) a =
-      becomes a.before a.settled (Numbered client at call reply ∷ []) (inr (_, refl, ours at call reply))
-      (ap (λ (l : Listing). l.entries) a.entered) (inl (ap (λ (l : Listing). l.pending) a.entered))
-  by_call n at call (Got (Again reply)) a = settled a.settled (inl a.no_doubt)
-  by_call n at call (Got (Stale last)) a = settled a.settled (inl a.no_doubt)
-  by_call n at call (NoReply faults) a =
-      ⊎_elim (λ (t : StaysOrSettles n (listing old.entries old.pending) (listing new.entries new.pending)). either n
-      t)
-      (λ (t : IsPending n client at call (listing old.entries old.pending) (listing new.entries new.pending)).
-      settled t.settled (inr (_, t.pending, ours at call t.reply))) a.1
-  by_call n at call OutOfMemory a = either n a
+  module _ (n : NodeState) where
+    entered : (e : Entry) → IsOurs tells parts e → IsEntered n e Found Left → Becomes
+    entered e ours a =
+        becomes a.before a.settled (e ∷ []) (inr (e, refl, ours)) (ap (λ (l : Listing). l.entries) a.entered)
+        (inl (ap (λ (l : Listing). l.pending) a.entered))
+
+    pends : (e : Entry) → IsOurs tells parts e → IsPending n e Found Left → Becomes
+    pends e ours a = only_settled a.settled (inr (e, a.pending, ours))
+
+    module _ (client : ℕ) (part : 0 < times client (numbers_of parts)) (at : CallNo) (call : Call) where
+      ours : (reply : Reply) → IsOurs tells parts (Numbered client at call reply)
+      ours reply = inr (client, refl, part)
+
+      pub by_call : (a : NodeAnswer) → CallsTo n client at call a Found Left → Becomes
+      by_call (Got (Done reply)) a = entered (Numbered client at call reply) (ours reply) a
+      by_call (Got (Again reply)) a = settled a.settled
+      by_call (Got (Stale last)) a = settled a.settled
+      by_call (NoReply faults) a =
+          ⊎_elim (λ (t : StaysOrSettles Found Left). either t)
+          (λ (t : (reply : Reply) × IsPending n (Numbered client at call reply) Found Left).
+          pends (Numbered client at call t.0) (ours t.0) t.1) a.1
+      by_call OutOfMemory a = either a
+
+    pub by_work : (a : WorkAnswer) → WorksTo n a Found Left → Becomes
+    by_work (Did (OneUnit passed after)) a = entered (UnitDone passed after) (inl refl) a
+    by_work (Did (Nothing status)) a = settled a.settled
+    by_work (NoWork faults) a =
+        ⊎_elim (λ (t : StaysOrSettles Found Left). either t)
+        (λ (t : (passed : Bool) × (after : Status) × IsPending n (UnitDone passed after) Found Left).
+        pends (UnitDone t.0 t.1) (inl refl) t.2) a.1
+    by_work NoRoom a = either a
+
+    pub by_ask : (client : ℕ) (query : Query) (a : AskAnswer) → AsksTo n client query a Found Left → Becomes
+    by_ask client query (At place answer) a = settled a.settled
+    by_ask client query (NoView faults) a = stays a.1
+    by_ask client query NoMemory a = either a

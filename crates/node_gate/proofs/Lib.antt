@@ -1,7 +1,9 @@
 pub mod Becomes
 pub mod Calls
 pub mod Entered
+pub mod Machines
 pub mod Rises
 pub mod Seats
 pub mod Stands
 pub mod Stepped
+pub mod Units

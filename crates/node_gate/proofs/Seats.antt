@@ -1,10 +1,12 @@
--- A client's seat before and after one turn.
-use Rattle.std.proofs.Common.{◌≡◌, ℕ, ◌<◌, List, [], ◌∷◌, refl, sym, ◌∙◌, ap, subst, Option, Some, None}
+-- A seat before and after one turn.
+use Rattle.std.proofs.Common.{◌≡◌, ℕ, ◌+◌, ◌<◌, Bool, true, false, cond, eqb, List, [], ◌∷◌, length, refl, sym, ◌∙◌, ap, subst, arith, Option, Some, None}
+use Rattle.std.proofs.lemmas.Bool.{eqb-true}
 use Rattle.std.specs.Prelude.{IfSome, IsSome}
 use mathlib.Core.List.{IsPrefix}
 use Rattle.atomic_table.specs.Seated.{TableId}
 use Rattle.turn_gate.specs.Known.{Known}
-use Rattle.turn_gate.specs.Parts.{PartsFit, numbers_of, parts_of, times}
+use Rattle.turn_gate.specs.Mine.{doubt_in, mine_of}
+use Rattle.turn_gate.specs.Parts.{PartsFit, doubt_of, is_of, numbers_of, own, parts_of, times}
 use Rattle.turn_gate.specs.Steps.{HasAll}
 use Rattle.turn_gate.specs.Views.{account, at_rest, published, with_turn}
 use Rattle.turn_gate.specs.declared.view.Account.{Account}
@@ -13,14 +15,43 @@ use Rattle.turn_gate.specs.declared.view.Part.{Part}
 use Rattle.turn_gate.specs.declared.view.View.{View}
 use Rattle.disk_core.specs.declared.plan.FaultPlan.{FaultPlan}
 use Rattle.node_store.specs.declared.node.Node.{Node}
-use Rattle.node_gate.specs.Plans.{fixed_numbers}
+use Rattle.plan_numbers.specs.Plans.{fixed_numbers}
 use Rattle.turn_gate.proofs.Mine.{fits-settles, turn-tells}
+use Rattle.turn_gate.proofs.Prefixes.{prefix_trans}
 use Rattle.turn_gate.proofs.Sums.{numbers_of-parts_of}
 use Rattle.pm_types.specs.declared.history.Entry.{Entry}
-use Rattle.pm_types.specs.NodeState.{NodeState}
 use Rattle.node_gate.specs.declared.opening.Opening.{Opening}
-use Rattle.node_gate.specs.Seats.{IsClientSeat, IsFound, IsHandedBack, IsLeft, node_in}
-use Rattle.node_gate.specs.Stands.{StandsFor, listing, node_at, tells}
+use Rattle.node_gate.specs.Seats.{IsClientSeat, IsHandedBack, IsLeft, IsSeat, IsWorkSeat, Turned}
+use Rattle.node_gate.specs.Stands.{Listing, StandsFor, listing, tells}
+
+-- where parts fit, what is pending of one of them is its doubt, and isn't among its entries
+module _ (a : Account Entry) (n : ℕ) where
+  abbrev WasDoubt : List (Part Entry) → Entry → Type 0
+  WasDoubt ps e = (doubt_in n ps ≡ Some e) × (own tells n a.entries ≡ mine_of n ps)
+
+  was_doubt : (ps : List (Part Entry)) → 0 < times n (numbers_of ps) → PartsFit tells a ps → (e : Entry)
+      → a.pending ≡ Some e → is_of (tells e) n ≡ true → WasDoubt ps e
+  was_doubt [] some fit e pends told = absurd (omega (arith, some))
+  was_doubt (p ∷ ps) some fit e pends told =
+      go (eqb p.number n) refl some (λ more. was_doubt ps more fit.1 e pends told)
+    where
+      go : (b : Bool) → eqb p.number n ≡ b → 0 < cond b 1 0 + times n (numbers_of ps)
+          → (0 < times n (numbers_of ps) → WasDoubt ps e)
+          → (cond b p.doubt (doubt_in n ps) ≡ Some e) × (own tells n a.entries ≡ cond b p.mine (mine_of n ps))
+      go true is some rest =
+          let same = eqb-true p.number n is in
+          subst (λ k. (p.doubt ≡ Some e) × (own tells k a.entries ≡ p.mine)) same
+          (fit.0.pending_is e pends (subst (λ k. is_of (tells e) k ≡ true) (sym same) told))
+      go false is some rest = rest (omega (arith, some))
+
+  pending_was : (ps : List (Part Entry)) → 0 < times n (numbers_of ps) → PartsFit tells a ps → (o : Option Entry)
+      → a.pending ≡ o → IfSome (doubt_of tells o n) (WasDoubt ps)
+  pending_was ps some fit None none = tt
+  pending_was ps some fit (Some e) pends = by (is_of (tells e) n) refl
+    where
+      by : (b : Bool) → is_of (tells e) n ≡ b → IfSome (cond b (Some e) None) (WasDoubt ps)
+      by true told = was_doubt ps some fit e pends told
+      by false told = tt
 
 module _ {O : Type 0} where
   -- the view after a turn that found one account and published another
@@ -33,60 +64,82 @@ module _ {O : Type 0} where
   kept P Q n m None same on p = p
   kept P Q n m (Some f) same on p = (same ∙ p.0, on f.opening p.1)
 
-  module _ (client : ℕ) (gate : TableId) (old : Known Entry O) (seat : IsClientSeat client gate old) where
-    -- what the turn found
-    pub is_found : (found : Account Entry) → IsPrefix old.view.seen found.entries
-        → PartsFit tells found old.view.parts → (HasAll old.view → found.entries ≡ old.view.seen)
-        → IsFound client old.view (listing found.entries found.pending)
-    is_found found goes_on fits alone = record {
-      goes_on = goes_on;
-      own_is = fits-settles tells found client old.view.parts seat.part fits;
-      alone = alone;
+  -- the seat has its parts while it has the turn
+  pub parts_in : (old : View Entry O) (found : Account Entry)
+      → numbers_of (with_turn tells found old).parts ≡ numbers_of old.parts
+  parts_in old found = numbers_of-parts_of tells found (numbers_of old.parts)
+
+  module _ (old new : Known Entry O) (found now : Account Entry) (rise : ℕ) (same : new.gate ≡ old.gate)
+      (is : new.view ≡ after_turn old.view found now rise) where
+    -- and afterwards
+    parts_after : numbers_of new.view.parts ≡ numbers_of old.view.parts
+    parts_after =
+        ap (λ (v : View Entry O). numbers_of v.parts) is
+        ∙ numbers_of-parts_of tells now (numbers_of (with_turn tells found old.view).parts)
+        ∙ parts_in old.view found
+
+    seen_is : new.view.seen ≡ now.entries
+    seen_is = ap (λ (v : View Entry O). v.seen) is
+
+    is_left : IsLeft new.view (listing now.entries now.pending)
+    is_left = record {
+      seen = seen_is;
+      each = λ n part.
+          let ns = numbers_of (with_turn tells found old.view).parts in
+          let has = subst (λ (ms : List ℕ). 0 < times n ms) (parts_after ∙ sym (parts_in old.view found)) part in
+          let told = turn-tells tells now n ns has in
+          let at = ap (λ (v : View Entry O). v.parts) is in
+          record { mine = ap (mine_of n) at ∙ told.0; doubt = ap (doubt_in n) at ∙ told.1 };
     }
 
-    -- the seat has the part while it has the turn
-    pub part_in : (found : Account Entry) → 0 < times client (numbers_of (with_turn tells found old.view).parts)
-    part_in found =
-        subst (λ (ns : List ℕ). 0 < times client ns) (sym (numbers_of-parts_of tells found (numbers_of
-        old.view.parts))) seat.part
-
-    module _ (new : Known Entry O) (found now : Account Entry) (rise : ℕ) (same : new.gate ≡ old.gate)
-        (is : new.view ≡ after_turn old.view found now rise) where
-      fixed_is : new.view.fixed ≡ old.view.fixed
-      fixed_is = ap (λ (v : View Entry O). v.fixed) is
-
-      numbers_are : numbers_of (parts_of tells now (numbers_of (with_turn tells found old.view).parts))
-          ≡ numbers_of old.view.parts
-      numbers_are =
-          numbers_of-parts_of tells now (numbers_of (with_turn tells found old.view).parts)
-          ∙ numbers_of-parts_of tells found (numbers_of old.view.parts)
-
-      pub seat_after : IsClientSeat client gate new
-      seat_after = record {
-        seat = record {
-          ours = same ∙ seat.seat.ours;
-          rests = ap (λ (v : View Entry O). v.held) is;
-          made = subst (λ (o : Option (Fixed O)). IsSome o) (sym fixed_is) seat.seat.made;
+    -- one turn
+    pub turned : (Did : Listing → Listing → Type 0) → IsPrefix old.view.seen found.entries
+        → IsPrefix found.entries now.entries → PartsFit tells found old.view.parts
+        → (HasAll old.view → found.entries ≡ old.view.seen)
+        → Did (listing found.entries found.pending) (listing now.entries now.pending) → Turned Did old new
+    turned Did came more fits alone did = record {
+      same_gate = same;
+      rests = ap (λ (v : View Entry O). v.held) is;
+      fixed = ap (λ (v : View Entry O). v.fixed) is;
+      parts = parts_after;
+      notes = ap (λ (v : View Entry O). v.notes) is;
+      goes_on = subst (λ (l : List Entry). IsPrefix old.view.seen l) (sym seen_is)
+          (prefix_trans old.view.seen found.entries now.entries came more);
+      found = listing found.entries found.pending;
+      left = listing now.entries now.pending;
+      is_found = record {
+        goes_on = came;
+        each = λ n part. record {
+          own_is = fits-settles tells found n old.view.parts part fits;
+          pending_was = pending_was found n old.view.parts part fits found.pending refl;
         };
-        part =
-            subst (λ (ns : List ℕ). 0 < times client ns)
-            (sym (ap (λ (v : View Entry O). numbers_of v.parts) is ∙ numbers_are)) seat.part;
-      }
+        alone = alone;
+      };
+      is_left = is_left;
+      did = did;
+    }
 
-      -- what the turn left
-      pub is_left : IsLeft client new.view (listing now.entries now.pending)
-      is_left =
-          let told = turn-tells tells now client (numbers_of (with_turn tells found old.view).parts) (part_in found)
-          in
-          subst (λ (v : View Entry O). IsLeft client v (listing now.entries now.pending)) (sym is)
-          (record { seen = refl; mine = told.0; doubt = told.1 })
+  -- the seat stays one of its gate, with its parts
+  module _ (Did : Listing → Listing → Type 0) (gate : TableId) (old new : Known Entry O)
+      (turn : Turned Did old new) where
+    still_seat : IsSeat gate old → IsSeat gate new
+    still_seat seat = record {
+      ours = turn.same_gate ∙ seat.ours;
+      rests = turn.rests;
+      made = subst (λ (o : Option (Fixed O)). IsSome o) (sym turn.fixed) seat.made;
+    }
 
--- what holds from the opening's node holds from the seat's
-pub at_opening : {D : Type 0} (seen : D → List ℕ) (P : Opening D → Type 0) (A : NodeState → Type 0) (n : List ℕ)
-    (o : Option (Fixed (Opening D))) → IsSome o → IfSome o (λ f. (n ≡ f.numbers) × P f.opening)
-    → ((x : Opening D) → P x → A (node_at seen x)) → A (node_in seen o)
-at_opening seen P A n None made p on = absurd (cc made)
-at_opening seen P A n (Some f) made p on = on f.opening p.1
+    pub still_clients : (client : ℕ) → IsClientSeat client gate old → IsClientSeat client gate new
+    still_clients client ours = record {
+      seat = still_seat ours.seat;
+      part = subst (λ (ns : List ℕ). 0 < times client ns) (sym turn.parts) ours.part;
+    }
+
+    pub still_works : IsWorkSeat gate old → IsWorkSeat gate new
+    still_works ours = record {
+      seat = still_seat ours.seat;
+      part = subst (λ (ns : List ℕ). 0 < length ns) (sym turn.parts) ours.part;
+    }
 
 -- what `close` hands back
 pub handed_back : {D : Type 0} (moment : D → ℕ) (left_since : D → ℕ → List ℕ → Type 0) (seen : D → List ℕ)

@@ -7,6 +7,7 @@ use mathlib.Core.List.{IsPrefix}
 use Rattle.turn_gate.specs.Mine.{Settles}
 use Rattle.turn_gate.proofs.Prefixes.{prefix_same, prefix_trans}
 use Rattle.disk_core.specs.Images.{EachImage, Within}
+use Rattle.disk_core.specs.declared.disk.Disk.{Ghosts}
 use Rattle.disk_core.specs.Moments.{LeavesOnly}
 use Rattle.disk_core.proofs.Moments.{joined, started, weaker}
 use Rattle.pm_types.specs.declared.history.Entry.{Entry}
@@ -21,12 +22,14 @@ use Rattle.pm_types.specs.Work.{unit}
 use Rattle.pm_types.specs.Stored.{State}
 use Rattle.pm_types.specs.Histories.{IsLegal, IsTrueTo, after_entry, verdict_for}
 use Rattle.node_core.specs.Packages.{package_reading}
+use Rattle.node_laws.specs.Fit.{IsFit}
 use Rattle.node_laws.proofs.GoingOn.{goes-on}
 use Rattle.node_store.specs.Open.{IsOpen}
 use Rattle.node_store.specs.Serving.{Serves, ServesEither, ServesSome, node_on}
 use Rattle.node_store.specs.declared.node.Node.{Node}
 use Rattle.node_store.proofs.Entered.{open_serves}
 use Rattle.node_gate.specs.declared.opening.Opening.{Opening}
+use Rattle.node_gate.specs.declared.shared.SharedNode.{SharedNode}
 use Rattle.node_gate.specs.Stands.{Knows, StandsFor, WasLeft, node_after, node_at, opening, pending_list, with_pending}
 
 true-not-false : (b : Bool) → b ≡ true → b ≡ false → ⊥
@@ -69,14 +72,16 @@ module _ {D : Type 0} (moment : D → ℕ) (left_since : D → ℕ → List ℕ 
       (λ image either. record { beginning = es; begins = begins; pending = p; serves = either })
 
   -- the node is open, and is that after the entries
-  pub open_stands : (b : Node D) (es : List Entry) → MayGo (node_at seen o) es → b.is_closed ≡ false
+  pub open_stands : (b : Node D) (es : List Entry) → IsFit package_reading (node_at seen o)
+      → MayGo (node_at seen o) es → b.is_closed ≡ false
       → IsOpen b.log b.ready (seen b.extents.disk) (images b.extents.disk)
       → node_on b.ready.state (seen b.extents.disk) ≡ N es → Since b es → Stands b es None
-  open_stands b es may is_open opened node since = record {
+  open_stands b es fit may is_open opened node since = record {
     known = record {
       open_is = λ e. opened;
       closed_is = λ closed. absurd (true-not-false b.is_closed closed is_open);
     };
+    fit = fit;
     legal = may.0;
     true_to = may.1;
     may_pend = (tt, tt);
@@ -97,6 +102,7 @@ module _ {D : Type 0} (moment : D → ℕ) (left_since : D → ℕ → List ℕ 
       open_is = λ opened. absurd (true-not-false b.is_closed closed opened);
       closed_is = λ e image now. either_some (N es) (with_pending (N es) p) image (serve image now);
     };
+    fit = stands.fit;
     legal = stands.legal;
     true_to = stands.true_to;
     may_pend = may;
@@ -120,13 +126,14 @@ module _ {D : Type 0} (moment : D → ℕ) (left_since : D → ℕ → List ℕ 
   after_one es e = (goes-on package_reading).state (node_at seen o) es (e ∷ [])
 
   -- an entry more stands
-  pub grows : (a b : Node D) (es : List Entry) (e : Entry) → MayGo (node_at seen o) es → Since a es
+  pub grows : (a b : Node D) (es : List Entry) (e : Entry) → IsFit package_reading (node_at seen o)
+      → MayGo (node_at seen o) es → Since a es
       → MayGo (N es) (e ∷ []) → b.is_closed ≡ false
       → IsOpen b.log b.ready (seen b.extents.disk) (images b.extents.disk)
       → node_on b.ready.state (seen b.extents.disk) ≡ after_entry package_reading (N es) e
       → Run a b (N es) (Some e) → Stands b (es ++ e ∷ []) None
-  grows a b es e may since next is_open opened node run =
-      open_stands b (es ++ e ∷ []) (one_more es e may next) is_open opened (node ∙ sym (after_one es e))
+  grows a b es e fit may since next is_open opened node run =
+      open_stands b (es ++ e ∷ []) fit (one_more es e may next) is_open opened (node ∙ sym (after_one es e))
       (moments_on a b es (es ++ e ∷ []) (Some e) (e ∷ [], refl) since run)
 
   -- the node was opened again, and what was pending was lost
@@ -134,7 +141,7 @@ module _ {D : Type 0} (moment : D → ℕ) (left_since : D → ℕ → List ℕ 
       → IsOpen b.log b.ready (seen b.extents.disk) (images b.extents.disk)
       → node_on b.ready.state (seen b.extents.disk) ≡ N es → Run a b (N es) p → Stands b es None
   lost a b es p stands is_open opened node run =
-      open_stands b es (stands.legal, stands.true_to) is_open opened node
+      open_stands b es stands.fit (stands.legal, stands.true_to) is_open opened node
       (moments_on a b es es p (prefix_same es es refl) stands.moments run)
 
   -- or it stood
@@ -146,7 +153,7 @@ module _ {D : Type 0} (moment : D → ℕ) (left_since : D → ℕ → List ℕ 
       subst (λ (l : List Entry). Stands b l None) (sym (append-nil es))
       (lost a b es None stands is_open opened node run)
   stood a b es (Some e) stands is_open opened node run =
-      grows a b es e (stands.legal, stands.true_to) stands.moments stands.may_pend is_open opened node run
+      grows a b es e stands.fit (stands.legal, stands.true_to) stands.moments stands.may_pend is_open opened node run
 
   -- what a crash leaves in a call that writes nothing
   pub run_of : (a b : Node D) (es : List Entry) (p : Option Entry) → Stands a es p
@@ -204,35 +211,36 @@ counts n (Some (UnitDone passed after)) = go (unit n passed) refl (unit-entries 
         inr (ap (λ (o : Option NodeState). (unwrap_or (option_map line o) n).entries) e
         ∙ ap (λ (k : ℕ). k + 1) same)
 
-module _ {D : Type 0} (moment : D → ℕ) (left_since : D → ℕ → List ℕ → Type 0) (seen : D → List ℕ)
-    (images : D → List ℕ → Type 0) where
-  -- all of it is the same
-  pub same_stands : (o : Opening D) (names fails : List (List ℕ)) (a b : Node D) (es fs : List Entry)
-      (p q : Option Entry) → fails ≡ names → b ≡ a → fs ≡ es → q ≡ p
-      → StandsFor moment left_since seen images names o a es p → StandsFor moment left_since seen images fails o b
-      fs q
-  same_stands o names fails a b es fs p q names_are node_is entries_are pending_is stands =
-      subst (λ (l : List (List ℕ)). StandsFor moment left_since seen images l o b fs q) (sym names_are)
-      (subst (λ (n : Node D). StandsFor moment left_since seen images names o n fs q) (sym node_is)
-      (subst (λ (l : List Entry). StandsFor moment left_since seen images names o a l q) (sym entries_are)
-      (subst (λ (r : Option Entry). StandsFor moment left_since seen images names o a es r) (sym pending_is)
-      stands)))
+module _ {D : Type 0} (d : Ghosts D) where
+  -- a machine stands for what it has
+  pub same_stands : (o : Opening D) (names : List (List ℕ)) (a : Node D) (es : List Entry) (p : Option Entry)
+      (end : SharedNode D d) → end.fails.items ≡ names → end.node ≡ a → end.entries.items ≡ es → end.pending ≡ p
+      → StandsFor d.moment d.left_since d.seen d.images names o a es p
+      → StandsFor d.moment d.left_since d.seen d.images end.fails.items o end.node end.entries.items end.pending
+  same_stands o names a es p end names_are node_is entries_are pending_is stands =
+      subst (λ l. StandsFor d.moment d.left_since d.seen d.images l o end.node end.entries.items end.pending)
+      (sym names_are)
+      (subst (λ n. StandsFor d.moment d.left_since d.seen d.images names o n end.entries.items end.pending)
+      (sym node_is)
+      (subst (λ l. StandsFor d.moment d.left_since d.seen d.images names o a l end.pending) (sym entries_are)
+      (subst (λ q. StandsFor d.moment d.left_since d.seen d.images names o a es q) (sym pending_is) stands)))
 
   -- as the gate is made
   pub stands_first : (fails : List (List ℕ)) (node : Node D) (es : List Entry) → es ≡ [] → node.is_closed ≡ false
-      → IsOpen node.log node.ready (seen node.extents.disk) (images node.extents.disk)
-      → ((image : List ℕ) → left_since node.extents.disk (moment node.extents.disk) image
-      → images node.extents.disk image)
-      → StandsFor moment left_since seen images fails (opening node) node es None
+      → IsOpen node.log node.ready (d.seen node.extents.disk) (d.images node.extents.disk)
+      → ((image : List ℕ) → d.left_since node.extents.disk (d.moment node.extents.disk) image
+      → d.images node.extents.disk image)
+      → StandsFor d.moment d.left_since d.seen d.images fails (opening node) node es None
   stands_first fails node es none is_open opened only_now =
-      let n = node_on node.ready.state (seen node.extents.disk) in
-      subst (λ (l : List Entry). StandsFor moment left_since seen images fails (opening node) node l None) (sym none)
-      (open_stands moment left_since seen images fails (opening node) node [] (tt, tt) is_open opened refl
-      (started moment left_since node.extents.disk (WasLeft n []) (λ image left. record {
+      let n = node_on node.ready.state (d.seen node.extents.disk) in
+      subst (λ (l : List Entry). StandsFor d.moment d.left_since d.seen d.images fails (opening node) node l None)
+      (sym none)
+      (open_stands d.moment d.left_since d.seen d.images fails (opening node) node [] opened.sound.fit (tt, tt) is_open
+      opened refl
+      (started d.moment d.left_since node.extents.disk (WasLeft n []) (λ image left. record {
         beginning = [];
         begins = prefix_same [] [] refl;
         pending = None;
-        serves = inl (open_serves node.log node.ready (seen node.extents.disk) (images node.extents.disk) opened
-            image
-            (only_now image left));
+        serves = inl (open_serves node.log node.ready (d.seen node.extents.disk) (d.images node.extents.disk) opened
+            image (only_now image left));
       })))

@@ -1,5 +1,5 @@
 -- Seats of a node's gate, and what a call shows a seat.
-use Rattle.std.specs.Prelude.{◌≡◌, ℕ, ◌<◌, List, [], length, Option, Some, None, IsSome}
+use Rattle.std.specs.Prelude.{◌≡◌, ℕ, ◌<◌, List, [], length, Option, Some, None, IfSome, IsSome}
 use mathlib.Core.List.{IsPrefix}
 use Rattle.atomic_table.specs.Seated.{TableId}
 use Rattle.turn_gate.specs.Known.{Known}
@@ -11,16 +11,13 @@ use Rattle.turn_gate.specs.declared.view.Part.{Part}
 use Rattle.turn_gate.specs.declared.view.View.{View}
 use Rattle.turn_gate.specs.Views.{account}
 use Rattle.disk_core.specs.declared.plan.FaultPlan.{FaultPlan}
-use Rattle.ucm_base.specs.declared.ids.CallNo.{CallNo}
-use Rattle.pm_types.specs.declared.calls.Call.{Call}
 use Rattle.pm_types.specs.declared.history.Entry.{Entry}
+use Rattle.pm_types.specs.declared.status.Status.{Status}
 use Rattle.pm_types.specs.Histories.{formatted}
 use Rattle.pm_types.specs.NodeState.{NodeState}
-use Rattle.node_store.specs.declared.answers.NodeAnswer.{NodeAnswer}
 use Rattle.node_store.specs.declared.node.Node.{Node}
-use Rattle.node_gate.specs.Calls.{CallsTo}
-use Rattle.node_gate.specs.Plans.{fixed_numbers}
-use Rattle.node_gate.specs.Stands.{Listing, StandsFor, listing, node_at, tells}
+use Rattle.plan_numbers.specs.Plans.{fixed_numbers}
+use Rattle.node_gate.specs.Stands.{Listing, StandsFor, node_after, node_at, tells}
 use Rattle.node_gate.specs.declared.opening.Opening.{Opening}
 
 module _ {O : Type 0} where
@@ -40,18 +37,43 @@ module _ {O : Type 0} where
     pub seat : IsSeat gate s
     pub part : 0 < times client (numbers_of s.view.parts)
 
-  -- what the turn found: the list goes on from what was seen, the client's own entries settle its doubt, what is
-  -- pending of the client was its doubt, and where the seat has all parts nothing came
-  pub record IsFound (client : ℕ) (v : View Entry O) (found : Listing) : Type 0 where
+  -- what a turn found of one part of the seat: its entries settle its doubt, and what is pending of it was its doubt,
+  -- which isn't among them
+  pub record IsPartFound (n : ℕ) (v : View Entry O) (found : Listing) : Type 0 where
+    pub own_is : Settles (doubt_in n v.parts) (mine_of n v.parts) (own tells n found.entries)
+    pub pending_was : IfSome (doubt_of tells found.pending n)
+        (λ e. (doubt_in n v.parts ≡ Some e) × (own tells n found.entries ≡ mine_of n v.parts))
+
+  -- what a turn found: the list goes on from what was seen, and where the seat has all parts nothing came
+  pub record IsFound (v : View Entry O) (found : Listing) : Type 0 where
     pub goes_on : IsPrefix v.seen found.entries
-    pub own_is : Settles (doubt_in client v.parts) (mine_of client v.parts) (own tells client found.entries)
+    pub each : (n : ℕ) → 0 < times n (numbers_of v.parts) → IsPartFound n v found
     pub alone : HasAll v → found.entries ≡ v.seen
 
-  -- what the turn left: the list was seen, with the client's own entries, and what is pending of it is its doubt
-  pub record IsLeft (client : ℕ) (v : View Entry O) (left : Listing) : Type 0 where
+  -- what a turn left of one part: its own entries, and what is pending of it is its doubt
+  pub record IsPartLeft (n : ℕ) (v : View Entry O) (left : Listing) : Type 0 where
+    pub mine : mine_of n v.parts ≡ own tells n left.entries
+    pub doubt : doubt_in n v.parts ≡ doubt_of tells left.pending n
+
+  -- what a turn left: the list was seen
+  pub record IsLeft (v : View Entry O) (left : Listing) : Type 0 where
     pub seen : v.seen ≡ left.entries
-    pub mine : mine_of client v.parts ≡ own tells client left.entries
-    pub doubt : doubt_in client v.parts ≡ doubt_of tells left.pending client
+    pub each : (n : ℕ) → 0 < times n (numbers_of v.parts) → IsPartLeft n v left
+
+  -- one turn of the seat, which did this to what it found: it is of the same gate with the same parts and polls, and
+  -- what it has seen goes on
+  pub record Turned (Did : Listing → Listing → Type 0) (old new : Known Entry O) : Type 0 where
+    pub same_gate : new.gate ≡ old.gate
+    pub rests : new.view.held ≡ None
+    pub fixed : new.view.fixed ≡ old.view.fixed
+    pub parts : numbers_of new.view.parts ≡ numbers_of old.view.parts
+    pub notes : new.view.notes ≡ old.view.notes
+    pub goes_on : IsPrefix old.view.seen new.view.seen
+    pub found : Listing
+    pub left : Listing
+    pub is_found : IsFound old.view found
+    pub is_left : IsLeft new.view left
+    pub did : Did found left
 
 abbrev pub node_in : {D : Type 0} → (D → List ℕ) → Option (Fixed (Opening D)) → NodeState
 node_in seen None = formatted []
@@ -61,14 +83,11 @@ node_in seen (Some f) = node_at seen f.opening
 abbrev pub opened_as : {D : Type 0} → (D → List ℕ) → View Entry (Opening D) → NodeState
 opened_as seen v = node_in seen v.fixed
 
--- a client's call, from what the turn found to what it left
-pub record Called {D : Type 0} (seen : D → List ℕ) (client : ℕ) (at : CallNo) (call : Call) (answer : NodeAnswer)
-    (old new : View Entry (Opening D)) : Type 0 where
-  pub found : Listing
-  pub left : Listing
-  pub is_found : IsFound client old found
-  pub is_left : IsLeft client new left
-  pub calls : CallsTo (opened_as seen old) client at call answer found left
+-- some list that begins with all that was seen has this length, and leads to this status
+abbrev pub ShowsAt : {D : Type 0} → (D → List ℕ) → View Entry (Opening D) → ℕ → Status → Type 0
+ShowsAt seen v place status =
+    IfSome v.fixed (λ f. (entries : List Entry)
+    × IsPrefix v.seen entries × (length entries ≡ place) × (status ≡ (node_after seen f.opening entries).status))
 
 -- what `close` hands back: the names that fail and the disk's plan are those of the making; the node stands for the
 -- entries and one that may be pending, from the opening; and each part has its entries

@@ -10,6 +10,7 @@ use Rattle.pm_types.specs.declared.history.Entry.{Entry}
 use Rattle.pm_types.specs.declared.history.Entry.TheVariants.{Numbered, Unit as UnitDone}
 use Rattle.pm_types.specs.Histories.{IsLegal, IsTrueTo, after_entry, state_after}
 use Rattle.pm_types.specs.NodeState.{NodeState, status_code}
+use Rattle.node_laws.specs.Fit.{IsFit}
 use Rattle.node_core.specs.Packages.{package_reading}
 use Rattle.node_store.specs.Open.{IsOpen}
 use Rattle.node_store.specs.Serving.{Serves, ServesEither, ServesSome, node_on}
@@ -76,12 +77,12 @@ pub record Knows {D : Type 0} (seen : D → List ℕ) (images : D → List ℕ �
 
 module _ {D : Type 0} (moment : D → ℕ) (left_since : D → ℕ → List ℕ → Type 0) (seen : D → List ℕ)
     (images : D → List ℕ → Type 0) where
-  -- the node, or where it is closed each image of it, is that after a legal list of entries, true to the names,
-  -- which
-  -- goes on from the opening; what is pending may go on it; and so was each image since the making
+  -- the node, or where it is closed each image of it, is that after a legal list of entries, true to the names, which
+  -- goes on from the opening, a consistent node; what is pending may go on it; and so was each image since the making
   pub record StandsFor (fails : List (List ℕ)) (o : Opening D) (node : Node D) (entries : List Entry)
       (pending : Option Entry) : Type 0 where
     pub known : Knows seen images node
+    pub fit : IsFit package_reading (node_at seen o)
     pub legal : IsLegal package_reading (node_at seen o) entries
     pub true_to : IsTrueTo fails package_reading (node_at seen o) entries
     pub may_pend : IsLegal package_reading (node_after seen o entries) (pending_list pending)

@@ -1,20 +1,21 @@
 //! The gate of a node, and its seats.
 ghost use Rattle.std.specs.Prelude.{◌≡◌, ◌+◌, ◌<◌, ◌≤◌, false, [], Some, None, IfOk, IfErr, IfSome, length};
-ghost use mathlib.Core.List.{IsPrefix};
 ghost use Rattle.turn_gate.specs.Parts.{AllDiffer, at_most_last, parts_of};
 ghost use Rattle.turn_gate.specs.Seats.{AllRest, AllSawBeginnings, HaveAll, OneSaw, fixed_in, notes_in, one_each, parts_in, rises_in};
-ghost use Rattle.turn_gate.specs.Rule.{NotesFit};
-ghost use Rattle.turn_gate.specs.Views.{account, first_view, fixed_to};
+ghost use Rattle.turn_gate.specs.Rule.{NotAbove, NotesFit};
+ghost use Rattle.turn_gate.specs.Views.{account, first_view, fixed_to, noted};
+ghost use Rattle.pm_types.specs.NodeState.{status_code};
 ghost use Rattle.node_store.specs.Open.{IsOpen};
-ghost use Rattle.node_gate.specs.Calls.{rise_of};
-ghost use Rattle.node_gate.specs.Plans.{fixed_numbers};
-ghost use Rattle.node_gate.specs.Seats.{Called, IsClientSeat, IsHandedBack};
+ghost use Rattle.node_gate.specs.Calls.{AsksTo, CallsTo, WorksTo, rise_of, rise_of_ask, rise_of_work};
+ghost use Rattle.plan_numbers.specs.Plans.{fixed_numbers};
+ghost use Rattle.node_gate.specs.Seats.{IsClientSeat, IsHandedBack, IsSeat, IsWorkSeat, ShowsAt, Turned, opened_as};
 ghost use Rattle.node_gate.specs.Stands.{opening, status_code_after, tells};
 
+use crate::answers::{AskAnswer, faults_of, faults_of_work};
 use crate::shared::SharedNode;
 use disk_core::Disk;
-use node_store::{Node, NodeAnswer};
-use pm_types::{Call, Entry};
+use node_store::{Node, NodeAnswer, WorkAnswer};
+use pm_types::{Call, Entry, Query, Status};
 use std::alloc::{AllocError, Global};
 use std::marker::Model;
 use std::sync::Wait;
@@ -53,16 +54,6 @@ fn parts_of_clients(alloc: Global, clients: &[ClientId]) -> Result<Vec<u8>, Allo
         parts.push(client.number())?;
     }
     Ok(parts)
-}
-
-/// The faults that an answer carries.
-fn faults_of(answer: &NodeAnswer) -> u64
-    ensures { result ≡ rise_of answer.now }
-{
-    match answer {
-        NodeAnswer::NoReply { faults } => *faults,
-        NodeAnswer::Reached(_) | NodeAnswer::OutOfMemory => 0,
-    }
 }
 
 impl<D: Disk> NodeGate<D> {
@@ -116,17 +107,63 @@ impl<D: Disk> NodeGate<D> {
     ) -> NodeAnswer
         requires ours { IsClientSeat client self.now seat.old }
         ensures ours { IsClientSeat client self.now seat.new }
-        ensures fixed { seat.new.view.fixed ≡ seat.old.view.fixed }
-        ensures goes_on { IsPrefix seat.old.view.seen seat.new.view.seen }
-        ensures called { Called D.seen client no call result seat.old.view seat.new.view }
+        ensures called { Turned (CallsTo (opened_as D.seen seat.old.view) client no call result) seat.old seat.new }
         ensures rises { seat.new.view.rises ≡ seat.old.view.rises + rise_of result }
-        ensures notes { seat.new.view.notes ≡ seat.old.view.notes }
     {
         let mut shared = self.gate.turn(rt, seat);
         let answer = shared.call(self.alloc, client, no, call);
         self.gate.publish(seat, &shared, faults_of(&answer));
         self.gate.give(seat, shared);
         answer
+    }
+
+    /// One turn: the node's next unit of work, which passes by the names that the gate was made with. A closed node is
+    /// opened again first.
+    pub fn work<R: Wait>(&self, rt: &R, seat: &mut NodeSeat<D>) -> WorkAnswer
+        requires ours { IsWorkSeat self.now seat.old }
+        ensures ours { IsWorkSeat self.now seat.new }
+        ensures worked { Turned (WorksTo (opened_as D.seen seat.old.view) result) seat.old seat.new }
+        ensures rises { seat.new.view.rises ≡ seat.old.view.rises + rise_of_work result }
+    {
+        let mut shared = self.gate.turn(rt, seat);
+        let answer = shared.work(self.alloc);
+        self.gate.publish(seat, &shared, faults_of_work(&answer));
+        self.gate.give(seat, shared);
+        answer
+    }
+
+    /// One turn: a query of a client, answered after all entries. It adds nothing but what was pending, where that
+    /// stood, since a closed node is opened again first.
+    pub fn ask<R: Wait>(
+        &self,
+        rt: &R,
+        seat: &mut NodeSeat<D>,
+        client: ClientId,
+        query: &Query,
+    ) -> AskAnswer
+        requires ours { IsClientSeat client self.now seat.old }
+        ensures ours { IsClientSeat client self.now seat.new }
+        ensures asked { Turned (AsksTo (opened_as D.seen seat.old.view) client query.now result) seat.old seat.new }
+        ensures rises { seat.new.view.rises ≡ seat.old.view.rises + rise_of_ask result }
+    {
+        let mut shared = self.gate.turn(rt, seat);
+        let answer = shared.ask(self.alloc, client, query);
+        self.gate.publish(seat, &shared, answer.faults());
+        self.gate.give(seat, shared);
+        answer
+    }
+
+    /// How many entries stand since the gate was made, and the node's status after them, by any seat. It never waits.
+    pub fn poll_status(&self, seat: &mut NodeSeat<D>) -> (u64, Status)
+        requires ours { IsSeat self.now seat.old }
+        ensures same_gate { seat.new.gate ≡ seat.old.gate }
+        ensures noted { seat.new.view ≡ noted result.0 (status_code result.1) seat.old.view }
+        ensures not_before_seen { length seat.old.view.seen ≤ result.0 }
+        ensures not_before_polled { NotAbove result.0 seat.old.view.notes }
+        ensures shows { ShowsAt D.seen seat.old.view result.0 result.1 }
+    {
+        let (place, code) = self.gate.poll(seat);
+        (place, Status::of_code(code))
     }
 
     /// Ends the gate, by seats that together have all its clients, and hands back the node and its entries since the

@@ -6,12 +6,16 @@
 //! hands back with the node.
 #![tactic(auto)]
 
+mod answers;
+mod asking;
 mod gate;
 mod opening;
 mod shared;
 mod steps;
+mod working;
 
+pub use answers::AskAnswer;
 pub use gate::{NodeGate, NodeSeat, NodeSeats};
-pub use node_store::NodeAnswer;
+pub use node_store::{NodeAnswer, WorkAnswer};
 pub use opening::Opening;
 pub use shared::SharedNode;

@@ -21,7 +21,7 @@ pub struct SharedNode<D: Disk> {
 
 impl<D: Disk> Machine for SharedNode<D> {
     ghost use Rattle.node_gate.specs.Laws.{code_fits, list_fits};
-    ghost use Rattle.node_gate.specs.Plans.{fixed_numbers};
+    ghost use Rattle.plan_numbers.specs.Plans.{fixed_numbers};
     ghost use Rattle.node_gate.specs.Stands.{StandsFor, account_of, node_after, opening, status_code_after, tells};
 
     type Entry = Entry;

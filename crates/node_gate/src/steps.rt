@@ -2,14 +2,14 @@
 ghost use Rattle.std.specs.Prelude.{◌≡◌, ◌≤◌, ◌<◌, ◌++◌, ◌∷◌, [], false, true, None, OnOk, OnErr, IsErrOf};
 ghost use Rattle.fault_count.specs.Faults.{HasRisen};
 ghost use Rattle.turn_gate.specs.Mine.{Settles};
-ghost use Rattle.ucm_base.specs.Limits.{entry_limit};
+ghost use Rattle.ucm_base.specs.Limits.{client_limit, entry_limit};
 ghost use Rattle.pm_types.specs.declared.replies.Reached.TheVariants.{Done};
 ghost use Rattle.node_core.specs.Core.{IsReserved, over};
 ghost use Rattle.slot_store.specs.Extents.{held_in, node_places};
 ghost use Rattle.node_store.specs.Answers.{Carries, IsRise};
 ghost use Rattle.node_store.specs.Open.{IsOpen};
 ghost use Rattle.node_store.specs.Serving.{node_on, stepped};
-ghost use Rattle.node_gate.specs.Calls.{CallsTo, IsShut};
+ghost use Rattle.node_gate.specs.Calls.{CallsTo};
 ghost use Rattle.node_gate.specs.Room.{HasRoom};
 ghost use Rattle.node_gate.specs.Stands.{Knows, StandsFor, listing_in, node_at, pending_list};
 ghost use Rattle.node_gate.specs.declared.opening.Opening.{Opening as an_opening};
@@ -27,11 +27,11 @@ use ucm_base::{CallNo, ClientId};
 const MOST: usize = 1 << 40;
 
 /// The most entries of a node that is called.
-const MOST_COUNTED: u64 = 1 << 59;
+pub(crate) const MOST_COUNTED: u64 = 1 << 59;
 
 impl<D: Disk> SharedNode<D> {
     /// Makes room for two entries more: what is pending, and a new one.
-    fn make_room(&mut self) -> Result<(), AllocError>
+    pub(crate) fn make_room(&mut self) -> Result<(), AllocError>
         ensures node { self.new.node ≡ self.old.node }
         ensures entries { self.new.entries.items ≡ self.old.entries.items }
         ensures pending { self.new.pending ≡ self.old.pending }
@@ -45,7 +45,7 @@ impl<D: Disk> SharedNode<D> {
     }
 
     /// Lists an entry that stands.
-    fn list(&mut self, entry: Entry)
+    pub(crate) fn list(&mut self, entry: Entry)
         requires room { HasRoom 1 self.old.entries }
         ensures node { self.new.node ≡ self.old.node }
         ensures entries { self.new.entries.items ≡ self.old.entries.items ++ entry ∷ [] }
@@ -74,7 +74,7 @@ impl<D: Disk> SharedNode<D> {
     }
 
     /// Opens a closed node again: what was pending stands behind the others, or is lost.
-    fn settle(&mut self, alloc: Global) -> Result<(), StoreError>
+    pub(crate) fn settle(&mut self, alloc: Global) -> Result<(), StoreError>
         requires known { Knows D.seen D.images self.old.node }
         ensures settled { (o : an_opening D)
             → StandsFor D.moment D.left_since D.seen D.images self.old.fails.items o
@@ -114,27 +114,26 @@ impl<D: Disk> SharedNode<D> {
     }
 
     /// How far the disk's count of faults rose above an earlier one; 1 where it stands at its last value.
-    fn rise(&self, before: u64) -> u64
+    pub(crate) fn rise(&self, before: u64) -> u64
         requires { HasRisen before (D.fault_count self.now.node.extents.disk) }
         ensures { IsRise before (D.fault_count self.now.node.extents.disk) result }
     {
         (self.node.faults() - before).max(1)
     }
 
-    /// Closes the node after a fault in a call that began with this count of faults, and leaves this entry pending.
-    fn shut(&mut self, pending: Option<Entry>, before: u64) -> NodeAnswer
+    /// Closes the node after a fault in a call that began with this count of faults, and leaves this entry pending. It
+    /// says how far the count rose.
+    pub(crate) fn shut(&mut self, pending: Option<Entry>, before: u64) -> u64
         requires risen { HasRisen before (D.fault_count self.old.node.extents.disk) }
         ensures closed { self.new.node ≡ record self.old.node { is_closed = true } }
         ensures entries { self.new.entries ≡ self.old.entries }
         ensures pending { self.new.pending ≡ pending }
         ensures fails { self.new.fails ≡ self.old.fails }
-        ensures answer { IsShut before (D.fault_count self.old.node.extents.disk) result }
+        ensures rise { IsRise before (D.fault_count self.old.node.extents.disk) result }
     {
         self.node.is_closed = true;
         self.pending = pending;
-        NodeAnswer::NoReply {
-            faults: self.rise(before),
-        }
+        self.rise(before)
     }
 
     /// Records a call that was foreseen with this reply, in a call that began with this count of faults.
@@ -153,6 +152,7 @@ impl<D: Disk> SharedNode<D> {
         requires entries { self.old.node.ready.state.entries < entry_limit }
         requires room { HasRoom 1 self.old.entries }
         requires began { before ≤ D.fault_count self.old.node.extents.disk }
+        requires client { client < client_limit }
         requires reserved { IsReserved
             (over (held_in node_places (D.seen self.old.node.extents.disk)) self.old.node.ready)
             client no call }
@@ -175,8 +175,6 @@ impl<D: Disk> SharedNode<D> {
             ≤ D.fault_count self.new.node.extents.disk }
         ensures plan { D.armed self.new.node.extents.disk ≡ D.armed self.old.node.extents.disk }
     {
-        // That the number is a client's is known once it was read.
-        let _ = client.number();
         match self.node.enter(alloc, client, no, &call, &reply) {
             Ok(reached) => {
                 self.list(Entry::Numbered {
@@ -195,7 +193,8 @@ impl<D: Disk> SharedNode<D> {
                     call,
                     reply,
                 };
-                self.shut(Some(pending), before)
+                let faults = self.shut(Some(pending), before);
+                NodeAnswer::NoReply { faults }
             }
         }
     }
@@ -229,6 +228,8 @@ impl<D: Disk> SharedNode<D> {
             ≤ D.fault_count self.new.node.extents.disk }
         ensures plan { D.armed self.new.node.extents.disk ≡ D.armed self.old.node.extents.disk }
     {
+        // That the number is a client's is known once it was read.
+        let _ = client.number();
         if self.node.count() >= MOST_COUNTED {
             return NodeAnswer::OutOfMemory;
         }
@@ -237,7 +238,10 @@ impl<D: Disk> SharedNode<D> {
             Ok(Reached::Again(reply)) => NodeAnswer::Reached(Reached::Again(reply)),
             Ok(Reached::Stale { last }) => NodeAnswer::Reached(Reached::Stale { last }),
             Err(StoreError::OutOfMemory) => NodeAnswer::OutOfMemory,
-            Err(StoreError::Failed) => self.shut(None, before),
+            Err(StoreError::Failed) => {
+                let faults = self.shut(None, before);
+                NodeAnswer::NoReply { faults }
+            }
         }
     }
 

@@ -1,10 +1,10 @@
--- The numbers of a plan of faults tell the plan.
+-- The numbers of names and of a plan of faults tell them.
 use Rattle.std.proofs.Common.{◌≡◌, ℕ, List, [], ◌∷◌, refl, sym, ◌∙◌, ap}
 use Rattle.std.specs.Prelude.{slice_index_or}
 use Rattle.disk_core.specs.declared.plan.FailKind.{FailKind}
 use Rattle.disk_core.specs.declared.plan.FaultPlan.{FaultPlan}
 use Rattle.turn_gate.proofs.InOne.{in_one-injective}
-use Rattle.master_gate.specs.Plans.{fail_numbers, kind_number, plan_numbers, stop_numbers}
+use Rattle.plan_numbers.specs.Plans.{fail_numbers, fixed_numbers, kind_number, stop_numbers}
 
 abbrev kind_at : ℕ → FailKind
 kind_at n = slice_index_or (FailKind.Read ∷ FailKind.Write ∷ FailKind.Sync ∷ []) n FailKind.Read
@@ -42,12 +42,13 @@ fails (x ∷ xs) (y ∷ ys) same =
     cc (head, rest)
 fails (x ∷ xs) [] same = absurd (cc same)
 
-pub plans : (p q : FaultPlan) → plan_numbers p ≡ plan_numbers q → p ≡ q
-plans p q same =
-    let lists = in_one-injective (stop_numbers p.stops ∷ fail_numbers p.fails ∷ [])
-    (stop_numbers q.stops ∷ fail_numbers q.fails ∷ []) same in
+pub told : (ms ns : List (List ℕ)) (p q : FaultPlan) → fixed_numbers ms p ≡ fixed_numbers ns q → (ms ≡ ns) × (p ≡ q)
+told ms ns p q same =
+    let lists = in_one-injective (stop_numbers p.stops ∷ fail_numbers p.fails ∷ ms)
+    (stop_numbers q.stops ∷ fail_numbers q.fails ∷ ns) same in
     let first : stop_numbers p.stops ≡ stop_numbers q.stops = cc lists in
     let second : fail_numbers p.fails ≡ fail_numbers q.fails = cc lists in
+    let names : ms ≡ ns = cc lists in
     let s = stops p.stops q.stops first in
     let f = fails p.fails q.fails second in
-    λ i. record { stops = s i; fails = f i }
+    (names, λ i. record { stops = s i; fails = f i })

@@ -5,7 +5,7 @@ use Rattle.turn_gate.specs.Views.{at_rest, published}
 use Rattle.turn_gate.specs.declared.view.Account.{Account}
 use Rattle.campaign_core.specs.declared.events.MasterEvent.{MasterEvent}
 use Rattle.master_gate.specs.Adds.{AddsTo}
-use Rattle.master_gate.specs.Plans.{plan_numbers}
+use Rattle.plan_numbers.specs.Plans.{plan_numbers}
 use Rattle.master_gate.specs.Seats.{opening_of}
 use Rattle.master_gate.specs.Stands.{Knows, StandsFor, account_of, listing_in, tells}
 use Rattle.master_gate.proofs.Becomes.{by_add}

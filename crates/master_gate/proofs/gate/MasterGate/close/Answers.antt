@@ -1,4 +1,4 @@
-use Rattle.master_gate.specs.Plans.{plan_numbers}
+use Rattle.plan_numbers.specs.Plans.{plan_numbers}
 use Rattle.master_gate.specs.Stands.{Knows, StandsFor, account_of}
 use Rattle.master_gate.proofs.Seats.{at_opening, may_leave}
 use Rattle.master_gate.proofs.Stands.{image_of}

@@ -4,6 +4,6 @@ use Rattle.node_gate.proofs.gate.NodeGate.new.Goals as goal
 pub new-requires-2-clause-stands_for : goal.new-requires-2-clause-stands_for
 new-requires-2-clause-stands_for g c =
     let d = g.D.Disk in
-    stands_first d.moment d.left_since d.seen d.images c.args.fails.items c.args.node c.new.result.items
+    stands_first d c.args.fails.items c.args.node c.new.result.items
     c.new.ensures.items c.requires.open c.requires.known
     (λ image left. g.met.D.Disk.only_now c.args.node.extents.disk image left)

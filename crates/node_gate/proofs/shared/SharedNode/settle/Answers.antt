@@ -14,9 +14,8 @@ returns-in_err-revive-clause-stands g c o stands =
     let new = c.revive.new.self in
     let room = c.make_room.ensures in
     let closed : mid.node.is_closed ≡ true = search rules in
-    let on = same_stands d.moment d.left_since d.seen d.images o old.fails.items mid.fails.items old.node mid.node
-    old.entries.items mid.entries.items old.pending mid.pending (ap (λ v. v.items) room.fails) room.node room.entries
-    room.pending stands in
+    let on = same_stands d o old.fails.items old.node old.entries.items old.pending mid
+    (ap (λ v. v.items) room.fails) room.node room.entries room.pending stands in
     stays_shut d.moment d.left_since d.seen d.images mid.fails.items o mid.node new mid.entries.items mid.pending on
     (ap (λ (r : Readied). r.state) c.in_err-revive.ensures.kept) (c.in_err-revive.ensures.closed ∙ closed)
     c.revive.ensures.images c.revive.ensures.any_moment
@@ -31,16 +30,14 @@ returns-in-Stood-clause-stands g c o stands =
     let room = c.make_room.ensures in
     let listed = c.list_pending.ensures in
     let it = c.in_ok-revive.ensures in
-    let on = same_stands d.moment d.left_since d.seen d.images o old.fails.items mid.fails.items old.node mid.node
-    old.entries.items mid.entries.items old.pending mid.pending (ap (λ v. v.items) room.fails) room.node room.entries
-    room.pending stands in
+    let on = same_stands d o old.fails.items old.node old.entries.items old.pending mid
+    (ap (λ v. v.items) room.fails) room.node room.entries room.pending stands in
     let n = node_after d.seen o mid.entries.items in
     let w = with_pending n mid.pending in
     let node = subst (λ (r : Revived). node_on new.ready.state (d.seen new.extents.disk) ≡ ended_in r n w)
     c.in-Stood.is
     (it.ended n w on.images_serve (sym on.count) (counts n mid.pending)) in
-    same_stands d.moment d.left_since d.seen d.images o mid.fails.items end.fails.items new end.node
-    (mid.entries.items ++ pending_list mid.pending) end.entries.items None end.pending
+    same_stands d o mid.fails.items new (mid.entries.items ++ pending_list mid.pending) None end
     (ap (λ v. v.items) listed.fails) listed.node listed.entries listed.pending
     (stood d.moment d.left_since d.seen d.images mid.fails.items o mid.node new mid.entries.items mid.pending on
     it.open
@@ -56,9 +53,8 @@ returns-in-Lost-clause-stands g c o stands =
     let new = c.revive.new.self in
     let room = c.make_room.ensures in
     let it = c.in_ok-revive.ensures in
-    let on = same_stands d.moment d.left_since d.seen d.images o old.fails.items mid.fails.items old.node mid.node
-    old.entries.items mid.entries.items old.pending mid.pending (ap (λ v. v.items) room.fails) room.node room.entries
-    room.pending stands in
+    let on = same_stands d o old.fails.items old.node old.entries.items old.pending mid
+    (ap (λ v. v.items) room.fails) room.node room.entries room.pending stands in
     let n = node_after d.seen o mid.entries.items in
     let w = with_pending n mid.pending in
     let node = subst (λ (r : Revived). node_on new.ready.state (d.seen new.extents.disk) ≡ ended_in r n w)

@@ -1,0 +1,64 @@
+use Rattle.std.proofs.Common.{◌+◌, ◌≤◌, ◌∙◌, ℕ, sym, ap, subst}
+use Rattle.std.specs.Prelude.{IfSome}
+use mathlib.Core.List.{IsPrefix}
+use Rattle.turn_gate.specs.Parts.{MayBecome, at_most_last}
+use Rattle.turn_gate.specs.Views.{at_rest, published}
+use Rattle.pm_types.specs.NodeState.{NodeState}
+use Rattle.node_gate.specs.Calls.{WorksTo}
+use Rattle.node_gate.specs.Seats.{opened_as}
+use Rattle.node_gate.specs.Stands.{account_of, listing_in, tells}
+use Rattle.node_gate.proofs.Becomes.{by_work}
+use Rattle.node_gate.proofs.Machines.{from_opening, known_in}
+use Rattle.node_gate.proofs.Rises.{work-covers}
+use Rattle.node_gate.proofs.Seats.{still_works, turned}
+use Rattle.node_gate.proofs.gate.NodeGate.work.Goals as goal
+
+pub work-answer-requires : goal.work-answer-requires
+work-answer-requires g c = record {
+  known = known_in g.D.Disk c.turn-shared.result c.args.seat.now.view.fixed c.requires.ours.seat.made
+      c.turn-shared.ensures.is_true;
+}
+
+pub publish-requires-clause-goes_on : goal.publish-requires-clause-goes_on
+publish-requires-clause-goes_on g c =
+    let d = g.D.Disk in
+    let old = c.args.seat.now.view in
+    let it = c.turn-shared.result in
+    let later = c.work-answer.new.self in
+    let a = account_of d.fault_count it in
+    let b = account_of d.fault_count later in
+    let rise = c.faults_of_work.result in
+    let answer = c.work-answer.result in
+    let rose : at_most_last (a.faults + rise) ≤ b.faults = subst (λ (n : ℕ). at_most_last (a.faults + n) ≤ b.faults)
+    (sym c.faults_of_work.ensures)
+    (work-covers answer a.faults b.faults c.work-answer.ensures.faults c.work-answer.ensures.carries) in
+    let does = λ (n : NodeState). WorksTo n answer in
+    let done = from_opening d it (λ n. does n (listing_in it) (listing_in later)) old.fixed
+    c.requires.ours.seat.made c.turn-shared.ensures.is_true c.work-answer.ensures.works in
+    subst (λ w. IfSome w.held (λ x. MayBecome tells w.parts x b rise)) (sym c.turn-shared.ensures.turn)
+    (by_work _ a b rise rose (opened_as d.seen old) answer done)
+
+pub returns-clause-worked : goal.returns-clause-worked
+returns-clause-worked g c =
+    let d = g.D.Disk in
+    let old = c.args.seat.now in
+    let it = c.turn-shared.result in
+    let later = c.work-answer.new.self in
+    let b = account_of d.fault_count later in
+    let rise = c.faults_of_work.result in
+    let answer = c.work-answer.result in
+    let does = λ (n : NodeState). WorksTo n answer in
+    let turn = c.turn-shared.ensures in
+    let given = c.give.ensures.given ∙ ap at_rest c.publish.ensures.published
+    ∙ ap (λ v. at_rest (published tells b rise v)) turn.turn in
+    turned old c.give.new.seat (account_of d.fault_count it) b rise
+    (c.give.ensures.same_gate ∙ c.publish.ensures.same_gate ∙ turn.same_gate)
+    given (does (opened_as d.seen old.view)) turn.goes_on
+    (subst (λ v. IsPrefix v.seen b.entries) turn.turn c.publish.ensures.goes_on) turn.own_entries turn.nothing_came
+    (from_opening d it (λ n. does n (listing_in it) (listing_in later)) old.view.fixed
+    c.requires.ours.seat.made turn.is_true c.work-answer.ensures.works)
+
+pub returns-clause-ours : goal.returns-clause-ours
+returns-clause-ours g c =
+    still_works _ c.args.self.now c.args.seat.now c.give.new.seat (returns-clause-worked g c)
+    c.requires.ours
