@@ -1,3 +1,4 @@
+pub mod Arrivals
 pub mod Becomes
 pub mod Calls
 pub mod Entered

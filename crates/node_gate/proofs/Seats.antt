@@ -21,7 +21,7 @@ use Rattle.turn_gate.proofs.Prefixes.{prefix_trans}
 use Rattle.turn_gate.proofs.Sums.{numbers_of-parts_of}
 use Rattle.pm_types.specs.declared.history.Entry.{Entry}
 use Rattle.node_gate.specs.declared.opening.Opening.{Opening}
-use Rattle.node_gate.specs.Seats.{IsClientSeat, IsHandedBack, IsLeft, IsSeat, IsWorkSeat, Turned}
+use Rattle.node_gate.specs.Seats.{IsClientSeat, IsHandedBack, IsLeft, IsPartFound, IsPartLeft, IsSeat, IsWorkSeat, Turned}
 use Rattle.node_gate.specs.Stands.{Listing, StandsFor, listing, tells}
 
 -- where parts fit, what is pending of one of them is its doubt, and isn't among its entries
@@ -69,6 +69,14 @@ module _ {O : Type 0} where
       → numbers_of (with_turn tells found old).parts ≡ numbers_of old.parts
   parts_in old found = numbers_of-parts_of tells found (numbers_of old.parts)
 
+  -- what a turn found of one of them
+  pub part_found : (old : View Entry O) (found : Account Entry) (n : ℕ) → 0 < times n (numbers_of old.parts)
+      → PartsFit tells found old.parts → IsPartFound n old (listing found.entries found.pending)
+  part_found old found n part fits = record {
+    own_is = fits-settles tells found n old.parts part fits;
+    pending_was = pending_was found n old.parts part fits found.pending refl;
+  }
+
   module _ (old new : Known Entry O) (found now : Account Entry) (rise : ℕ) (same : new.gate ≡ old.gate)
       (is : new.view ≡ after_turn old.view found now rise) where
     -- and afterwards
@@ -81,15 +89,20 @@ module _ {O : Type 0} where
     seen_is : new.view.seen ≡ now.entries
     seen_is = ap (λ (v : View Entry O). v.seen) is
 
+    -- what it left of one of them
+    pub part_left : (n : ℕ) → 0 < times n (numbers_of old.view.parts)
+        → IsPartLeft n new.view (listing now.entries now.pending)
+    part_left n part =
+        let ns = numbers_of (with_turn tells found old.view).parts in
+        let has = subst (λ (ms : List ℕ). 0 < times n ms) (sym (parts_in old.view found)) part in
+        let told = turn-tells tells now n ns has in
+        let at = ap (λ (v : View Entry O). v.parts) is in
+        record { mine = ap (mine_of n) at ∙ told.0; doubt = ap (doubt_in n) at ∙ told.1 }
+
     is_left : IsLeft new.view (listing now.entries now.pending)
     is_left = record {
       seen = seen_is;
-      each = λ n part.
-          let ns = numbers_of (with_turn tells found old.view).parts in
-          let has = subst (λ (ms : List ℕ). 0 < times n ms) (parts_after ∙ sym (parts_in old.view found)) part in
-          let told = turn-tells tells now n ns has in
-          let at = ap (λ (v : View Entry O). v.parts) is in
-          record { mine = ap (mine_of n) at ∙ told.0; doubt = ap (doubt_in n) at ∙ told.1 };
+      each = λ n part. part_left n (subst (λ (ms : List ℕ). 0 < times n ms) parts_after part);
     }
 
     -- one turn
@@ -109,10 +122,7 @@ module _ {O : Type 0} where
       left = listing now.entries now.pending;
       is_found = record {
         goes_on = came;
-        each = λ n part. record {
-          own_is = fits-settles tells found n old.view.parts part fits;
-          pending_was = pending_was found n old.view.parts part fits found.pending refl;
-        };
+        each = λ n part. part_found old.view found n part fits;
         alone = alone;
       };
       is_left = is_left;

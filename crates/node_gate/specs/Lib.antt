@@ -1,4 +1,5 @@
 pub mod Calls
+pub mod Clients
 pub mod Laws
 pub mod Room
 pub mod Seats

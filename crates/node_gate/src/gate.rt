@@ -1,13 +1,16 @@
 //! The gate of a node, and its seats.
-ghost use Rattle.std.specs.Prelude.{◌≡◌, ◌+◌, ◌<◌, ◌≤◌, false, [], Some, None, IfOk, IfErr, IfSome, length};
-ghost use Rattle.turn_gate.specs.Parts.{AllDiffer, at_most_last, parts_of};
+ghost use Rattle.std.specs.Prelude.{◌≡◌, ℕ, ◌+◌, ◌<◌, ◌≤◌, false, [], Some, None, IfOk, IfErr, IfSome, length};
+ghost use mathlib.Core.List.{IsPrefix};
+ghost use Rattle.turn_gate.specs.Parts.{AllDiffer, IsAmong, at_most_last, numbers_of, parts_of};
 ghost use Rattle.turn_gate.specs.Seats.{AllRest, AllSawBeginnings, HaveAll, OneSaw, fixed_in, notes_in, one_each, parts_in, rises_in};
 ghost use Rattle.turn_gate.specs.Rule.{NotAbove, NotesFit};
-ghost use Rattle.turn_gate.specs.Views.{account, first_view, fixed_to, noted};
+ghost use Rattle.turn_gate.specs.Views.{account, first_view, fixed_to, joined, left_with, noted, split_off};
 ghost use Rattle.pm_types.specs.NodeState.{status_code};
 ghost use Rattle.node_store.specs.Open.{IsOpen};
 ghost use Rattle.node_gate.specs.Calls.{AsksTo, CallsTo, WorksTo, rise_of, rise_of_ask, rise_of_work};
+ghost use Rattle.client_calls.specs.Arrivals.{MayArrive};
 ghost use Rattle.plan_numbers.specs.Plans.{fixed_numbers};
+ghost use Rattle.node_gate.specs.Clients.{known_of, posted};
 ghost use Rattle.node_gate.specs.Seats.{IsClientSeat, IsHandedBack, IsSeat, IsWorkSeat, ShowsAt, Turned, opened_as};
 ghost use Rattle.node_gate.specs.Stands.{opening, status_code_after, tells};
 
@@ -108,6 +111,10 @@ impl<D: Disk> NodeGate<D> {
         requires ours { IsClientSeat client self.now seat.old }
         ensures ours { IsClientSeat client self.now seat.new }
         ensures called { Turned (CallsTo (opened_as D.seen seat.old.view) client no call result) seat.old seat.new }
+
+        // Of what its client knows it makes what the arrival of one message may make.
+        ensures arrives { MayArrive (posted no call)
+            (known_of client seat.old.view) (known_of client seat.new.view) }
         ensures rises { seat.new.view.rises ≡ seat.old.view.rises + rise_of result }
     {
         let mut shared = self.gate.turn(rt, seat);
@@ -158,12 +165,43 @@ impl<D: Disk> NodeGate<D> {
         requires ours { IsSeat self.now seat.old }
         ensures same_gate { seat.new.gate ≡ seat.old.gate }
         ensures noted { seat.new.view ≡ noted result.0 (status_code result.1) seat.old.view }
+        ensures calls_still { (client : ℕ)
+            → IsClientSeat client self.now seat.old → IsClientSeat client self.now seat.new }
+        ensures works_still { IsWorkSeat self.now seat.old → IsWorkSeat self.now seat.new }
         ensures not_before_seen { length seat.old.view.seen ≤ result.0 }
         ensures not_before_polled { NotAbove result.0 seat.old.view.notes }
         ensures shows { ShowsAt D.seen seat.old.view result.0 result.1 }
     {
         let (place, code) = self.gate.poll(seat);
         (place, Status::of_code(code))
+    }
+
+    /// A new seat, which has seen what this one has, and takes the named client's part from it.
+    pub fn split(&self, seat: &mut NodeSeat<D>, client: Option<ClientId>) -> NodeSeat<D>
+        requires ours { IsSeat self.now seat.old }
+        requires its_part { IsAmong client (numbers_of seat.old.view.parts) }
+        ensures ours { IsSeat self.now seat.new }
+        ensures new_ours { IsSeat self.now result }
+        ensures left { seat.new.view ≡ left_with client seat.old.view }
+        ensures moved { result.view ≡ split_off client seat.old.view }
+    {
+        let part = match client {
+            Some(client) => Some(client.number()),
+            None => None,
+        };
+        self.gate.split(seat, part)
+    }
+
+    /// Two seats are made one, which has seen what either had. It has the parts, the polls and the rises of both.
+    pub fn join(&self, seat: &mut NodeSeat<D>, other: NodeSeat<D>)
+        requires ours { IsSeat self.now seat.old }
+        requires other_ours { IsSeat self.now other }
+        ensures ours { IsSeat self.now seat.new }
+        ensures both { seat.new.view ≡ joined seat.old.view other.view }
+        ensures goes_on { IsPrefix seat.old.view.seen seat.new.view.seen }
+        ensures has_seen { IsPrefix other.view.seen seat.new.view.seen }
+    {
+        self.gate.join(seat, other);
     }
 
     /// Ends the gate, by seats that together have all its clients, and hands back the node and its entries since the
